@@ -84,11 +84,15 @@ module _ {A : Type 0} (name : A → List ℕ) where
   spelled_at : (xs : List A) (k : ℕ) → AreNames (map name xs) → k < length xs → IsName (option_map_or name (slice_get xs k) [])
   spelled_at xs k are within = rw (name_listed xs k) (are.spelled k (rw length-map within))
 
-  listed_again : (xs : List A) (k : ℕ) → AreNames (map name xs) → k < length xs → number_of_name (map name xs) (option_map_or name (slice_get xs k) []) ≡ Ok k
+  listed_again : (xs : List A) (k : ℕ) → AreNames (map name xs) → k < length xs
+      → number_of_name (map name xs) (option_map_or name (slice_get xs k) []) ≡ Ok k
   listed_again xs k are within = rw (name_listed xs k) (name_again (map name xs) k are (rw length-map within))
 
-  listed_back : (xs : List A) (word : List ℕ) (k : ℕ) → number_of_name (map name xs) word ≡ Ok k → (k < length xs) × (option_map_or name (slice_get xs k) [] ≡ word)
-  listed_back xs word k e = let name_is = name_back (map name xs) word k e in (rw length-map at name_is.within, name_listed xs k ∙ name_is.is)
+  listed_back : (xs : List A) (word : List ℕ) (k : ℕ)
+      → number_of_name (map name xs) word ≡ Ok k → (k < length xs) × (option_map_or name (slice_get xs k) [] ≡ word)
+  listed_back xs word k e =
+      let name_is = name_back (map name xs) word k e in
+      (rw length-map at name_is.within, name_listed xs k ∙ name_is.is)
 
 -- ---- in a cell
 
@@ -111,8 +115,10 @@ module _ (cell : Cell) (fits : CellFits cell) where
   pub type_again : (k : ℕ) → k < length cell.types → number_of_name (type_names cell.types) (type_name cell k) ≡ Ok k
   type_again k within = listed_again (λ (t : JobType). t.name) cell.types k types_are within
 
-pub resource_back : (cell : Cell) (word : List ℕ) (k : ℕ) → number_of_name (resource_names cell.resources) word ≡ Ok k → (k < length cell.resources) × (resource_name cell k ≡ word)
+pub resource_back : (cell : Cell) (word : List ℕ) (k : ℕ)
+    → number_of_name (resource_names cell.resources) word ≡ Ok k → (k < length cell.resources) × (resource_name cell k ≡ word)
 resource_back cell word k e = listed_back (λ (r : Resource). r.name) cell.resources word k e
 
-pub type_back : (cell : Cell) (word : List ℕ) (k : ℕ) → number_of_name (type_names cell.types) word ≡ Ok k → (k < length cell.types) × (type_name cell k ≡ word)
+pub type_back : (cell : Cell) (word : List ℕ) (k : ℕ)
+    → number_of_name (type_names cell.types) word ≡ Ok k → (k < length cell.types) × (type_name cell k ≡ word)
 type_back cell word k e = listed_back (λ (t : JobType). t.name) cell.types word k e

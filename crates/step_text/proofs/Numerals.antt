@@ -26,7 +26,8 @@ plain n small = elim (cases_lt 0 n) [ inl more ↦ plain_more n more small | inr
 is_decimal_again : (n : ℕ) → n < 2 ^ 64 → is_decimal (decimal n) ≡ true
 is_decimal_again n small =
     let numeral = decimal_is_IsNumeral n small in
-    rw (le-leb 1 (length (decimal n)) (omega (arith, numeral.0.0)), sym (digits_listed (decimal n)) ∙ own.from (decimal n) numeral.0.1, plain n small) refl
+    let digits = sym (digits_listed (decimal n)) ∙ own.from (decimal n) numeral.0.1 in
+    rw (le-leb 1 (length (decimal n)) (omega (arith, numeral.0.0)), digits, plain n small) refl
 
 pub number_again : (low high n : ℕ) → low ≤ n → n ≤ high → n < 2 ^ 64 → number_of low high (decimal n) ≡ Some n
 unfolding number_of
