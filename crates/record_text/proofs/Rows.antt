@@ -56,6 +56,9 @@ move branch = Move (record { 0 = 7 }) branch
 abbrev unload : Request
 unload = Unload (record { 0 = 7 })
 
+abbrev waiting : Request
+waiting = Place (record { 0 = 7 }) (record { 0 = 0 }) 1 false
+
 abbrev granted : Told
 granted = Answered Granted
 
@@ -86,7 +89,7 @@ unfolding digits
 branch_record = refl
 
 -- a part that is placed and waits for its work
-placed_record : text_of_record branching [] 0 0 (entry 0 (Place (record { 0 = 7 }) (record { 0 = 0 }) 1 false) granted ∷ []) (process 1 ∷ unload ∷ [])
+placed_record : text_of_record branching [] 0 0 (entry 0 waiting granted ∷ []) (process 1 ∷ unload ∷ [])
     ≡ text
     (codes "shift 0 after 0"
     ∷ codes "0 place 7 B 1 waiting granted"

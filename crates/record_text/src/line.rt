@@ -62,7 +62,7 @@ impl Line {
         self.append(word);
     }
 
-    /// Appends a space and a number, in decimal digits: at most 3 of a `u8`, 5 of a `u16`, 10 of a `u32`, 20 of a `u64`.
+    /// Appends a space and a number in decimal digits: at most 5 of a `u16`, 10 of a `u32`, 20 of a `u64`.
     pub fn number<N: Integer>(&mut self, n: N)
         requires { length self.old + 1 + N.MAX_STR_LEN ≤ LINE_BYTES }
         ensures bytes { self.new ≡ self.old ++ 32 ∷ N.text n }
