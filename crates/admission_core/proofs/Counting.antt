@@ -36,15 +36,16 @@ module _ (cell : Cell) (next : List Part) where
       ∙ ap Some (zero-add r)
 
 -- how many parts a neighborhood holds where a part comes in the place of its job's present one
-pub count_in_place : (cell : Cell) (parts : List Part) (part : Part) (r : ℕ)
-    → count cell (without parts part.job ++ part ∷ []) r ≡
-    length (filter (λ other. not (is_of_job part.job other) && leads cell (stage_of other) r) parts) + cond
-    (leads cell (stage_of part) r) 1 0
-count_in_place cell parts part r =
-    rw (filter-append, length-append, filter-filter)
-    (ap (λ n. length (filter (λ other. not (is_of_job part.job other) && leads cell (stage_of other) r) parts) + n)
-    (one (leads cell (stage_of part) r)))
-  where
-    one : (b : Bool) → length (cond b (part ∷ []) []) ≡ cond b 1 0
-    one true = refl
-    one false = refl
+module _ (cell : Cell) (parts : List Part) (part : Part) (r : ℕ) where
+  abbrev is_other : Part → Bool
+  is_other other = not (is_of_job part.job other) && leads cell (stage_of other) r
+
+  pub count_in_place : count cell (without parts part.job ++ part ∷ []) r ≡
+  length (filter is_other parts) + cond (leads cell (stage_of part) r) 1 0
+  count_in_place =
+      rw (filter-append, length-append, filter-filter)
+      (ap (λ n. length (filter is_other parts) + n) (one (leads cell (stage_of part) r)))
+    where
+      one : (b : Bool) → length (cond b (part ∷ []) []) ≡ cond b 1 0
+      one true = refl
+      one false = refl

@@ -77,7 +77,7 @@ fn leads_at(cell: &Cell, r: ResId, kind: TypeId, place: u16, row: &[bool; PLACES
     ensures { result ≡ leads cell.now (stage kind.0 place) r.0 }
 {
     let on = cell.resource_at(kind, place);
-    on.0 == r.0
+    on == r
         || (cell.order_of(on) <= cell.order_of(r) && leads_on(cell.next_places(kind, place), row))
 }
 

@@ -5,7 +5,7 @@ use Rattle.cell_base.specs.Outcomes.{part_of, without, arrival}
 use Rattle.cell_base.specs.Fits.{units_of}
 use Rattle.policy_laws.proofs.Lists.{All-found}
 use Rattle.admission_core.proofs.Room.{room_for}
-use Rattle.admission_core.proofs.Granting.{within_where_goes}
+use Rattle.admission_core.proofs.Granting.{move-granted}
 use Rattle.admission_core.proofs.changes.go_on.Goals as goal
 
 pub next_place-requires : goal.next_place-requires
@@ -24,7 +24,7 @@ push_reserved-requires c =
     ap (λ others. part_of others c.args.job) (sym c.deref.ensures.value) ∙ sym c.part_of.ensures ∙ c.in-Some.is in
     let room : length (without parts c.in-Some.part.job) < units_of cell.resources =
     room_for cell c.requires.sound.fits parts next c.requires.sound.admitted c.in-Some-next_place.ensures.within
-    (within_where_goes cell parts c.args.job c.args.branch c.in-Some.part
+    (move-granted cell parts c.args.job c.args.branch c.in-Some.part
     (record { kind = c.in-Some.part.kind.0; place = c.in-Some-next_place.place }) c.requires.granted found
     (sym c.in-Some-next_place.ensures.successor)) in
     omega (arith, c.take_out.new.parts.ok.0, ap length c.take_out.ensures.items, c.take_out.ensures.room, c.requires.sound.enough)
