@@ -1,3 +1,4 @@
+-- An unload that is granted takes out the part.
 use Rattle.std.proofs.Common.{sym, ◌∙◌}
 use Rattle.admission_core.proofs.Granting.{unload-granted}
 use Rattle.admission_core.proofs.changes.apply.Goals as goal

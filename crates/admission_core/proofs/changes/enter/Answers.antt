@@ -1,3 +1,4 @@
+-- There is room for a part that is granted to enter.
 use Rattle.std.proofs.Common.{arith, ◌<◌, length}
 use Rattle.cell_base.specs.Fits.{units_of}
 use Rattle.admission_core.proofs.Granting.{entry-granted, without-absent}

@@ -1,3 +1,4 @@
+-- A part of the state stands at a stage, and there is room for it where it goes.
 use Rattle.std.proofs.Common.{◌≡◌, ◌<◌, Some, length, arith, ap, sym, ◌∙◌}
 use Rattle.cell_base.specs.Stages.{IsStage, stage_of}
 use Rattle.cell_base.specs.Policy.{is_of_job}

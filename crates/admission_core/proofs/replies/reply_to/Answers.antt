@@ -1,3 +1,4 @@
+-- A part of the state stands at a stage.
 use Rattle.std.proofs.Common.{sym, ◌∙◌}
 use Rattle.cell_base.specs.Stages.{IsStage, stage_of}
 use Rattle.cell_base.specs.Policy.{is_of_job}

@@ -1,3 +1,4 @@
+-- Without a job that is not there the parts are the same.
 use Rattle.std.proofs.Common.{◌≡◌, false, ◌++◌, ◌∷◌, [], ap, sym, ◌∙◌}
 use Rattle.cell_base.specs.Policy.{is_loaded}
 use Rattle.cell_base.specs.Outcomes.{admit}

@@ -1,3 +1,4 @@
+-- The tests before the last one did not refuse.
 use Rattle.std.proofs.Common.{◌≡◌, false, not, rules, sym, ◌∙◌}
 use Rattle.cell_base.specs.Stages.{is_last, stage_of}
 use Rattle.admission_core.proofs.replies.reply_to_move.Goals as goal
