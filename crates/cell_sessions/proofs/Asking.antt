@@ -19,7 +19,8 @@ use Rattle.cell_base.specs.Rounds.{Precedes, turns_behind, IsSession}
 use Rattle.cell_sessions.specs.Underway.{progress_at, HasEndedAt, IsAt, IsUnderway}
 use Rattle.cell_sessions.proofs.Traces.{answered, entries_of-push, entries_of-other, holds_halt-push, holds_halt-entries_of, progress_behind-push, IsTrace-push, after-push, IsLegal-push, turns_behind-push}
 use Rattle.cell_sessions.proofs.Turns.{later_turn, had_turn}
-use Rattle.cell_sessions.proofs.Counting.{GoesOn, script_at, patient}
+use Rattle.cell_sessions.proofs.Counting.{script_at}
+use Rattle.cell_sessions.proofs.Going.{GoesOn, patient}
 
 module _ (shift : Shift) (cell : Cell) (start now : List Part) (history : List Entry)
     (progress : List Progress) (turn done : ℕ) where
