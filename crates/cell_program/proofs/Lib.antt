@@ -1,0 +1,6 @@
+mod Cuts
+mod Delivered
+mod Fitted
+mod Wording
+mod Owed
+mod Statuses

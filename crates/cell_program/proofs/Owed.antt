@@ -1,0 +1,56 @@
+-- How the outcomes of `solo` come about.
+use Rattle.std.proofs.Common.{◌≡◌, ℕ, List, length, Option, Ok, refl, ap, ◌∙◌}
+use Rattle.outside_io.specs.Causes.{Rose}
+use Rattle.outside_io.specs.Files.{Names}
+use Rattle.cell_base.specs.declared.cells.Cell.{Cell}
+use Rattle.cell_base.specs.declared.requests.Part.{Part}
+use Rattle.cell_base.specs.declared.shifts.Shift.{Shift}
+use Rattle.cell_file.specs.Walk.{cell_of}
+use Rattle.shift_file.specs.Walk.{shift_of}
+use Rattle.cell_program.specs.CellEnds.{cell_end}
+use Rattle.cell_program.specs.ShiftEnds.{shift_end}
+use Rattle.cell_program.specs.Commands.{AfterFile, FileFailed, FileRefused, FileRead, OwesSolo}
+use Rattle.cell_program.specs.Ends.{MayCome, IsOwed, MemoryWanted}
+use Rattle.cell_program.specs.Reading.{IsUnread, ByFault, ByMemory, EndsEarly, Unread, Refused}
+use Rattle.cell_program.specs.Runs.{IsSoloRun, IsSoloText, record_of, text_of_run}
+use Rattle.cell_program.specs.Texts.{done, early_outcome}
+use Rattle.cell_program.specs.Told.{IsMadeOfFile}
+use Rattle.cell_program.specs.declared.early.Early.{Early}
+use Rattle.cell_program.specs.declared.early.Early.TheVariants.{Memory}
+use Rattle.cell_program.specs.declared.solo.SoloRun.{SoloRun}
+
+-- the text of a run is that of its shift
+pub solo_text : (cell : Cell) (shift : Shift) (run : SoloRun) → IsSoloRun cell shift run → IsSoloText cell shift (text_of_run run)
+solo_text cell shift run is = record {
+  history = run.history.items;
+  rounds = is.rounds;
+  printed =
+      ap (λ (c : Cell). record_of c run.number run.history.items (length run.core.parts)) is.on
+      ∙ ap (λ (n : ℕ). record_of cell n run.history.items (length run.core.parts)) is.numbered
+      ∙ ap (λ (parts : List Part). record_of cell shift.number run.history.items (length parts)) is.left;
+}
+
+module _ (names : Option Names) (faults faults_after : ℕ) (cell_name shift_name : List ℕ) where
+  -- the cell was not read
+  pub ends_at_cell : (early : Early) → EndsEarly names cell_name cell_of cell_end faults faults_after early
+      → MayCome (OwesSolo names faults faults_after cell_name shift_name) (early_outcome early)
+  unfolding OwesSolo
+  ends_at_cell early (Unread (ByFault is rose)) = IsOwed (FileFailed (ap early_outcome is) rose)
+  ends_at_cell early (Unread (ByMemory is)) = MemoryWanted (ap early_outcome is)
+  ends_at_cell early (Refused fault made is) = IsOwed (FileRefused fault made (ap early_outcome is))
+
+  module _ (cell : Cell) (made : IsMadeOfFile names cell_name cell_of (Ok cell)) where
+    -- the cell was read, and the shift was not
+    pub ends_at_shift : (early : Early) → EndsEarly names shift_name (shift_of cell) shift_end faults faults_after early
+        → MayCome (OwesSolo names faults faults_after cell_name shift_name) (early_outcome early)
+    unfolding OwesSolo
+    ends_at_shift early (Unread (ByFault is rose)) = IsOwed (FileRead cell made (FileFailed (ap early_outcome is) rose))
+    ends_at_shift early (Unread (ByMemory is)) = MemoryWanted (ap early_outcome is)
+    ends_at_shift early (Refused fault refused is) =
+        IsOwed (FileRead cell made (FileRefused fault refused (ap early_outcome is)))
+
+    -- both were read, and the shift ran
+    pub ends_done : (shift : Shift) (run : SoloRun) → IsMadeOfFile names shift_name (shift_of cell) (Ok shift)
+        → IsSoloRun cell shift run → OwesSolo names faults faults_after cell_name shift_name (done (text_of_run run))
+    unfolding OwesSolo
+    ends_done shift run read is = FileRead cell made (FileRead shift read (text_of_run run, solo_text cell shift run is, refl))

@@ -1,0 +1,213 @@
+-- What the status of an end tells, by cases of how its outcome came about.
+use Rattle.std.proofs.Common.{◌≡◌, ◌⊎◌, inl, inr, ℕ, List, Ok, Err, sym, ◌∙◌, ap, subst, refl, arith}
+use Rattle.std.specs.Io.KnownBytes.{Appends}
+use Rattle.outside_io.specs.Causes.{Rose}
+use Rattle.cell_base.specs.declared.cells.Cell.{Cell}
+use Rattle.cell_base.specs.declared.shifts.Shift.{Shift}
+use Rattle.cell_file.specs.declared.faults.CellFault.{CellFault}
+use Rattle.cell_file.specs.declared.faults.CellFault.TheVariants.{NotToml, WrongKey, WrongKind, BadName, BadNumber, Repeated, UnknownName, TooMany, Empty, MixedOrders, TooManyUnits, Memory}
+use Rattle.shift_file.specs.declared.faults.ShiftFault.{ShiftFault}
+use Rattle.shift_file.specs.declared.faults.ShiftFault.TheVariants.{NotToml as ShiftNotToml, WrongKey as ShiftWrongKey, WrongKind as ShiftWrongKind, BadStep, BadNumber as ShiftBadNumber, UnknownName as ShiftUnknownName, Empty as ShiftEmpty, TooMany as ShiftTooMany, TooLong, TooManyAsks, Memory as ShiftMemory}
+use Rattle.cell_file.specs.Walk.{cell_of}
+use Rattle.shift_file.specs.Walk.{shift_of}
+use Rattle.cell_program.specs.CellEnds.{cell_end}
+use Rattle.cell_program.specs.ShiftEnds.{shift_end}
+use Rattle.cell_program.specs.Commands.{Task, Nothing, Solo, Comes, OwesSolo, FileFailed, FileRefused, FileRead, IsAccepted, IsCellRefused, IsPrinted, IsShiftRefused}
+use Rattle.cell_program.specs.Ends.{MayCome, IsOwed, MemoryWanted, Whole, SinkFailed, Ends}
+use Rattle.cell_program.specs.Runs.{IsSoloText}
+use Rattle.cell_program.specs.Texts.{Outcome, early_outcome}
+use Rattle.cell_program.specs.Told.{Told, IsMadeOfFile}
+
+-- what each status of an outcome tells
+record Tells (told : Told) (task : Task) (outcome : Outcome) : Type 0 where
+  pub done : outcome.status ≡ 0 → Appends told.taken told.taken_after outcome.text → IsPrinted told task
+  pub none : outcome.status ≡ 2 → task ≡ Nothing
+  pub unread : outcome.status ≡ 3 → Rose told.file_faults told.file_faults_after
+  pub cell : outcome.status ≡ 4 → IsCellRefused told task
+  pub shift : outcome.status ≡ 5 → IsShiftRefused told task
+  pub never : outcome.status ≡ 8 → ⊥
+  pub complete : IsAccepted told task → (outcome.status ≡ 3 → ⊥) → (outcome.status ≡ 0) ⊎ (outcome.status ≡ 9)
+
+-- a fault of a file has its status, and want of memory its own
+cell_status : (fault : CellFault) → ((early_outcome (cell_end fault)).status ≡ 4) ⊎ ((early_outcome (cell_end fault)).status ≡ 9)
+cell_status NotToml = inl refl
+cell_status (WrongKey place) = inl refl
+cell_status (WrongKind place) = inl refl
+cell_status (BadName place) = inl refl
+cell_status (BadNumber place) = inl refl
+cell_status (Repeated place) = inl refl
+cell_status (UnknownName place) = inl refl
+cell_status (TooMany place count) = inl refl
+cell_status (Empty place) = inl refl
+cell_status MixedOrders = inl refl
+cell_status (TooManyUnits count) = inl refl
+cell_status Memory = inr refl
+
+shift_status : (fault : ShiftFault) → ((early_outcome (shift_end fault)).status ≡ 5) ⊎ ((early_outcome (shift_end fault)).status ≡ 9)
+shift_status ShiftNotToml = inl refl
+shift_status (ShiftWrongKey place) = inl refl
+shift_status (ShiftWrongKind place) = inl refl
+shift_status (BadStep place) = inl refl
+shift_status (ShiftBadNumber place) = inl refl
+shift_status (ShiftUnknownName place) = inl refl
+shift_status (ShiftEmpty place) = inl refl
+shift_status (ShiftTooMany place count) = inl refl
+shift_status (TooLong count) = inl refl
+shift_status (TooManyAsks count) = inl refl
+shift_status ShiftMemory = inr refl
+
+module _ (told : Told) (task : Task) (outcome : Outcome) where
+  -- want of memory, and a file that was not read
+  starved : outcome.status ≡ 9 → Tells told task outcome
+  starved at = record {
+    done = λ is taken. absurd (omega (arith, at, is));
+    none = λ is. absurd (omega (arith, at, is));
+    unread = λ is. absurd (omega (arith, at, is));
+    cell = λ is. absurd (omega (arith, at, is));
+    shift = λ is. absurd (omega (arith, at, is));
+    never = λ is. omega (arith, at, is);
+    complete = λ accepted read. inr at;
+  }
+
+  unread : outcome.status ≡ 3 → Rose told.file_faults told.file_faults_after → Tells told task outcome
+  unread at rose = record {
+    done = λ is taken. absurd (omega (arith, at, is));
+    none = λ is. absurd (omega (arith, at, is));
+    unread = λ is. rose;
+    cell = λ is. absurd (omega (arith, at, is));
+    shift = λ is. absurd (omega (arith, at, is));
+    never = λ is. omega (arith, at, is);
+    complete = λ accepted read. absurd (read at);
+  }
+
+  -- a refused file
+  cell_refused : (outcome.status ≡ 4) ⊎ (outcome.status ≡ 9) → IsCellRefused told task → (IsAccepted told task → ⊥) → Tells told task outcome
+  cell_refused (inr at) refused unaccepted = starved at
+  cell_refused (inl at) refused unaccepted = record {
+    done = λ is taken. absurd (omega (arith, at, is));
+    none = λ is. absurd (omega (arith, at, is));
+    unread = λ is. absurd (omega (arith, at, is));
+    cell = λ is. refused;
+    shift = λ is. absurd (omega (arith, at, is));
+    never = λ is. omega (arith, at, is);
+    complete = λ accepted read. absurd (unaccepted accepted);
+  }
+
+  shift_refused : (outcome.status ≡ 5) ⊎ (outcome.status ≡ 9) → IsShiftRefused told task → (IsAccepted told task → ⊥) → Tells told task outcome
+  shift_refused (inr at) refused unaccepted = starved at
+  shift_refused (inl at) refused unaccepted = record {
+    done = λ is taken. absurd (omega (arith, at, is));
+    none = λ is. absurd (omega (arith, at, is));
+    unread = λ is. absurd (omega (arith, at, is));
+    cell = λ is. absurd (omega (arith, at, is));
+    shift = λ is. refused;
+    never = λ is. omega (arith, at, is);
+    complete = λ accepted read. absurd (unaccepted accepted);
+  }
+
+  printed : outcome.status ≡ 0 → (Appends told.taken told.taken_after outcome.text → IsPrinted told task) → Tells told task outcome
+  printed at prints = record {
+    done = λ is taken. prints taken;
+    none = λ is. absurd (omega (arith, at, is));
+    unread = λ is. absurd (omega (arith, at, is));
+    cell = λ is. absurd (omega (arith, at, is));
+    shift = λ is. absurd (omega (arith, at, is));
+    never = λ is. omega (arith, at, is);
+    complete = λ accepted read. inl at;
+  }
+
+  no_command : outcome.status ≡ 2 → task ≡ Nothing → (IsAccepted told task → ⊥) → Tells told task outcome
+  no_command at is_none unaccepted = record {
+    done = λ is taken. absurd (omega (arith, at, is));
+    none = λ is. is_none;
+    unread = λ is. absurd (omega (arith, at, is));
+    cell = λ is. absurd (omega (arith, at, is));
+    shift = λ is. absurd (omega (arith, at, is));
+    never = λ is. omega (arith, at, is);
+    complete = λ accepted read. absurd (unaccepted accepted);
+  }
+
+status_of : {a b : Outcome} → a ≡ b → a.status ≡ b.status
+status_of is = ap (λ (o : Outcome). o.status) is
+
+-- the status of an outcome that is one of these two
+one_of : {a b : Outcome} (m n : ℕ) → a ≡ b → (b.status ≡ m) ⊎ (b.status ≡ n) → (a.status ≡ m) ⊎ (a.status ≡ n)
+one_of m n is (inl at) = inl (status_of is ∙ at)
+one_of m n is (inr at) = inr (status_of is ∙ at)
+
+comes_tells : (told : Told) (task : Task) (outcome : Outcome) → Comes told task outcome → Tells told task outcome
+unfolding OwesSolo
+comes_tells told Nothing outcome is = no_command told Nothing outcome (status_of is) refl (λ none. none)
+comes_tells told (Solo cell shift) outcome (MemoryWanted is) = starved told (Solo cell shift) outcome (status_of is)
+comes_tells told (Solo cell shift) outcome (IsOwed (FileFailed is rose)) = unread told (Solo cell shift) outcome (status_of is) rose
+comes_tells told (Solo cell shift) outcome (IsOwed (FileRefused fault made is)) =
+    cell_refused told (Solo cell shift) outcome (one_of 4 9 is (cell_status fault)) (fault, made) (λ accepted. accepted.0 fault made)
+comes_tells told (Solo cell shift) outcome (IsOwed (FileRead c made (FileFailed is rose))) =
+    unread told (Solo cell shift) outcome (status_of is) rose
+comes_tells told (Solo cell shift) outcome (IsOwed (FileRead c made (FileRefused fault refused is))) =
+    shift_refused told (Solo cell shift) outcome (one_of 5 9 is (shift_status fault)) (c, made, (fault, refused))
+    (λ accepted. accepted.1 c made fault refused)
+comes_tells told (Solo cell shift) outcome (IsOwed (FileRead c made (FileRead s read solo))) =
+    printed told (Solo cell shift) outcome (status_of solo.2)
+    (λ taken. (c, made, (s, read, (solo.0, solo.1, subst (Appends told.taken told.taken_after) (ap (λ (o : Outcome). o.text) solo.2) taken))))
+
+module _ (told : Told) (task : Task) (status : ℕ) (ends : Ends (Comes told task) told status) where
+  tells : Tells told task ends.outcome
+  tells = comes_tells told task ends.outcome ends.comes
+
+  pub ends_done : status ≡ 0 → IsPrinted told task
+  ends_done is = elim ends.delivered [
+    | Whole same taken kept ↦ tells.done (sym same ∙ is) taken
+    | SinkFailed eight taken rose ↦ absurd (omega (arith, eight, is))
+  ]
+
+  pub ends_no_command : status ≡ 2 → task ≡ Nothing
+  ends_no_command is = elim ends.delivered [
+    | Whole same taken kept ↦ tells.none (sym same ∙ is)
+    | SinkFailed eight taken rose ↦ absurd (omega (arith, eight, is))
+  ]
+
+  pub ends_read_fault : status ≡ 3 → Rose told.file_faults told.file_faults_after
+  ends_read_fault is = elim ends.delivered [
+    | Whole same taken kept ↦ tells.unread (sym same ∙ is)
+    | SinkFailed eight taken rose ↦ absurd (omega (arith, eight, is))
+  ]
+
+  pub ends_cell_refused : status ≡ 4 → IsCellRefused told task
+  ends_cell_refused is = elim ends.delivered [
+    | Whole same taken kept ↦ tells.cell (sym same ∙ is)
+    | SinkFailed eight taken rose ↦ absurd (omega (arith, eight, is))
+  ]
+
+  pub ends_shift_refused : status ≡ 5 → IsShiftRefused told task
+  ends_shift_refused is = elim ends.delivered [
+    | Whole same taken kept ↦ tells.shift (sym same ∙ is)
+    | SinkFailed eight taken rose ↦ absurd (omega (arith, eight, is))
+  ]
+
+  pub ends_sink_fault : status ≡ 8 → Rose told.sink_faults told.sink_faults_after
+  ends_sink_fault is = elim ends.delivered [
+    | Whole same taken kept ↦ absurd (tells.never (sym same ∙ is))
+    | SinkFailed eight taken rose ↦ rose
+  ]
+
+  -- nothing is refused, and nothing outside fails
+  pub ends_complete : IsAccepted told task → (status ≡ 3 → ⊥) → (Rose told.sink_faults told.sink_faults_after → ⊥)
+      → (status ≡ 0) ⊎ (status ≡ 9)
+  ends_complete accepted read sink = elim ends.delivered [
+    | Whole same taken kept ↦ along same (tells.complete accepted (λ is. read (same ∙ is)))
+    | SinkFailed eight taken rose ↦ absurd (sink rose)
+  ]
+    where
+      along : status ≡ ends.outcome.status → (ends.outcome.status ≡ 0) ⊎ (ends.outcome.status ≡ 9) → (status ≡ 0) ⊎ (status ≡ 9)
+      along same (inl at) = inl (same ∙ at)
+      along same (inr at) = inr (same ∙ at)
+
+-- words that are no command give the usage line, unless the sink fails
+pub usage_ends : (told : Told) (task : Task) (status : ℕ) → Ends (Comes told task) told status → task ≡ Nothing
+    → (status ≡ 2) ⊎ (status ≡ 8)
+usage_ends told (Solo cell shift) status ends is = absurd (cc)
+usage_ends told Nothing status ends is = elim ends.delivered [
+  | Whole same taken kept ↦ inl (same ∙ status_of ends.comes)
+  | SinkFailed eight taken rose ↦ inr eight
+]

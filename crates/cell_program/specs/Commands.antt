@@ -1,0 +1,98 @@
+-- What each command owes, its tests in their order, and what its end tells.
+use Rattle.std.specs.Prelude.{◌≡◌, ℕ, List, [], ◌∷◌, Option, codes, if◌then◌else◌, Result, Ok, Err, ⊤}
+use Rattle.std.specs.Str.{bytes_eq}
+use Rattle.std.specs.Io.KnownBytes.{Appends}
+use Rattle.outside_io.specs.Causes.{Rose}
+use Rattle.outside_io.specs.Files.{Names, IsThere}
+use Rattle.cell_base.specs.declared.cells.Cell.{Cell}
+use Rattle.cell_base.specs.declared.shifts.Shift.{Shift}
+use Rattle.cell_file.specs.Walk.{cell_of}
+use Rattle.cell_file.specs.declared.faults.CellFault.{CellFault}
+use Rattle.shift_file.specs.Walk.{shift_of}
+use Rattle.shift_file.specs.declared.faults.ShiftFault.{ShiftFault}
+use Rattle.cell_program.specs.CellEnds.{cell_end}
+use Rattle.cell_program.specs.ShiftEnds.{shift_end}
+use Rattle.cell_program.specs.Ends.{MayCome}
+use Rattle.cell_program.specs.Runs.{IsSoloText}
+use Rattle.cell_program.specs.Texts.{Outcome, done, usage, early_outcome}
+use Rattle.cell_program.specs.Told.{Told, IsMadeOfFile}
+use Rattle.cell_program.specs.declared.early.Early.{Early}
+use Rattle.cell_program.specs.declared.early.Early.TheVariants.{ReadFault}
+
+-- what the words ask for
+pub data Task : Type 0 where
+  Nothing : Task
+  Solo : (cell shift : List ℕ) → Task
+
+-- the command that the words are: their number and the first of them decide
+abbrev pub task_of : List (List ℕ) → Task
+task_of (verb ∷ cell ∷ shift ∷ []) = if bytes_eq verb (codes "solo") then Solo cell shift else Nothing
+task_of words = Nothing
+
+-- the names of the files that a command reads
+abbrev pub files_of : Task → List (List ℕ)
+files_of Nothing = []
+files_of (Solo cell shift) = cell ∷ shift ∷ []
+
+-- each of these is there
+abbrev pub AreThere : Option Names → List (List ℕ) → Type 0
+AreThere names [] = ⊤
+AreThere names (name ∷ rest) = IsThere names name × AreThere names rest
+
+-- ---- what is owed
+
+-- a file is read in its turn: the reading failed, or what is made of the file is a fault, at which the program ends, or a
+-- value, of which this follows
+pub data AfterFile {V E : Type 0} (names : Option Names) (faults faults_after : ℕ) (name : List ℕ) (make : List ℕ → Result V E)
+    (end : E → Early) (follows : V → Type 0) (outcome : Outcome) : Type 0 where
+  FileFailed : outcome ≡ early_outcome ReadFault → Rose faults faults_after
+      → AfterFile names faults faults_after name make end follows outcome
+  FileRefused : (fault : E) → IsMadeOfFile names name make (Err fault) → outcome ≡ early_outcome (end fault)
+      → AfterFile names faults faults_after name make end follows outcome
+  FileRead : (value : V) → IsMadeOfFile names name make (Ok value) → follows value
+      → AfterFile names faults faults_after name make end follows outcome
+
+-- the text of a shift is printed
+abbrev pub IsDone : Cell → Shift → Outcome → Type 0
+IsDone cell shift outcome = (text : List ℕ) × IsSoloText cell shift text × (outcome ≡ done text)
+
+-- what `solo` owes: the cell is read, then the shift, and then the shift runs
+unfoldable pub OwesSolo : Option Names → ℕ → ℕ → List ℕ → List ℕ → Outcome → Type 0
+OwesSolo names faults faults_after cell_name shift_name outcome =
+    AfterFile names faults faults_after cell_name cell_of cell_end
+    (λ cell. AfterFile names faults faults_after shift_name (shift_of cell) shift_end
+    (λ shift. IsDone cell shift outcome)
+    outcome)
+    outcome
+
+-- the outcome that may come of a command; words that are none take no memory
+abbrev pub Comes : Told → Task → Outcome → Type 0
+Comes told Nothing outcome = outcome ≡ usage
+Comes told (Solo cell shift) outcome = MayCome (OwesSolo told.names told.file_faults told.file_faults_after cell shift) outcome
+
+-- ---- what an end tells
+
+-- the cell's bytes were read, and are refused
+abbrev pub IsCellRefused : Told → Task → Type 0
+IsCellRefused told Nothing = ⊥
+IsCellRefused told (Solo cell shift) = (fault : CellFault) × IsMadeOfFile told.names cell cell_of (Err fault)
+
+-- the cell's bytes were read and stand for a cell, and the shift's bytes were read, and are refused
+abbrev pub IsShiftRefused : Told → Task → Type 0
+IsShiftRefused told Nothing = ⊥
+IsShiftRefused told (Solo cell shift) =
+    (c : Cell) × IsMadeOfFile told.names cell cell_of (Ok c) × ((fault : ShiftFault) × IsMadeOfFile told.names shift (shift_of c) (Err fault))
+
+-- both files stand for a cell and a shift, and the sink took the text of the one history of that shift in rounds
+abbrev pub IsPrinted : Told → Task → Type 0
+IsPrinted told Nothing = ⊥
+IsPrinted told (Solo cell shift) =
+    (c : Cell) × IsMadeOfFile told.names cell cell_of (Ok c) × ((s : Shift) × IsMadeOfFile told.names shift (shift_of c) (Ok s)
+    × ((text : List ℕ) × IsSoloText c s text × Appends told.taken told.taken_after text))
+
+-- nothing that the command reads is refused
+abbrev pub IsAccepted : Told → Task → Type 0
+IsAccepted told Nothing = ⊥
+IsAccepted told (Solo cell shift) =
+    ((fault : CellFault) → IsMadeOfFile told.names cell cell_of (Err fault) → ⊥)
+    × ((c : Cell) → IsMadeOfFile told.names cell cell_of (Ok c) → (fault : ShiftFault) → IsMadeOfFile told.names shift (shift_of c) (Err fault) → ⊥)

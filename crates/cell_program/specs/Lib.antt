@@ -1,0 +1,9 @@
+pub mod CellEnds
+pub mod Commands
+pub mod Ends
+pub mod Runs
+pub mod Reading
+pub mod ShiftEnds
+pub mod Texts
+pub mod Told
+pub mod Words

@@ -1,0 +1,95 @@
+-- Every text that the program prints beside records, and the status that goes with it.
+use Rattle.std.specs.Prelude.{ℕ, List, [], ◌∷◌, ◌++◌, Option, Some, None, codes}
+use Rattle.std.specs.Fmt.{decimal}
+use Rattle.std.specs.Option.{option_map_or}
+use Rattle.cell_base.specs.declared.places.Place.{Place}
+use Rattle.cell_base.specs.declared.places.Section.{Section}
+use Rattle.cell_base.specs.declared.places.Section.TheVariants.{Top, OfResource, OfJobType, OfSession}
+use Rattle.cell_base.specs.declared.places.Field.{Field}
+use Rattle.cell_base.specs.declared.places.Field.TheVariants.{Whole, Version, Resources, JobTypes, Name, Capacity, Order, Route, Next, Number, Patience, Sessions, Steps, Job, Kind, Path, Machine, Turns}
+use Rattle.record_text.specs.Lines.{line_of}
+use Rattle.cell_program.specs.declared.early.Early.{Early}
+use Rattle.cell_program.specs.declared.early.Early.TheVariants.{ReadFault, CellRefused, ShiftRefused, Memory}
+use Rattle.cell_program.specs.declared.findings.Finding.{Finding}
+
+-- a status, and the text that is printed with it
+pub record Outcome : Type 0 where
+  pub status : ℕ
+  pub text : List ℕ
+
+abbrev pub done : List ℕ → Outcome
+done text = record { status = 0; text = text }
+
+-- ---- places
+
+abbrev pub section_word : Section → List ℕ
+section_word Top = codes "top"
+section_word OfResource = codes "resource"
+section_word OfJobType = codes "type"
+section_word OfSession = codes "session"
+
+-- the whole document has no number
+abbrev pub item_words : Section → ℕ → List (List ℕ)
+item_words Top item = []
+item_words OfResource item = decimal item ∷ []
+item_words OfJobType item = decimal item ∷ []
+item_words OfSession item = decimal item ∷ []
+
+-- the key that a field stands for; the section itself has none
+abbrev pub field_word : Field → Option (List ℕ)
+field_word Whole = None
+field_word Version = Some (codes "version")
+field_word Resources = Some (codes "resource")
+field_word JobTypes = Some (codes "type")
+field_word Name = Some (codes "name")
+field_word Capacity = Some (codes "capacity")
+field_word Order = Some (codes "order")
+field_word Route = Some (codes "route")
+field_word Next = Some (codes "next")
+field_word Number = Some (codes "number")
+field_word Patience = Some (codes "patience")
+field_word Sessions = Some (codes "session")
+field_word Steps = Some (codes "steps")
+field_word Job = Some (codes "job")
+field_word Kind = Some (codes "type")
+field_word Path = Some (codes "path")
+field_word Machine = Some (codes "machine")
+field_word Turns = Some (codes "turns")
+
+abbrev pub field_words : Field → List (List ℕ)
+field_words field = option_map_or (λ word. word ∷ []) (field_word field) []
+
+-- a number, where there is one
+abbrev pub number_words : Option ℕ → List (List ℕ)
+number_words None = []
+number_words (Some n) = decimal n ∷ []
+
+abbrev pub place_words : Place → List (List ℕ)
+place_words place = section_word place.section ∷ item_words place.section place.item ++ field_words place.field ++ number_words place.at
+
+-- ---- refusals
+
+-- a finding as words: its number, its place and its count
+abbrev pub finding_words : Finding → List (List ℕ)
+finding_words finding = decimal finding.number ∷ option_map_or place_words finding.place [] ++ number_words finding.count
+
+abbrev pub refusal_text : List ℕ → Finding → List ℕ
+refusal_text file finding = line_of (file ∷ codes "refused" ∷ finding_words finding)
+
+abbrev pub plain : ℕ → Finding
+plain number = record { number = number; place = None; count = None }
+
+abbrev pub at : ℕ → Place → Finding
+at number place = record { number = number; place = Some place; count = None }
+
+-- ---- outcomes
+
+-- the built commands with their words
+abbrev pub usage : Outcome
+usage = record { status = 2; text = codes "usage: solo CELL SHIFT" ++ 10 ∷ [] }
+
+abbrev pub early_outcome : Early → Outcome
+early_outcome ReadFault = record { status = 3; text = codes "read fault" ++ 10 ∷ [] }
+early_outcome (CellRefused finding) = record { status = 4; text = refusal_text (codes "cell") finding }
+early_outcome (ShiftRefused finding) = record { status = 5; text = refusal_text (codes "shift") finding }
+early_outcome Memory = record { status = 9; text = codes "want of memory" ++ 10 ∷ [] }

@@ -1,0 +1,31 @@
+//! The program: what the words of a command line ask for is done over given files, sink and disk.
+//!
+//! `cell_main` is the top call. It answers a status, hands back the disk, and has put each line of its output to the sink
+//! by itself. Its clause `ends` is the walk of each command in the order of its tests; the clauses beside it say what a
+//! caller may rely on most: each status exactly by its cause, the text that is printed, and that nothing is refused
+//! without a cause.
+//!
+//! ```text
+//! let words = words_of(alloc, &["solo", "cell.toml", "shift.toml"])?;
+//! let ended = cell_main(&rt, alloc, &words, &mut files, &mut out, NullDisk, &FreePace);
+//! ```
+//!
+//! `DirFiles` and `OutSink` are the files and the standard output of the running program. They count their faults and
+//! tell nothing of content.
+#![tactic(auto)]
+
+mod dir_files;
+mod early;
+mod findings;
+mod lines;
+mod out_sink;
+mod printing;
+mod reading;
+mod solo;
+mod top;
+mod words;
+
+pub use dir_files::DirFiles;
+pub use out_sink::OutSink;
+pub use top::{Ended, cell_main};
+

@@ -1,0 +1,122 @@
+//! The top call.
+ghost use Rattle.std.specs.Prelude.{◌≡◌, ◌⊎◌, map};
+ghost use Rattle.std.specs.String.{string_bytes};
+ghost use Rattle.outside_io.specs.Causes.{Rose};
+ghost use Rattle.outside_io.specs.Files.{IsThere};
+ghost use Rattle.cell_program.specs.Commands.{Comes, Nothing, Solo, AreThere, IsAccepted, IsCellRefused, IsPrinted, IsShiftRefused, files_of, task_of};
+ghost use Rattle.cell_program.specs.Ends.{Ends, IsDelivered};
+ghost use Rattle.cell_program.specs.Texts.{Outcome, usage, early_outcome};
+ghost use Rattle.cell_program.specs.Told.{told_by};
+
+use crate::early::Early;
+use crate::lines::usage_line;
+use crate::printing::print_line;
+use crate::solo::{print_run, run_of_files};
+use crate::words::{Command, command_of};
+use outside_io::{Disk, Files, Pace, Sink};
+use record_text::Line;
+use std::alloc::Global;
+use std::sync::Wait;
+use std::thread::Threads;
+
+/// How a call ended: the exit status, and the disk that was handed in.
+#[derive(Drop)]
+pub struct Ended<D> {
+    pub status: u8,
+    pub disk: D,
+}
+
+/// Runs one command. The words are matched by their number and the first one; the tests come in the order: words, cell,
+/// shift, the run, output. A sink that failed gives status 8 whatever else happened.
+pub fn cell_main<R: Threads + Wait + Sync, F: Files, K: Sink, D: Disk + Send, P: Pace + Sync>(
+    _rt: &R,
+    alloc: Global,
+    words: &[String],
+    files: &mut F,
+    out: &mut K,
+    disk: D,
+    _pace: &P,
+) -> Ended<D>
+    // Some outcome may come of the words, and is what the sink was given, with its status.
+    ensures ends { let told = told_by F.holds F.faults K.taken K.faults files.old files.new out.old out.new in
+        Ends (Comes told (task_of (map string_bytes words.now))) told result.status }
+
+    // Status 0: both files stand for a cell and a shift, and the text of the one history in rounds was taken.
+    ensures done { let told = told_by F.holds F.faults K.taken K.faults files.old files.new out.old out.new in
+        result.status ≡ 0 → IsPrinted told (task_of (map string_bytes words.now)) }
+
+    // Status 2 exactly where the words are no built command, unless the sink fails.
+    ensures no_command { result.status ≡ 2 → task_of (map string_bytes words.now) ≡ Nothing }
+    ensures usage { task_of (map string_bytes words.now) ≡ Nothing → (result.status ≡ 2) ⊎ (result.status ≡ 8) }
+
+    ensures read_fault { result.status ≡ 3 → Rose (F.faults files.old) (F.faults files.new) }
+    ensures cell_refused { let told = told_by F.holds F.faults K.taken K.faults files.old files.new out.old out.new in
+        result.status ≡ 4 → IsCellRefused told (task_of (map string_bytes words.now)) }
+    ensures shift_refused { let told = told_by F.holds F.faults K.taken K.faults files.old files.new out.old out.new in
+        result.status ≡ 5 → IsShiftRefused told (task_of (map string_bytes words.now)) }
+    ensures sink_fault { result.status ≡ 8 → Rose (K.faults out.old) (K.faults out.new) }
+
+    // Sound files that hold what the command names give no read fault.
+    ensures sound { F.is_sound files.old → AreThere (F.holds files.old) (files_of (task_of (map string_bytes words.now))) → result.status ≡ 3 → ⊥ }
+
+    // Where nothing is refused and nothing outside fails, it is done, or memory was wanting.
+    ensures complete { let told = told_by F.holds F.faults K.taken K.faults files.old files.new out.old out.new in
+        IsAccepted told (task_of (map string_bytes words.now))
+        → (Rose (F.faults files.old) (F.faults files.new) → ⊥) ⊎ (F.is_sound files.old × AreThere (F.holds files.old) (files_of (task_of (map string_bytes words.now))))
+        → (Rose (K.faults out.old) (K.faults out.new) → ⊥)
+        → (result.status ≡ 0) ⊎ (result.status ≡ 9) }
+
+    // No command so far touches the disk.
+    ensures disk { result.disk ≡ disk }
+{
+    let status = run_command(alloc, words, files, out);
+    Ended { status, disk }
+}
+
+// Finds the command and runs it.
+fn run_command<F: Files, K: Sink>(
+    alloc: Global,
+    words: &[String],
+    files: &mut F,
+    out: &mut K,
+) -> u8
+    ensures ends { let told = told_by F.holds F.faults K.taken K.faults files.old files.new out.old out.new in
+        Ends (Comes told (task_of (map string_bytes words.now))) told result }
+    ensures sound { F.is_sound files.old → AreThere (F.holds files.old) (files_of (task_of (map string_bytes words.now))) → result ≡ 3 → ⊥ }
+{
+    match command_of(words) {
+        Command::Nothing => finish(out, 2, &usage_line()),
+        Command::Solo { cell, shift } => end_solo(alloc, files, out, cell, shift),
+    }
+}
+
+// Runs `solo CELL SHIFT`.
+fn end_solo<F: Files, K: Sink>(
+    alloc: Global,
+    files: &mut F,
+    out: &mut K,
+    cell: &str,
+    shift: &str,
+) -> u8
+    ensures ends { let told = told_by F.holds F.faults K.taken K.faults files.old files.new out.old out.new in
+        Ends (Comes told (Solo cell.now shift.now)) told result }
+    ensures sound { F.is_sound files.old → IsThere (F.holds files.old) cell.now → IsThere (F.holds files.old) shift.now → result ≡ 3 → ⊥ }
+{
+    match run_of_files(alloc, files, cell, shift) {
+        Ok(run) => match print_run(out, &run) {
+            Ok(()) => 0,
+            Err(_) => 8,
+        },
+        Err(early) => finish(out, early.status(), &early.line()),
+    }
+}
+
+// Prints a line, and answers its status, or 8 where the sink fails.
+fn finish<K: Sink>(out: &mut K, status: u8, line: &Line) -> u8
+    ensures { IsDelivered (K.taken out.old) (K.taken out.new) (K.faults out.old) (K.faults out.new) record { status = status; text = line.now } result }
+{
+    match print_line(out, line) {
+        Ok(()) => status,
+        Err(_) => 8,
+    }
+}

@@ -1,0 +1,26 @@
+//! What the words of the command line ask for.
+ghost use Rattle.std.specs.Prelude.{◌≡◌, map};
+ghost use Rattle.std.specs.String.{string_bytes};
+ghost use Rattle.cell_program.specs.Commands.{task_of};
+ghost use Rattle.cell_program.specs.Words.{task_in};
+
+/// A built command with its words.
+pub enum Command<'a> {
+    /// Words that are no built command.
+    Nothing,
+    /// A shift on the empty cell, on one thread.
+    Solo { cell: &'a str, shift: &'a str },
+}
+
+/// The command that the words are.
+pub fn command_of(words: &[String]) -> Command<'_>
+    ensures { task_in result ≡ task_of (map string_bytes words.now) }
+{
+    match words {
+        [verb, cell, shift] if verb.as_str() == "solo" => Command::Solo {
+            cell: cell.as_str(),
+            shift: shift.as_str(),
+        },
+        _ => Command::Nothing,
+    }
+}
