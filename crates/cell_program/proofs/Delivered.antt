@@ -25,9 +25,10 @@ module _ (a b : Option (List ℕ)) where
   -- a whole text, and then a first part of another
   part_behind : (c : Option (List ℕ)) (text more : List ℕ) → Appends a b text → AppendsPrefix b c more
       → AppendsPrefix a c (text ++ more)
-  part_behind c text more whole part =
-      (length text + part.0,
-      subst (Appends a c) (sym (take-append-add text more part.0)) (Appends-trans a b c text (take part.0 more) whole part.1))
+  part_behind c text more whole part = (
+    length text + part.0,
+    subst (Appends a c) (sym (take-append-add text more part.0)) (Appends-trans a b c text (take part.0 more) whole part.1),
+  )
 
 -- ---- entries
 
@@ -39,7 +40,8 @@ parted entries i d within =
     ap (λ (rest : List Entry). take i entries ++ rest) (sym at) ∙ take-append-drop i entries
 
 text_parted : (cell : Cell) (entries : List Entry) (i : ℕ) (d : Entry) → i < length entries
-    → text_of_entries cell (take i entries) ++ (line_of (entry_words cell (get_or entries i d)) ++ text_of_entries cell (drop (i + 1) entries))
+    → text_of_entries cell (take i entries) ++ (line_of (entry_words cell (get_or entries i d)) ++ text_of_entries cell
+    (drop (i + 1) entries))
     ≡ text_of_entries cell entries
 text_parted cell entries i d within =
     sym (flat_map-append (λ (entry : Entry). line_of (entry_words cell entry)) (take i entries) (get_or entries i d ∷ drop (i + 1) entries))
@@ -83,9 +85,11 @@ module _ (cell : Cell) (number : ℕ) (history : List Entry) (parts : ℕ) (head
         pub part_of_left : AppendsPrefix c d left → AppendsPrefix a d (record_of cell number history parts)
         part_of_left part =
             subst (AppendsPrefix a d) record_is
-            (part_behind a b d head (text_of_entries cell history ++ left) first (part_behind b c d (text_of_entries cell history) left then part))
+            (part_behind a b d head (text_of_entries cell history ++ left) first
+            (part_behind b c d (text_of_entries cell history) left then part))
 
         pub whole_record : Appends c d left → Appends a d (record_of cell number history parts)
         whole_record last =
             subst (Appends a d) record_is
-            (Appends-trans a b d head (text_of_entries cell history ++ left) first (Appends-trans b c d (text_of_entries cell history) left then last))
+            (Appends-trans a b d head (text_of_entries cell history ++ left) first
+            (Appends-trans b c d (text_of_entries cell history) left then last))

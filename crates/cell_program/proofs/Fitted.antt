@@ -69,7 +69,8 @@ module _ (cell : Cell) where
     refusal_fits parts request Idle admitted fit is = tt
     refusal_fits parts request NoBranch admitted fit is = tt
 
-    told_fits : (parts : List Part) (request : Request) (told : Told) (later : List Entry) → IsAdmitted cell parts → RequestFits cell request
+    told_fits : (parts : List Part) (request : Request) (told : Told) (later : List Entry) → IsAdmitted cell parts
+        → RequestFits cell request
         → IsToldRightly cell parts request told later → ToldFits cell told
     told_fits parts request (Answered Granted) later admitted fit is = tt
     told_fits parts request (Answered (Refused why)) later admitted fit is = refusal_fits parts request why admitted fit is
@@ -88,7 +89,8 @@ module _ (cell : Cell) where
         let here : RequestFits cell entry.request = All-head Fits entry entries fit in
         All-cons (EntryFits cell) entry entries
         (record { request = here; told = told_fits parts entry.request entry.told entries admitted here legal.0 })
-        (entries_fit (state_after_entry cell parts entry.request entry.told) entries (stays parts entry.request entry.told admitted here) legal.1 (All-tail Fits entry entries fit))
+        (entries_fit (state_after_entry cell parts entry.request entry.told) entries
+        (stays parts entry.request entry.told admitted here) legal.1 (All-tail Fits entry entries fit))
 
     -- the entries of a shift in rounds on the empty cell
     pub rounds_fit : (shift : Shift) (history : List Entry) → ShiftFits cell shift → IsRoundRobin cell [] shift history
@@ -100,7 +102,9 @@ module _ (cell : Cell) where
         asked : (entry : Entry) → Contains history entry → RequestFits cell entry.request
         asked entry contains =
             let session : ℕ = entry.session in
-            let whole = rounds.whole session (All-contains (λ (e : Entry). IsSession shift e.session) history entry rounds.sessions contains) in
+            let whole = rounds.whole session (All-contains (λ (e : Entry). IsSession shift e.session) history entry rounds.sessions
+            contains) in
             let own = Contains-filter (λ (e : Entry). e.session == session) history entry contains (eq-eqb session session refl) in
             All-contains (λ (e : Entry). RequestFits cell e.request) (entries_of session history) entry
-            (trace_fits (script_of shift session) shift.patience (begin_at 0) (entries_of session history) (script_fits shift session shift_fits) whole.trace) own
+            (trace_fits (script_of shift session) shift.patience (begin_at 0) (entries_of session history)
+            (script_fits shift session shift_fits) whole.trace) own

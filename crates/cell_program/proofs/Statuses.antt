@@ -81,7 +81,8 @@ module _ (told : Told) (task : Task) (outcome : Outcome) where
   }
 
   -- a refused file
-  cell_refused : (outcome.status ≡ 4) ⊎ (outcome.status ≡ 9) → IsCellRefused told task → (IsAccepted told task → ⊥) → Tells told task outcome
+  cell_refused : (outcome.status ≡ 4) ⊎ (outcome.status ≡ 9) → IsCellRefused told task → (IsAccepted told task → ⊥)
+      → Tells told task outcome
   cell_refused (inr at) refused unaccepted = starved at
   cell_refused (inl at) refused unaccepted = record {
     done = λ is taken. absurd (omega (arith, at, is));
@@ -93,7 +94,8 @@ module _ (told : Told) (task : Task) (outcome : Outcome) where
     complete = λ accepted read. absurd (unaccepted accepted);
   }
 
-  shift_refused : (outcome.status ≡ 5) ⊎ (outcome.status ≡ 9) → IsShiftRefused told task → (IsAccepted told task → ⊥) → Tells told task outcome
+  shift_refused : (outcome.status ≡ 5) ⊎ (outcome.status ≡ 9) → IsShiftRefused told task → (IsAccepted told task → ⊥)
+      → Tells told task outcome
   shift_refused (inr at) refused unaccepted = starved at
   shift_refused (inl at) refused unaccepted = record {
     done = λ is taken. absurd (omega (arith, at, is));
@@ -149,7 +151,20 @@ comes_tells told (Solo cell shift) outcome (IsOwed (FileRead c made (FileRefused
     (λ accepted. accepted.1 c made fault refused)
 comes_tells told (Solo cell shift) outcome (IsOwed (FileRead c made (FileRead s read solo))) =
     printed told (Solo cell shift) outcome (status_of solo.2)
-    (λ taken. (c, made, (s, read, (solo.0, solo.1, subst (Appends told.taken told.taken_after) (ap (λ (o : Outcome). o.text) solo.2) taken))))
+    (λ taken. (
+      c,
+      made,
+      (
+        s,
+        read,
+        (
+          solo.0,
+          solo.1,
+          subst (Appends told.taken told.taken_after)
+              (ap (λ (o : Outcome). o.text) solo.2) taken,
+        ),
+      ),
+    ))
 
 module _ (told : Told) (task : Task) (status : ℕ) (ends : Ends (Comes told task) told status) where
   tells : Tells told task ends.outcome

@@ -6,6 +6,7 @@ use Rattle.cell_program.specs.declared.early.Early.{Early}
 use Rattle.cell_program.specs.declared.early.Early.TheVariants.{CellRefused, Memory}
 use Rattle.cell_program.specs.Texts.{plain, at}
 
+-- the end at a fault of a cell file
 abbrev pub cell_end : CellFault → Early
 cell_end NotToml = CellRefused (plain 1)
 cell_end (WrongKey place) = CellRefused (at 2 place)

@@ -81,7 +81,8 @@ IsCellRefused told (Solo cell shift) = (fault : CellFault) × IsMadeOfFile told.
 abbrev pub IsShiftRefused : Told → Task → Type 0
 IsShiftRefused told Nothing = ⊥
 IsShiftRefused told (Solo cell shift) =
-    (c : Cell) × IsMadeOfFile told.names cell cell_of (Ok c) × ((fault : ShiftFault) × IsMadeOfFile told.names shift (shift_of c) (Err fault))
+    (c : Cell) × IsMadeOfFile told.names cell cell_of (Ok c)
+    × ((fault : ShiftFault) × IsMadeOfFile told.names shift (shift_of c) (Err fault))
 
 -- both files stand for a cell and a shift, and the sink took the text of the one history of that shift in rounds
 abbrev pub IsPrinted : Told → Task → Type 0
@@ -95,4 +96,5 @@ abbrev pub IsAccepted : Told → Task → Type 0
 IsAccepted told Nothing = ⊥
 IsAccepted told (Solo cell shift) =
     ((fault : CellFault) → IsMadeOfFile told.names cell cell_of (Err fault) → ⊥)
-    × ((c : Cell) → IsMadeOfFile told.names cell cell_of (Ok c) → (fault : ShiftFault) → IsMadeOfFile told.names shift (shift_of c) (Err fault) → ⊥)
+    × ((c : Cell) → IsMadeOfFile told.names cell cell_of (Ok c) → (fault : ShiftFault)
+    → IsMadeOfFile told.names shift (shift_of c) (Err fault) → ⊥)

@@ -14,6 +14,7 @@ unfoldable pub record_of : Cell → ℕ → List Entry → ℕ → List ℕ
 record_of cell number history left =
     line_of (head_words number 0) ++ (text_of_entries cell history ++ line_of (left_words left))
 
+-- the text that a run prints
 abbrev pub text_of_run : SoloRun → List ℕ
 text_of_run run = record_of run.core.cell run.number run.history.items (length run.core.parts)
 

@@ -6,6 +6,7 @@ use Rattle.cell_program.specs.declared.early.Early.{Early}
 use Rattle.cell_program.specs.declared.early.Early.TheVariants.{ShiftRefused, Memory}
 use Rattle.cell_program.specs.Texts.{plain, at}
 
+-- the end at a fault of a shift file
 abbrev pub shift_end : ShiftFault → Early
 shift_end NotToml = ShiftRefused (plain 1)
 shift_end (WrongKey place) = ShiftRefused (at 2 place)

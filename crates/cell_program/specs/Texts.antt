@@ -17,11 +17,13 @@ pub record Outcome : Type 0 where
   pub status : ℕ
   pub text : List ℕ
 
+-- a command that did what it is for
 abbrev pub done : List ℕ → Outcome
 done text = record { status = 0; text = text }
 
 -- ---- places
 
+-- what a fault lies in
 abbrev pub section_word : Section → List ℕ
 section_word Top = codes "top"
 section_word OfResource = codes "resource"
@@ -56,6 +58,7 @@ field_word Path = Some (codes "path")
 field_word Machine = Some (codes "machine")
 field_word Turns = Some (codes "turns")
 
+-- the same as words
 abbrev pub field_words : Field → List (List ℕ)
 field_words field = option_map_or (λ word. word ∷ []) (field_word field) []
 
@@ -64,6 +67,7 @@ abbrev pub number_words : Option ℕ → List (List ℕ)
 number_words None = []
 number_words (Some n) = decimal n ∷ []
 
+-- a place as words
 abbrev pub place_words : Place → List (List ℕ)
 place_words place = section_word place.section ∷ item_words place.section place.item ++ field_words place.field ++ number_words place.at
 
@@ -73,12 +77,15 @@ place_words place = section_word place.section ∷ item_words place.section plac
 abbrev pub finding_words : Finding → List (List ℕ)
 finding_words finding = decimal finding.number ∷ option_map_or place_words finding.place [] ++ number_words finding.count
 
+-- the line of a file that is refused
 abbrev pub refusal_text : List ℕ → Finding → List ℕ
 refusal_text file finding = line_of (file ∷ codes "refused" ∷ finding_words finding)
 
+-- a fault without place and count
 abbrev pub plain : ℕ → Finding
 plain number = record { number = number; place = None; count = None }
 
+-- a fault at a place
 abbrev pub at : ℕ → Place → Finding
 at number place = record { number = number; place = Some place; count = None }
 
@@ -88,6 +95,7 @@ at number place = record { number = number; place = Some place; count = None }
 abbrev pub usage : Outcome
 usage = record { status = 2; text = codes "usage: solo CELL SHIFT" ++ 10 ∷ [] }
 
+-- the status and the line of an early end
 abbrev pub early_outcome : Early → Outcome
 early_outcome ReadFault = record { status = 3; text = codes "read fault" ++ 10 ∷ [] }
 early_outcome (CellRefused finding) = record { status = 4; text = refusal_text (codes "cell") finding }

@@ -3,6 +3,7 @@ use Rattle.cell_program.specs.Commands.{Task, Nothing as NoTask, Solo as SoloTas
 use Rattle.cell_program.specs.declared.words.Command.{Command}
 use Rattle.cell_program.specs.declared.words.Command.TheVariants.{Nothing, Solo}
 
+-- what the command asks for
 abbrev pub task_in : Command → Task
 task_in Nothing = NoTask
 task_in (Solo cell shift) = SoloTask cell.now shift.now

@@ -74,12 +74,7 @@ pub fn cell_main<R: Threads + Wait + Sync, F: Files, K: Sink, D: Disk + Send, P:
 }
 
 // Finds the command and runs it.
-fn run_command<F: Files, K: Sink>(
-    alloc: Global,
-    words: &[String],
-    files: &mut F,
-    out: &mut K,
-) -> u8
+fn run_command<F: Files, K: Sink>(alloc: Global, words: &[String], files: &mut F, out: &mut K) -> u8
     ensures ends { let told = told_by F.holds F.faults K.taken K.faults files.old files.new out.old out.new in
         Ends (Comes told (task_of (map string_bytes words.now))) told result }
     ensures sound { F.is_sound files.old → AreThere (F.holds files.old) (files_of (task_of (map string_bytes words.now))) → result ≡ 3 → ⊥ }

@@ -5,4 +5,5 @@ use Rattle.cell_program.proofs.lines.refusal_line.Goals as goal
 
 pub returns : goal.returns
 returns c =
-    line_made c.args.file.now _ (finding_words c.args.finding.now) _ _ _ _ c.of_word-line.ensures c.word.ensures.bytes c.add_finding.ensures.words c.end.ensures
+    line_made c.args.file.now _ (finding_words c.args.finding.now) _ _ _ _ c.of_word-line.ensures c.word.ensures.bytes
+    c.add_finding.ensures.words c.end.ensures

@@ -29,7 +29,8 @@ returns-clause-part g c =
     let run = c.args.run.now in
     let same = same_text c.cell.result.now run.core.cell c.as_slice.result.now run.history.items c.cell.ensures.cell c.as_slice.ensures in
     on_err_weaker _
-    (part_of_left run.core.cell run.number run.history.items (length run.core.parts) c.head_line.result c.left_line.result c.head_line.ensures
+    (part_of_left run.core.cell run.number run.history.items
+    (length run.core.parts) c.head_line.result c.left_line.result c.head_line.ensures
     (c.left_line.ensures ∙ ap (λ (n : ℕ). line_of (left_words n)) c.parts_left.ensures)
     (taken c.args.out.now) (taken c.print_line.new.out) (taken c.print_entries.new.out) c.in_default.ensures.whole
     (taken c.print_line-2.new.out)
@@ -42,7 +43,8 @@ returns-clause-whole g c =
     let run = c.args.run.now in
     let same = same_text c.cell.result.now run.core.cell c.as_slice.result.now run.history.items c.cell.ensures.cell c.as_slice.ensures in
     on_ok_weaker _
-    (whole_record run.core.cell run.number run.history.items (length run.core.parts) c.head_line.result c.left_line.result c.head_line.ensures
+    (whole_record run.core.cell run.number run.history.items
+    (length run.core.parts) c.head_line.result c.left_line.result c.head_line.ensures
     (c.left_line.ensures ∙ ap (λ (n : ℕ). line_of (left_words n)) c.parts_left.ensures)
     (taken c.args.out.now) (taken c.print_line.new.out) (taken c.print_entries.new.out) c.in_default.ensures.whole
     (taken c.print_line-2.new.out)

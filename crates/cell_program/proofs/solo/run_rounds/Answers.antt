@@ -13,7 +13,7 @@ returns-clause-fits c =
     let shift = c.args.shift.now in
     let history = c.solo.new.history.items in
     let rounds : IsRoundRobin cell [] shift history =
-        subst (λ (core : CoreState). IsRoundRobin core.cell core.parts shift history) c.in_ok-core.ensures c.solo.ensures.rounds in
+    subst (λ (core : CoreState). IsRoundRobin core.cell core.parts shift history) c.in_ok-core.ensures c.solo.ensures.rounds in
     let same : c.solo.new.core.cell ≡ cell =
-        ap (λ (core : CoreState). core.cell) c.solo.ensures.state ∙ ap (λ (core : CoreState). core.cell) c.in_ok-core.ensures in
+    ap (λ (core : CoreState). core.cell) c.solo.ensures.state ∙ ap (λ (core : CoreState). core.cell) c.in_ok-core.ensures in
     subst (λ (on : Cell). All (EntryFits on) history) (sym same) (rounds_fit cell c.requires.cell shift history c.requires.shift rounds)

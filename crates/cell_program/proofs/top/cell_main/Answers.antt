@@ -26,6 +26,7 @@ returns-clause-sink_fault g c = ends_sink_fault _ _ _ c.run_command-status.ensur
 
 pub returns-clause-complete : goal.returns-clause-complete
 returns-clause-complete g c accepted (inl still) sink =
-    ends_complete _ _ _ c.run_command-status.ensures.ends accepted (λ is. still (ends_read_fault _ _ _ c.run_command-status.ensures.ends is)) sink
+    ends_complete _ _ _ c.run_command-status.ensures.ends accepted
+    (λ is. still (ends_read_fault _ _ _ c.run_command-status.ensures.ends is)) sink
 returns-clause-complete g c accepted (inr sound) sink =
     ends_complete _ _ _ c.run_command-status.ensures.ends accepted (c.run_command-status.ensures.sound sound.0 sound.1) sink
