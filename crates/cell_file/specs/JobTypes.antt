@@ -27,6 +27,7 @@ job_type_of_members i resources earlier ms = do
   next ← next_read i (length route) (get_member (codes "next") ms)
   Ok (record { name = name; route = route; next = next })
 
+-- type i, as an element gives it
 unfoldable pub job_type_of : ℕ → ℕ → List (List ℕ) → List (List ℕ) → Data → Result JobType CellFault
 job_type_of version i resources earlier d = do
   ms ← looked (table_of (of_job_type i Whole) d)
@@ -37,5 +38,6 @@ job_type_of version i resources earlier d = do
 abbrev pub next_job_type : ℕ → List (List ℕ) → List JobType → Data → Result JobType CellFault
 next_job_type version resources earlier d = job_type_of version (length earlier) resources (type_names earlier) d
 
+-- each element in turn gives a type
 abbrev pub job_types_of : ℕ → List (List ℕ) → Items → Result (List JobType) CellFault
 job_types_of version resources ds = each (next_job_type version resources) [] ds

@@ -27,9 +27,11 @@ resource_of_members i earlier ms = do
   order ← order_given (of_resource i Order) (get_member (codes "order") ms)
   Ok (record { name = name; capacity = capacity; order = unwrap_or order capacity })
 
+-- the keys of a resource
 abbrev pub resource_keys : List (List ℕ)
 resource_keys = codes "name" ∷ codes "capacity" ∷ codes "order" ∷ []
 
+-- resource i, as an element gives it
 unfoldable pub resource_of : ℕ → List (List ℕ) → Data → Result Resource CellFault
 resource_of i earlier d = do
   ms ← looked (table_of (of_resource i Whole) d)
@@ -40,6 +42,7 @@ resource_of i earlier d = do
 abbrev pub next_resource : List Resource → Data → Result Resource CellFault
 next_resource earlier d = resource_of (length earlier) (resource_names earlier) d
 
+-- each element in turn gives a resource
 abbrev pub resources_of : Items → Result (List Resource) CellFault
 resources_of ds = each next_resource [] ds
 

@@ -31,6 +31,7 @@ step_of_text place names text = do
   number ← or_fault (position (bytes_eq name) names) (UnknownName place)
   Ok (record { on = record { 0 = number }; works = not (is_hold text) })
 
+-- the step that a string of a route is
 unfoldable pub step_read : Place → List (List ℕ) → Data → Result Step CellFault
 step_read place names d = looked (string_of place d) >>= step_of_text place names
 
@@ -38,5 +39,6 @@ step_read place names d = looked (string_of place d) >>= step_of_text place name
 abbrev pub next_step : ℕ → List (List ℕ) → List Step → Data → Result Step CellFault
 next_step i names earlier d = step_read (in_job_type i Route (length earlier)) names d
 
+-- each element in turn gives a step
 abbrev pub route_read : ℕ → List (List ℕ) → Items → Result (List Step) CellFault
 route_read i names ds = each (next_step i names) [] ds

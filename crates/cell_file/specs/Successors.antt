@@ -16,6 +16,7 @@ abbrev pub last_or : ℕ → List ℕ → ℕ
 last_or place [] = place
 last_or place (n ∷ ns) = last_or n ns
 
+-- the element is an integer, of whatever size
 abbrev pub is_integer : Data → Bool
 is_integer d = is_some (as_integer d)
 
@@ -29,6 +30,7 @@ successors_in at k places ds = do
   items ← looked (at_most at MAX_BRANCHES ds)
   if all_items is_integer items then each (next_successor at k places) [] items else Err (WrongKind at)
 
+-- those that an element of `next` gives
 unfoldable pub successors_of : Place → ℕ → ℕ → Data → Result (List ℕ) CellFault
 successors_of at k places d = looked (array_of at d) >>= successors_in at k places
 

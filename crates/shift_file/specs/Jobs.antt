@@ -31,9 +31,11 @@ unfoldable pub branches_of : Cell → ℕ → ℕ → Option Data → Result (Li
 branches_of cell k kind None = Ok (first_branches cell kind)
 branches_of cell k kind (Some d) = looked (array_of (of_session k Path) d) >>= branches_in cell k kind
 
+-- the keys of a session of a job
 abbrev pub job_keys : List (List ℕ)
 job_keys = codes "job" ∷ codes "type" ∷ codes "path" ∷ []
 
+-- session k of a job
 unfoldable pub job_session : Cell → ℕ → Members → Result Session ShiftFault
 job_session cell k ms = do
   table ← looked (only (of_session k Whole) job_keys ms)

@@ -14,6 +14,7 @@ use Rattle.shift_file.specs.declared.sessions.Session.{Session}
 use Rattle.shift_file.specs.declared.sessions.Session.TheVariants.{Listed}
 use Rattle.shift_file.specs.Faults.{step_fault, looked, of_session, in_session}
 
+-- the step that a string is
 unfoldable pub step_at : Cell → Place → Data → Result Request ShiftFault
 step_at cell place d = do
   text ← looked (string_of place d)
@@ -23,6 +24,7 @@ step_at cell place d = do
 abbrev pub next_step : Cell → ℕ → List Request → Data → Result Request ShiftFault
 next_step cell k earlier d = step_at cell (in_session k Steps (length earlier)) d
 
+-- session k of listed steps
 unfoldable pub listed_session : Cell → ℕ → Members → Result Session ShiftFault
 listed_session cell k ms = do
   table ← looked (only (of_session k Whole) (codes "steps" ∷ []) ms)

@@ -13,6 +13,7 @@ use Rattle.shift_file.specs.declared.sessions.Session.TheVariants.{OfMachine}
 use Rattle.shift_file.specs.Faults.{looked, of_session}
 use Rattle.shift_file.specs.Names.{named_at}
 
+-- session k of a machine
 unfoldable pub machine_session : Cell → ℕ → Members → Result Session ShiftFault
 machine_session cell k ms = do
   table ← looked (only (of_session k Whole) (codes "machine" ∷ codes "turns" ∷ []) ms)

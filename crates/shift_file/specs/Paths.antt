@@ -4,6 +4,7 @@ use Rattle.std.specs.Option.{option_map_or}
 use Rattle.cell_base.specs.Stages.{Stage, stage, successor, is_last, first_branch_path}
 use Rattle.cell_base.specs.declared.cells.Cell.{Cell}
 
+-- the stage at which a job of a type begins
 abbrev pub first_stage : ℕ → Stage
 first_stage kind = stage kind 0
 
