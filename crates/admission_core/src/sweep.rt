@@ -1,6 +1,7 @@
 //! The sweep of each route that finds which of its stages lead to which resources.
 ghost use Rattle.std.specs.Prelude.{◌≡◌, ◌+◌, ◌<◌, length, All, slice_index_or, false, IfOk};
 ghost use Rattle.std.specs.List.{list_any};
+ghost use Rattle.cell_base.specs.declared.limits.TheConstants.{MAX_PLACES};
 ghost use Rattle.cell_base.specs.Stages.{stage, IsStage};
 ghost use Rattle.cell_base.specs.Neighborhoods.{leads};
 ghost use Rattle.cell_base.specs.Fits.{CellFits};
@@ -83,7 +84,7 @@ fn leads_at(cell: &Cell, r: ResId, kind: TypeId, place: u16, row: &[bool; PLACES
 
 /// Whether one of the next places leads on.
 fn leads_on(next: &[u16], row: &[bool; PLACES]) -> bool
-    requires { All (λ place. place < 64) next.now }
+    requires { All (λ place. place < MAX_PLACES) next.now }
     ensures { result ≡ list_any (λ place. slice_index_or row.now place false) next.now }
 {
     next.iter().any(|place| row[*place as usize])
