@@ -31,6 +31,7 @@ Gives result walk = GivesOr Memory result walk
 abbrev pub of_resource : ℕ → Field → Place
 of_resource i field = record { section = OfResource; item = i; field = field; at = None }
 
+-- a key of a type
 abbrev pub of_job_type : ℕ → Field → Place
 of_job_type i field = record { section = OfJobType; item = i; field = field; at = None }
 
