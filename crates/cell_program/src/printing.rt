@@ -23,8 +23,10 @@ pub fn print_line<K: Sink>(out: &mut K, line: &Line) -> Result<(), Failed>
 /// Puts the line of each entry, up to the first that the sink doesn't take.
 pub fn print_entries<K: Sink>(out: &mut K, cell: &Cell, entries: &[Entry]) -> Result<(), Failed>
     requires { All (EntryFits cell.now) entries.now }
-    ensures whole { OnOk result (Appends (K.taken out.old) (K.taken out.new) (text_of_entries cell.now entries.now)) }
-    ensures part { OnErr result (AppendsPrefix (K.taken out.old) (K.taken out.new) (text_of_entries cell.now entries.now)) }
+    ensures whole { OnOk result
+        (Appends (K.taken out.old) (K.taken out.new) (text_of_entries cell.now entries.now)) }
+    ensures part { OnErr result
+        (AppendsPrefix (K.taken out.old) (K.taken out.new) (text_of_entries cell.now entries.now)) }
     ensures cause { HasCause (K.faults out.old) (K.faults out.new) result }
 {
     for entry in entries {

@@ -29,7 +29,8 @@ fn read_named<F: Files>(
     ensures same { F.holds files.new ≡ F.holds files.old }
     ensures stays_sound { F.is_sound files.old → F.is_sound files.new }
     ensures unread { IfErr result (IsUnread (F.faults files.old) (F.faults files.new)) }
-    ensures sound { F.is_sound files.old → IsThere (F.holds files.old) name.now → IsErrOf result ReadFault → ⊥ }
+    ensures sound { F.is_sound files.old → IsThere (F.holds files.old) name.now
+        → IsErrOf result ReadFault → ⊥ }
 {
     let mut bytes = Vec::new(alloc);
     files.read_file(alloc, name, u64::from(limit), &mut bytes)?;
@@ -38,13 +39,16 @@ fn read_named<F: Files>(
 
 /// The cell of a file, or the end in its place.
 pub fn read_cell_file<F: Files>(alloc: Global, files: &mut F, name: &str) -> Result<Cell, Early>
-    ensures read { IfOk result (λ cell. IsMadeOfFile (F.holds files.old) name.now cell_of (Ok cell)) }
+    ensures read { IfOk result (λ cell.
+        IsMadeOfFile (F.holds files.old) name.now cell_of (Ok cell)) }
     ensures fits { IfOk result CellFits }
     ensures kept { OnOk result (F.faults files.new ≡ F.faults files.old) }
     ensures same { F.holds files.new ≡ F.holds files.old }
     ensures stays_sound { F.is_sound files.old → F.is_sound files.new }
-    ensures early { IfErr result (EndsEarly (F.holds files.old) name.now cell_of cell_end (F.faults files.old) (F.faults files.new)) }
-    ensures sound { F.is_sound files.old → IsThere (F.holds files.old) name.now → IsErrOf result ReadFault → ⊥ }
+    ensures early { IfErr result
+        (EndsEarly (F.holds files.old) name.now cell_of cell_end (F.faults files.old) (F.faults files.new)) }
+    ensures sound { F.is_sound files.old → IsThere (F.holds files.old) name.now
+        → IsErrOf result ReadFault → ⊥ }
 {
     let bytes = read_named(alloc, files, name, MAX_CELL_BYTES)?;
     match read_cell(alloc, &bytes) {
@@ -61,11 +65,14 @@ pub fn read_shift_file<F: Files>(
     name: &str,
 ) -> Result<Shift, Early>
     requires { CellFits cell.now }
-    ensures read { IfOk result (λ shift. IsMadeOfFile (F.holds files.old) name.now (shift_of cell.now) (Ok shift)) }
+    ensures read { IfOk result (λ shift.
+        IsMadeOfFile (F.holds files.old) name.now (shift_of cell.now) (Ok shift)) }
     ensures fits { IfOk result (ShiftFits cell.now) }
     ensures kept { OnOk result (F.faults files.new ≡ F.faults files.old) }
-    ensures early { IfErr result (EndsEarly (F.holds files.old) name.now (shift_of cell.now) shift_end (F.faults files.old) (F.faults files.new)) }
-    ensures sound { F.is_sound files.old → IsThere (F.holds files.old) name.now → IsErrOf result ReadFault → ⊥ }
+    ensures early { IfErr result
+        (EndsEarly (F.holds files.old) name.now (shift_of cell.now) shift_end (F.faults files.old) (F.faults files.new)) }
+    ensures sound { F.is_sound files.old → IsThere (F.holds files.old) name.now
+        → IsErrOf result ReadFault → ⊥ }
 {
     let bytes = read_named(alloc, files, name, MAX_SHIFT_BYTES)?;
     match read_shift(alloc, cell, &bytes) {

@@ -66,10 +66,15 @@ pub fn run_of_files<F: Files>(
     cell: &str,
     shift: &str,
 ) -> Result<SoloRun, Early>
-    ensures run { IfOk result (λ run. OwesSolo (F.holds files.old) (F.faults files.old) (F.faults files.new) cell.now shift.now (done (text_of_run run))) }
+    ensures run { IfOk result (λ run.
+        OwesSolo (F.holds files.old) (F.faults files.old) (F.faults files.new) cell.now shift.now
+        (done (text_of_run run))) }
     ensures fits { IfOk result (λ run. All (EntryFits run.core.cell) run.history.items) }
-    ensures early { IfErr result (λ early. MayCome (OwesSolo (F.holds files.old) (F.faults files.old) (F.faults files.new) cell.now shift.now) (early_outcome early)) }
-    ensures sound { F.is_sound files.old → IsThere (F.holds files.old) cell.now → IsThere (F.holds files.old) shift.now → IsErrOf result ReadFault → ⊥ }
+    ensures early { IfErr result (λ early. MayCome
+        (OwesSolo (F.holds files.old) (F.faults files.old) (F.faults files.new) cell.now shift.now)
+        (early_outcome early)) }
+    ensures sound { F.is_sound files.old → IsThere (F.holds files.old) cell.now
+        → IsThere (F.holds files.old) shift.now → IsErrOf result ReadFault → ⊥ }
 {
     let cell = read_cell_file(alloc, files, cell)?;
     let shift = read_shift_file(alloc, files, &cell, shift)?;

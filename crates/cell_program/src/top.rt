@@ -57,12 +57,15 @@ pub fn cell_main<R: Threads + Wait + Sync, F: Files, K: Sink, D: Disk + Send, P:
     ensures sink_fault { result.status ≡ 8 → Rose (K.faults out.old) (K.faults out.new) }
 
     // Sound files that hold what the command names give no read fault.
-    ensures sound { F.is_sound files.old → AreThere (F.holds files.old) (files_of (task_of (map string_bytes words.now))) → result.status ≡ 3 → ⊥ }
+    ensures sound { F.is_sound files.old
+        → AreThere (F.holds files.old) (files_of (task_of (map string_bytes words.now)))
+        → result.status ≡ 3 → ⊥ }
 
     // Where nothing is refused and nothing outside fails, it is done, or memory was wanting.
     ensures complete { let told = told_by F.holds F.faults K.taken K.faults files.old files.new out.old out.new in
         IsAccepted told (task_of (map string_bytes words.now))
-        → (Rose (F.faults files.old) (F.faults files.new) → ⊥) ⊎ (F.is_sound files.old × AreThere (F.holds files.old) (files_of (task_of (map string_bytes words.now))))
+        → (Rose (F.faults files.old) (F.faults files.new) → ⊥)
+        ⊎ (F.is_sound files.old × AreThere (F.holds files.old) (files_of (task_of (map string_bytes words.now))))
         → (Rose (K.faults out.old) (K.faults out.new) → ⊥)
         → (result.status ≡ 0) ⊎ (result.status ≡ 9) }
 
@@ -77,7 +80,9 @@ pub fn cell_main<R: Threads + Wait + Sync, F: Files, K: Sink, D: Disk + Send, P:
 fn run_command<F: Files, K: Sink>(alloc: Global, words: &[String], files: &mut F, out: &mut K) -> u8
     ensures ends { let told = told_by F.holds F.faults K.taken K.faults files.old files.new out.old out.new in
         Ends (Comes told (task_of (map string_bytes words.now))) told result }
-    ensures sound { F.is_sound files.old → AreThere (F.holds files.old) (files_of (task_of (map string_bytes words.now))) → result ≡ 3 → ⊥ }
+    ensures sound { F.is_sound files.old
+        → AreThere (F.holds files.old) (files_of (task_of (map string_bytes words.now)))
+        → result ≡ 3 → ⊥ }
 {
     match command_of(words) {
         Command::Nothing => finish(out, 2, &usage_line()),
@@ -95,7 +100,8 @@ fn end_solo<F: Files, K: Sink>(
 ) -> u8
     ensures ends { let told = told_by F.holds F.faults K.taken K.faults files.old files.new out.old out.new in
         Ends (Comes told (Solo cell.now shift.now)) told result }
-    ensures sound { F.is_sound files.old → IsThere (F.holds files.old) cell.now → IsThere (F.holds files.old) shift.now → result ≡ 3 → ⊥ }
+    ensures sound { F.is_sound files.old → IsThere (F.holds files.old) cell.now
+        → IsThere (F.holds files.old) shift.now → result ≡ 3 → ⊥ }
 {
     match run_of_files(alloc, files, cell, shift) {
         Ok(run) => match print_run(out, &run) {
@@ -108,7 +114,8 @@ fn end_solo<F: Files, K: Sink>(
 
 // Prints a line, and answers its status, or 8 where the sink fails.
 fn finish<K: Sink>(out: &mut K, status: u8, line: &Line) -> u8
-    ensures { IsDelivered (K.taken out.old) (K.taken out.new) (K.faults out.old) (K.faults out.new) record { status = status; text = line.now } result }
+    ensures { IsDelivered (K.taken out.old) (K.taken out.new) (K.faults out.old) (K.faults out.new)
+        record { status = status; text = line.now } result }
 {
     match print_line(out, line) {
         Ok(()) => status,
