@@ -3,4 +3,5 @@ mod Delivered
 mod Fitted
 mod Wording
 mod Owed
+mod Refusals
 mod Statuses

@@ -12,7 +12,7 @@ use Rattle.cell_file.specs.Walk.{cell_of}
 use Rattle.shift_file.specs.Walk.{shift_of}
 use Rattle.cell_program.specs.CellEnds.{cell_end}
 use Rattle.cell_program.specs.ShiftEnds.{shift_end}
-use Rattle.cell_program.specs.Commands.{Task, Nothing, Solo, Comes, OwesSolo, FileFailed, FileRefused, FileRead, IsAccepted, IsCellRefused, IsPrinted, IsShiftRefused}
+use Rattle.cell_program.specs.Commands.{Task, Nothing, Solo, Comes, AreThere, OwesSolo, FileFailed, FileRefused, FileRead, IsAccepted, IsCellRefused, IsPrinted, IsShiftRefused, ReadsAll, files_of}
 use Rattle.cell_program.specs.Ends.{MayCome, IsOwed, MemoryWanted, Whole, SinkFailed, Ends}
 use Rattle.cell_program.specs.Runs.{IsSoloText}
 use Rattle.cell_program.specs.Texts.{Outcome, early_outcome}
@@ -129,7 +129,7 @@ module _ (told : Told) (task : Task) (outcome : Outcome) where
     complete = λ accepted read. absurd (unaccepted accepted);
   }
 
-status_of : {a b : Outcome} → a ≡ b → a.status ≡ b.status
+pub status_of : {a b : Outcome} → a ≡ b → a.status ≡ b.status
 status_of is = ap (λ (o : Outcome). o.status) is
 
 -- the status of an outcome that is one of these two
@@ -226,3 +226,9 @@ usage_ends told Nothing status ends is = elim ends.delivered [
   | Whole same taken kept ↦ inl (same ∙ status_of ends.comes)
   | SinkFailed eight taken rose ↦ inr eight
 ]
+
+-- where no read failed, or the files are sound and hold what is named, there is no read fault
+pub no_read_fault : (told : Told) (task : Task) (status : ℕ) → Ends (Comes told task) told status → (sound : Type 0)
+    → (sound → AreThere told.names (files_of task) → status ≡ 3 → ⊥) → ReadsAll told sound task → status ≡ 3 → ⊥
+no_read_fault told task status ends sound never (inl still) is = still (ends_read_fault told task status ends is)
+no_read_fault told task status ends sound never (inr there) is = never there.0 there.1 is

@@ -1,5 +1,5 @@
 -- What each command owes, its tests in their order, and what its end tells.
-use Rattle.std.specs.Prelude.{◌≡◌, ℕ, List, [], ◌∷◌, Option, codes, if◌then◌else◌, Result, Ok, Err, ⊤}
+use Rattle.std.specs.Prelude.{◌≡◌, ◌⊎◌, ℕ, List, [], ◌∷◌, Option, IsSomeAnd, codes, if◌then◌else◌, Result, Ok, Err, ⊤}
 use Rattle.std.specs.Str.{bytes_eq}
 use Rattle.std.specs.Io.KnownBytes.{Appends}
 use Rattle.outside_io.specs.Causes.{Rose}
@@ -98,3 +98,30 @@ IsAccepted told (Solo cell shift) =
     ((fault : CellFault) → IsMadeOfFile told.names cell cell_of (Err fault) → ⊥)
     × ((c : Cell) → IsMadeOfFile told.names cell cell_of (Ok c) → (fault : ShiftFault)
     → IsMadeOfFile told.names shift (shift_of c) (Err fault) → ⊥)
+
+-- ---- what an end owes where nothing outside fails
+
+-- no read failed, or the files are sound and hold what the command names
+abbrev pub ReadsAll : Told → Type 0 → Task → Type 0
+ReadsAll told sound task = (Rose told.file_faults told.file_faults_after → ⊥) ⊎ (sound × AreThere told.names (files_of task))
+
+-- the sink did not fail
+abbrev pub TakesAll : Told → Type 0
+TakesAll told = Rose told.sink_faults told.sink_faults_after → ⊥
+
+-- the files tell, and hold bytes under the cell's name that this is the fault of
+abbrev pub HoldsBadCell : Told → Task → CellFault → Type 0
+HoldsBadCell told Nothing fault = ⊥
+HoldsBadCell told (Solo cell shift) fault = IsSomeAnd told.names (λ names. IsSomeAnd (names cell) (λ bytes. cell_of bytes ≡ Err fault))
+
+-- the same of the shift, for the cell that is held
+abbrev pub HoldsBadShift : Told → Task → ShiftFault → Type 0
+HoldsBadShift told Nothing fault = ⊥
+HoldsBadShift told (Solo cell shift) fault =
+    (c : Cell) × IsSomeAnd told.names (λ names. IsSomeAnd (names cell) (λ bytes. cell_of bytes ≡ Ok c))
+    × IsSomeAnd told.names (λ names. IsSomeAnd (names shift) (λ bytes. shift_of c bytes ≡ Err fault))
+
+-- the status and the text are those of this end, or memory was wanting
+abbrev pub IsAnswered : Told → Early → ℕ → Type 0
+IsAnswered told early status =
+    (status ≡ 9) ⊎ ((status ≡ (early_outcome early).status) × Appends told.taken told.taken_after (early_outcome early).text)

@@ -3,7 +3,11 @@ ghost use Rattle.std.specs.Prelude.{◌≡◌, ◌⊎◌, map};
 ghost use Rattle.std.specs.String.{string_bytes};
 ghost use Rattle.outside_io.specs.Causes.{Rose};
 ghost use Rattle.outside_io.specs.Files.{IsThere};
-ghost use Rattle.cell_program.specs.Commands.{Comes, Nothing, Solo, AreThere, IsAccepted, IsCellRefused, IsPrinted, IsShiftRefused, files_of, task_of};
+ghost use Rattle.cell_program.specs.Commands.{Comes, Nothing, Solo, AreThere, HoldsBadCell, HoldsBadShift, IsAccepted, IsAnswered, IsCellRefused, IsPrinted, IsShiftRefused, ReadsAll, TakesAll, files_of, task_of};
+ghost use Rattle.cell_program.specs.CellEnds.{cell_end};
+ghost use Rattle.cell_program.specs.ShiftEnds.{shift_end};
+ghost use Rattle.cell_file.specs.declared.faults.CellFault.{CellFault};
+ghost use Rattle.shift_file.specs.declared.faults.ShiftFault.{ShiftFault};
 ghost use Rattle.cell_program.specs.Ends.{Ends, IsDelivered};
 ghost use Rattle.cell_program.specs.Texts.{Outcome, usage, early_outcome};
 ghost use Rattle.cell_program.specs.Told.{told_by};
@@ -61,12 +65,19 @@ pub fn cell_main<R: Threads + Wait + Sync, F: Files, K: Sink, D: Disk + Send, P:
         → AreThere (F.holds files.old) (files_of (task_of (map string_bytes words.now)))
         → result.status ≡ 3 → ⊥ }
 
-    // Where nothing is refused and nothing outside fails, it is done, or memory was wanting.
+    // Where nothing outside fails, what the files hold decides: a refused cell is answered by its fault, and so is a
+    // refused shift of a cell that isn't; else it is done. Memory may be wanting in the place of each.
+    ensures refuses_cell { let told = told_by F.holds F.faults K.taken K.faults files.old files.new out.old out.new in
+        let task = task_of (map string_bytes words.now) in
+        (fault : CellFault) → HoldsBadCell told task fault → ReadsAll told (F.is_sound files.old) task → TakesAll told
+        → IsAnswered told (cell_end fault) result.status }
+    ensures refuses_shift { let told = told_by F.holds F.faults K.taken K.faults files.old files.new out.old out.new in
+        let task = task_of (map string_bytes words.now) in
+        (fault : ShiftFault) → HoldsBadShift told task fault → ReadsAll told (F.is_sound files.old) task → TakesAll told
+        → IsAnswered told (shift_end fault) result.status }
     ensures complete { let told = told_by F.holds F.faults K.taken K.faults files.old files.new out.old out.new in
-        IsAccepted told (task_of (map string_bytes words.now))
-        → (Rose (F.faults files.old) (F.faults files.new) → ⊥)
-        ⊎ (F.is_sound files.old × AreThere (F.holds files.old) (files_of (task_of (map string_bytes words.now))))
-        → (Rose (K.faults out.old) (K.faults out.new) → ⊥)
+        let task = task_of (map string_bytes words.now) in
+        IsAccepted told task → ReadsAll told (F.is_sound files.old) task → TakesAll told
         → (result.status ≡ 0) ⊎ (result.status ≡ 9) }
 
     // No command so far touches the disk.

@@ -1,6 +1,6 @@
 -- What each status tells, by the end of the call.
-use Rattle.std.proofs.Common.{inl, inr}
-use Rattle.cell_program.proofs.Statuses.{ends_done, ends_no_command, ends_read_fault, ends_cell_refused, ends_shift_refused, ends_sink_fault, ends_complete, usage_ends}
+use Rattle.cell_program.proofs.Refusals.{cell_answered, shift_answered}
+use Rattle.cell_program.proofs.Statuses.{ends_done, ends_no_command, ends_read_fault, ends_cell_refused, ends_shift_refused, ends_sink_fault, ends_complete, no_read_fault, usage_ends}
 use Rattle.cell_program.proofs.top.cell_main.Goals as goal
 
 pub returns-clause-done : goal.returns-clause-done
@@ -24,9 +24,17 @@ returns-clause-shift_refused g c = ends_shift_refused _ _ _ c.run_command-status
 pub returns-clause-sink_fault : goal.returns-clause-sink_fault
 returns-clause-sink_fault g c = ends_sink_fault _ _ _ c.run_command-status.ensures.ends
 
+pub returns-clause-refuses_cell : goal.returns-clause-refuses_cell
+returns-clause-refuses_cell g c fault bad reads takes =
+    let ends = c.run_command-status.ensures.ends in
+    cell_answered _ _ _ ends fault bad (no_read_fault _ _ _ ends _ c.run_command-status.ensures.sound reads) takes
+
+pub returns-clause-refuses_shift : goal.returns-clause-refuses_shift
+returns-clause-refuses_shift g c fault bad reads takes =
+    let ends = c.run_command-status.ensures.ends in
+    shift_answered _ _ _ ends fault bad (no_read_fault _ _ _ ends _ c.run_command-status.ensures.sound reads) takes
+
 pub returns-clause-complete : goal.returns-clause-complete
-returns-clause-complete g c accepted (inl still) sink =
-    ends_complete _ _ _ c.run_command-status.ensures.ends accepted
-    (λ is. still (ends_read_fault _ _ _ c.run_command-status.ensures.ends is)) sink
-returns-clause-complete g c accepted (inr sound) sink =
-    ends_complete _ _ _ c.run_command-status.ensures.ends accepted (c.run_command-status.ensures.sound sound.0 sound.1) sink
+returns-clause-complete g c accepted reads takes =
+    let ends = c.run_command-status.ensures.ends in
+    ends_complete _ _ _ ends accepted (no_read_fault _ _ _ ends _ c.run_command-status.ensures.sound reads) takes
