@@ -1,0 +1,5 @@
+pub mod Steps
+pub mod Rests
+pub mod Nodes
+pub mod Values
+pub mod Lines
