@@ -74,6 +74,8 @@ impl Script {
     pub fn read_line(&mut self, line: &str) -> Result<Option<Conversation>> {
         match self.part {
             Part::Remarks => self.begin(line)?,
+            // A forgotten end would make the next conversation a part of this one.
+            _ if line.starts_with("== ") => bail!("a conversation within another"),
             Part::Files => self.read_files(line)?,
             Part::Printed => return self.read_printed(line),
         }
