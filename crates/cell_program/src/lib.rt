@@ -28,6 +28,3 @@ mod words;
 pub use dir_files::DirFiles;
 pub use out_sink::OutSink;
 pub use top::{Ended, cell_main};
-
-#[cfg(test)]
-mod tests;
