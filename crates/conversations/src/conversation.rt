@@ -3,6 +3,7 @@
 use anyhow::{Result, bail};
 use std::alloc::Global;
 
+/// The words of one call, what it is to print, and its status.
 #[derive(Drop)]
 pub struct Conversation {
     alloc: Global,
