@@ -1,9 +1,9 @@
 //! The program: what the words of a command line ask for is done over given files, sink and disk.
 //!
-//! `cell_main` is the top call. It answers a status, hands back the disk, and has put each line of its output to the sink
-//! by itself. Its clause `ends` is the walk of each command in the order of its tests; the clauses beside it say what a
-//! caller may rely on most: each status exactly by its cause, the text that is printed, and that nothing is refused
-//! without a cause.
+//! `cell_main` is the top call. It answers a status and hands back the disk. Its clause `ends` is the walk of each command
+//! in the order of its tests; the clauses beside it say what a caller may rely on most: that a status comes only by its
+//! cause, the text that is printed, and that nothing is refused without a cause. Each line of the output is put to the
+//! sink by itself; that is tested, and no clause says it.
 //!
 //! ```text
 //! let words = words_of(alloc, &["solo", "cell.toml", "shift.toml"])?;
