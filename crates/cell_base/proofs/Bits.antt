@@ -1,5 +1,5 @@
 -- Bits of masks that are joined, cut, set and cleared.
-use Rattle.std.proofs.Common.{◌≡◌, ℕ, zero, suc, ◌+◌, ◌-◌, ◌*◌, ◌^◌, ◌%◌, ◌<◌, ◌≤◌, ◌==◌, ◌≢◌, ◌⊎◌, Bool, true, false, cond, ◌||◌, ◌&&◌, min, max, bit_and, bit_or, ap, subst, refl, sym, arith, w64, ◌∙◌, ⊎_elim, inl, inr, le_trans}
+use Rattle.std.proofs.Common.{◌≡◌, ℕ, zero, suc, ◌+◌, ◌-◌, ◌*◌, ◌^◌, ◌%◌, ◌<◌, ◌≤◌, ◌==◌, ◌≢◌, true, false, cond, ◌||◌, ◌&&◌, min, max, bit_and, bit_or, ap, refl, sym, arith, w64, ◌∙◌, ⊎_elim}
 use Rattle.std.specs.Int.{bit_at, bit_not, trailing_zeros}
 use Rattle.std.proofs.lemmas.Bool.{eqb-true, eq-eqb, cases_lt}
 use Rattle.std.proofs.lemmas.Nat.{and_le_l}
