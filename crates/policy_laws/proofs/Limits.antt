@@ -1,11 +1,10 @@
 -- How long routes are, and how many stages there are.
-use Rattle.std.proofs.Common.{◌≡◌, ℕ, ◌*◌, ◌<◌, ◌≤◌, All, [], length, take, subst, Option, Some, None, slice_get, refl, arith}
-use Rattle.std.specs.List.{sum_by}
+use Rattle.std.proofs.Common.{◌≡◌, ℕ, ◌*◌, ◌≤◌, [], length, take, subst, Option, Some, None, slice_get, refl, arith}
 use Rattle.std.specs.Option.{option_map_or}
 use Rattle.std.proofs.lemmas.List.{length-take-le}
 use Rattle.std.proofs.lemmas.List.Elements.{All-take, All-weaker}
 use Rattle.std.proofs.lemmas.List.Sums.{sum_by-le}
-use Rattle.cell_base.specs.declared.limits.TheConstants.{MAX_PLACES, MAX_TYPES}
+use Rattle.cell_base.specs.declared.limits.TheConstants.{MAX_PLACES}
 use Rattle.cell_base.specs.declared.cells.Cell.{Cell}
 use Rattle.cell_base.specs.declared.cells.JobType.{JobType}
 use Rattle.cell_base.specs.Stages.{route_of, stages}

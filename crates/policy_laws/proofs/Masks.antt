@@ -1,14 +1,16 @@
 -- The bits of a mask: a sum of different powers of two has just their bits.
-use Rattle.std.proofs.Common.{◌≡◌, ℕ, zero, suc, ◌+◌, ◌-◌, ◌*◌, ◌^◌, ◌<◌, ◌≤◌, ◌==◌, ◌≢◌, Bool, true, false, cond, ◌&&◌, nat_lt, length, ap, refl, sym, subst, ◌∙◌, ⊎_elim, pow-suc, arith}
+use Rattle.std.proofs.Common.{◌≡◌, ℕ, zero, suc, ◌+◌, ◌-◌, ◌*◌, ◌^◌, ◌<◌, ◌≤◌, ◌==◌, Bool, true, false, cond, List, length, get_or, ap, refl, sym, subst, ◌∙◌, ⊎_elim, pow-suc, arith}
 use Rattle.std.specs.List.{sum_by, range_with_len}
 use Rattle.std.specs.Int.{bit_at}
-use Rattle.std.proofs.lemmas.Bool.{cases_lt, cases_eq, lt-ltb, le-ltb}
+use Rattle.std.proofs.lemmas.Bool.{cases_lt}
+use Rattle.std.proofs.lemmas.List.{length-map, get_or-map}
 use Rattle.std.proofs.lemmas.List.Sums.{sum_by_push}
-use Rattle.std.proofs.lemmas.Nat.Bits.{bit_at_cat_low, bit_at_cat_high, bit_at_above, bit_at-zero, same_from_bits}
+use Rattle.std.proofs.lemmas.Nat.Bits.{bit_at_cat_low, bit_at_cat_high, bit_at_above, same_from_bits}
 use Rattle.cell_base.specs.declared.cells.Cell.{Cell}
-use Rattle.cell_base.specs.Stages.{Stage}
+use Rattle.cell_base.specs.Stages.{Stage, stage, stages}
+use Rattle.cell_base.specs.Numbers.{IsNumber, stage_numbered}
 use Rattle.cell_base.specs.Masks.{has_bit}
-use Rattle.cell_base.specs.Neighborhoods.{leads, mask_of}
+use Rattle.cell_base.specs.Neighborhoods.{leads, mask_of, masks_of}
 use Rattle.cell_base.specs.Fits.{CellFits}
 use Rattle.cell_base.proofs.Bits.{bit_at-number}
 use Rattle.policy_laws.specs.Laws.{MaskLaw}
@@ -56,9 +58,9 @@ with_bit test n m false e so_far = record {
       let none : m + 0 ≡ m = omega arith in
       ap (λ a. has_bit a r) none
       ∙ ⊎_elim
-          (λ (low : r < n). so_far.bits r low)
-          (λ (high : n ≤ r). let same : r ≡ n = omega arith in rw same (has_bit-above n m n so_far.small (omega arith) ∙ sym e))
-          (cases_lt r n);
+      (λ (low : r < n). so_far.bits r low)
+      (λ (high : n ≤ r). let same : r ≡ n = omega arith in rw same (has_bit-above n m n so_far.small (omega arith) ∙ sym e))
+      (cases_lt r n);
 }
 
 are_bits : (test : ℕ → Bool) (n : ℕ) → AreBits test n (bits_below test n)
@@ -67,6 +69,13 @@ are_bits test (suc n) =
     let next : suc n ≡ n + 1 = omega arith in
     subst (AreBits test (suc n)) (sym (ap (bits_below test) next ∙ bits_below-next test n))
     (with_bit test n (bits_below test n) (test n) refl (are_bits test n))
+
+-- the masks of all stages, by the numbers of the stages
+pub length-masks_of : (cell : Cell) → length (masks_of cell) ≡ length (stages cell)
+length-masks_of cell = length-map (stages cell) (mask_of cell)
+
+pub mask_at_number : (cell : Cell) (n : ℕ) → IsNumber cell n → get_or (masks_of cell) n 0 ≡ mask_of cell (stage_numbered cell n)
+mask_at_number cell n within = get_or-map (mask_of cell) (stages cell) n (stage 0 0) 0 within
 
 module _ (cell : Cell) (fits : CellFits cell) where
   pub mask_law : MaskLaw cell
@@ -87,3 +96,10 @@ module _ (cell : Cell) (fits : CellFits cell) where
   mask_from_bits s mask bits =
       same_from_bits mask (mask_of cell s)
       (λ r. bit_at-number mask r ∙ ap (λ b. cond b 1 0) (bits r ∙ sym (mask_law s r)) ∙ sym (bit_at-number (mask_of cell s) r))
+
+  pub bit_at_number : (masks : List ℕ) → masks ≡ masks_of cell → (n r : ℕ) → IsNumber cell n
+      → has_bit (get_or masks n 0) r ≡ leads cell (stage_numbered cell n) r
+  bit_at_number masks made n r within =
+      ap (λ (ms : List ℕ). has_bit (get_or ms n 0) r) made
+      ∙ ap (λ mask. has_bit mask r) (mask_at_number cell n within)
+      ∙ mask_law (stage_numbered cell n) r

@@ -1,9 +1,9 @@
 -- Each stage has one number: the stages of a type stand behind those of the types before it, in the order of their places.
-use Rattle.std.proofs.Common.{◌≡◌, ℕ, zero, suc, ◌+◌, ◌-◌, ◌<◌, ◌≤◌, List, [], length, get_or, map, Some, slice_get, take, refl, ap, sym, ◌∙◌, subst, ⊎_elim, arith}
-use Rattle.std.specs.List.{range_with_len, flat_map, sum_by}
+use Rattle.std.proofs.Common.{◌≡◌, ℕ, zero, suc, ◌+◌, ◌-◌, ◌<◌, ◌≤◌, List, [], length, get_or, refl, ap, sym, ◌∙◌, subst, ⊎_elim, arith}
+use Rattle.std.specs.List.{range_with_len, flat_map}
 use Rattle.std.specs.Option.{option_map_or}
-use Rattle.std.proofs.lemmas.Bool.{cases_lt, cases_eq}
-use Rattle.std.proofs.lemmas.List.{length-append, get_or_append_left, get_or-append_right, take_all}
+use Rattle.std.proofs.lemmas.Bool.{cases_lt}
+use Rattle.std.proofs.lemmas.List.{length-append, get_or_append_left, get_or-append_right}
 use Rattle.std.proofs.lemmas.List.Sums.{sum_by_more}
 use Rattle.std.proofs.lemmas.List.FromFn.{length-map-range_with_len, get_or-map-range_with_len}
 use Rattle.std.proofs.lemmas.Option.{slice_get-get_or}
@@ -41,8 +41,8 @@ module _ (cell : Cell) where
   first_number-rises low (suc high) le within =
       ⊎_elim
       (λ (h : low < suc high).
-        let next : suc high ≡ high + 1 = omega arith in
-        omega (arith, first_number-rises low high (omega arith) (omega arith), first_number-next high (omega arith), ap (first_number cell) next))
+      let next : suc high ≡ high + 1 = omega arith in
+      omega (arith, first_number-rises low high (omega arith) (omega arith), first_number-next high (omega arith), ap (first_number cell) next))
       (λ (h : suc high ≤ low). let same : low ≡ suc high = omega arith in omega (arith, ap (first_number cell) same))
       (cases_lt low (suc high))
 
@@ -75,14 +75,14 @@ module _ (cell : Cell) where
       subst (IsNumbered cell n) (sym joined)
       (⊎_elim
       (λ (h : n < first_number cell kind).
-        subst (IsNumbered cell n) (sym (get_or_append_left (stages_before kind) (stages_of cell kind) (stage 0 0) n (omega arith)))
-        (numbered_before kind (omega arith) n h))
+      subst (IsNumbered cell n) (sym (get_or_append_left (stages_before kind) (stages_of cell kind) (stage 0 0) n (omega arith)))
+      (numbered_before kind (omega arith) n h))
       (λ (h : first_number cell kind ≤ n).
-        let place = n - first_number cell kind in
-        let inside : place < length (route_of cell kind) = omega (arith, ap (first_number cell) next) in
-        let read = get_or-append_right (stages_before kind) (stages_of cell kind) (first_number cell kind) n (stage 0 0) long h
-            ∙ get_or-map-range_with_len (stage kind) 0 (length (route_of cell kind)) place place (stage 0 0) inside (omega arith) in
-        subst (IsNumbered cell n) (sym read) (record { standing = inside; number = omega arith }))
+      let place = n - first_number cell kind in
+      let inside : place < length (route_of cell kind) = omega (arith, ap (first_number cell) next) in
+      let read = get_or-append_right (stages_before kind) (stages_of cell kind) (first_number cell kind) n (stage 0 0) long h
+      ∙ get_or-map-range_with_len (stage kind) 0 (length (route_of cell kind)) place place (stage 0 0) inside (omega arith) in
+      subst (IsNumbered cell n) (sym read) (record { standing = inside; number = omega arith }))
       (cases_lt n (first_number cell kind)))
 
   pub length-stages : length (stages cell) ≡ first_number cell (length cell.types)
@@ -112,12 +112,12 @@ module _ (cell : Cell) where
   pub one_stage : (s t : Stage) → IsStage cell s → IsStage cell t → number_of cell s ≡ number_of cell t → s ≡ t
   one_stage s t standing other same =
       let kind : s.kind ≡ t.kind = ⊎_elim
-          (λ (h : s.kind < t.kind). absurd (omega (arith, lesser_type s t standing other h)))
-          (λ (h : t.kind ≤ s.kind). ⊎_elim
-            (λ (g : t.kind < s.kind). absurd (omega (arith, lesser_type t s other standing g)))
-            (λ (g : s.kind ≤ t.kind). omega arith)
-            (cases_lt t.kind s.kind))
-          (cases_lt s.kind t.kind) in
+      (λ (h : s.kind < t.kind). absurd (omega (arith, lesser_type s t standing other h)))
+      (λ (h : t.kind ≤ s.kind). ⊎_elim
+      (λ (g : t.kind < s.kind). absurd (omega (arith, lesser_type t s other standing g)))
+      (λ (g : s.kind ≤ t.kind). omega arith)
+      (cases_lt t.kind s.kind))
+      (cases_lt s.kind t.kind) in
       same_stage s t kind (omega (arith, ap (first_number cell) kind))
 
   -- a later stage of the same type has a greater number

@@ -1,11 +1,10 @@
 -- The steps that a part needs which is done at a stage, from those at the stage behind it by branch 0.
-use Rattle.std.proofs.Common.{◌≡◌, ℕ, zero, suc, ◌+◌, ◌*◌, ◌<◌, ◌≤◌, ◌≢◌, true, false, Bool, cond, List, [], ◌∷◌, length, drop, length-drop, set, get_or, get_or-set_same, get_or-set_other, Option, Some, None, ⊎_elim, refl, ap, ◌∙◌, sym, arith}
-use Rattle.std.specs.List.{All, sum_by}
+use Rattle.std.proofs.Common.{◌≡◌, ℕ, zero, suc, ◌+◌, ◌*◌, ◌<◌, ◌≤◌, ◌≢◌, true, false, Bool, cond, List, [], ◌∷◌, length, drop, length-drop, set, get_or, get_or-set_same, get_or-set_other, Option, Some, None, ⊎_elim, refl, ◌∙◌, arith}
 use Rattle.std.specs.Option.{option_map_or}
 use Rattle.std.proofs.lemmas.Bool.{cases_eq}
 use Rattle.std.proofs.lemmas.List.Sums.{sum_by-le}
 use Rattle.cell_base.specs.declared.cells.Cell.{Cell}
-use Rattle.cell_base.specs.Stages.{Stage, stage, IsStage, route_of, places_left, successor, path_within, first_branch_path, works_at}
+use Rattle.cell_base.specs.Stages.{Stage, stage, IsStage, places_left, successor, path_within, first_branch_path, works_at}
 use Rattle.cell_base.specs.Plans.{work_at, work_from}
 use Rattle.cell_base.specs.Fits.{CellFits}
 use Rattle.policy_laws.proofs.Work.{first_branch_path-next, work_behind-next}

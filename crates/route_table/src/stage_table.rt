@@ -79,14 +79,16 @@ impl StageTable {
     pub fn stage_of(&self, kind: TypeId, place: u16) -> Option<StageNo>
         ensures { SomeIff result (IsStage self.now (stage kind.0 place)) (record { 0 = number_of self.now (stage kind.0 place) }) }
     {
-        if u64::from(kind.0) >= self.cell.types.len() || u64::from(place) >= self.cell.places(kind) {
+        if u64::from(kind.0) >= self.cell.types.len()
+            || u64::from(place) >= self.cell.places(kind)
+        {
             return None;
         }
         Some(self.number(kind, place))
     }
 
-    /// The number of the stage at a place of a type.
-    fn number(&self, kind: TypeId, place: u16) -> StageNo
+    /// The stage at a place of a type, where the route is known to have such a place.
+    pub fn number(&self, kind: TypeId, place: u16) -> StageNo
         requires { IsStage self.now (stage kind.0 place) }
         ensures { result.0 ≡ number_of self.now (stage kind.0 place) }
     {

@@ -1,5 +1,5 @@
 -- The masks by the numbers of the stages, and the neighborhoods that they tell of.
-use Rattle.std.proofs.Common.{◌≡◌, ℕ, zero, suc, ◌+◌, ◌<◌, ◌≤◌, ◌≢◌, Bool, true, false, cond, List, [], ◌∷◌, ◌++◌, length, map, get_or, set, get_or-set_same, get_or-set_other, ap, subst, refl, sym, ◌∙◌, ⊎_elim, arith}
+use Rattle.std.proofs.Common.{◌≡◌, ℕ, zero, suc, ◌+◌, ◌<◌, ◌≤◌, ◌≢◌, Bool, true, false, cond, List, [], ◌∷◌, ◌++◌, length, map, get_or, set, get_or-set_same, get_or-set_other, ap, refl, sym, ◌∙◌, ⊎_elim, arith}
 use Rattle.std.specs.List.{filter, range_with_len}
 use Rattle.std.proofs.lemmas.Bool.{cases_eq}
 use Rattle.std.proofs.lemmas.List.{length-map, get_or-map, map-append, ext_get_or}
@@ -7,25 +7,18 @@ use Rattle.std.proofs.lemmas.List.Elements.{filter-append}
 use Rattle.std.proofs.lemmas.List.FromFn.{fill_by_all, filter_of_map_range_with_len_more}
 use Rattle.cell_base.specs.declared.cells.Cell.{Cell}
 use Rattle.cell_base.specs.Masks.{has_bit}
-use Rattle.cell_base.specs.Stages.{Stage, stage, IsStage, stages}
-use Rattle.cell_base.specs.Numbers.{IsNumber, number_of, stage_numbered}
+use Rattle.cell_base.specs.Stages.{stage, stages}
+use Rattle.cell_base.specs.Numbers.{IsNumber, stage_numbered}
 use Rattle.cell_base.specs.Neighborhoods.{leads, mask_of, masks_of, neighborhood}
 use Rattle.cell_base.specs.Fits.{CellFits}
 use Rattle.policy_laws.proofs.Growing.{numbers_more}
 use Rattle.policy_laws.proofs.Numbering.{numbering_law}
-use Rattle.policy_laws.proofs.Masks.{mask_law}
+use Rattle.policy_laws.proofs.Masks.{length-masks_of, bit_at_number}
 use Rattle.route_table.specs.declared.stage_table.StageNo.{StageNo}
 use Rattle.upstream_sets.specs.Members.{stage_no, with_bit_before, with_bit}
 use Rattle.upstream_sets.specs.Sweeps.{KnowsMasks}
 
 module _ (cell : Cell) where
-  pub length-masks : (masks : List ℕ) → masks ≡ masks_of cell → length masks ≡ length (stages cell)
-  length-masks masks made = ap length made ∙ length-map (stages cell) (mask_of cell)
-
-  pub mask_at_number : (masks : List ℕ) → masks ≡ masks_of cell → KnowsMasks cell 0 masks
-  mask_at_number masks made n from within =
-      ap (λ ms. get_or ms n 0) made ∙ get_or-map (mask_of cell) (stages cell) n (stage 0 0) 0 within
-
   -- masks that are known from the first on are all masks
   pub masks_whole : (masks : List ℕ) → length masks ≡ length (stages cell) → KnowsMasks cell 0 masks → masks ≡ masks_of cell
   masks_whole masks long known =
@@ -41,11 +34,6 @@ module _ (cell : Cell) where
       (λ (here : n ≡ at). rw here (get_or-set_same masks at mask 0 within ∙ is))
       (λ (other : n ≢ at). get_or-set_other masks at n mask 0 other ∙ known n (omega arith) inside)
       (cases_eq n at)
-
-  pub bit_at_number : CellFits cell → (masks : List ℕ) → masks ≡ masks_of cell → (n r : ℕ) → IsNumber cell n
-      → has_bit (get_or masks n 0) r ≡ leads cell (stage_numbered cell n) r
-  bit_at_number fits masks made n r within =
-      ap (λ mask. has_bit mask r) (mask_at_number masks made n (omega arith) within) ∙ mask_law cell fits (stage_numbered cell n) r
 
   -- the stages are those of the numbers from 0
   all_stages : stages cell ≡ map (stage_numbered cell) (range_with_len 0 (length (stages cell)))
@@ -94,12 +82,12 @@ module _ (cell : Cell) (fits : CellFits cell) (masks : List ℕ) (made : masks �
       ∙ ap (λ ks. ks ++ cond (has_bit (get_or masks n 0) r) (of_number n ∷ []) []) (same_before n (omega arith))
       ∙ ap (λ b. members_before n ++ cond b (of_number n ∷ []) []) (bit_at_number cell fits masks made n r number)
       ∙ ap (λ k. members_before n ++ cond (leads cell (stage_numbered cell n) r) (of_number k ∷ []) [])
-          (sym ((numbering_law cell).counted n number))
+      (sym ((numbering_law cell).counted n number))
       ∙ sym (members_before-next n)
       ∙ sym (ap members_before next)
 
   pub members_are : with_bit masks r ≡ map (stage_no cell) (neighborhood cell r)
   members_are =
-      ap (λ n. with_bit_before n masks r) (length-masks cell masks made)
+      ap (λ n. with_bit_before n masks r) (ap length made ∙ length-masks_of cell)
       ∙ same_before (length (stages cell)) (omega arith)
       ∙ ap (λ ss. map (stage_no cell) (filter (λ s. leads cell s r) ss)) (sym (all_stages cell))

@@ -2,7 +2,7 @@
 use Rattle.std.proofs.Common.{sym, ◌∙◌}
 use Rattle.cell_base.specs.Numbers.{stage_numbered}
 use Rattle.policy_laws.proofs.Steps.{down_law as law}
-use Rattle.upstream_sets.proofs.Stages.{bit_at_number}
+use Rattle.policy_laws.proofs.Masks.{bit_at_number}
 use Rattle.upstream_sets.proofs.laws.down_law.Goals as goal
 
 pub returns : goal.returns

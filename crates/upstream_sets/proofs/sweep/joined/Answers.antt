@@ -1,5 +1,5 @@
 -- One successor more.
-use Rattle.std.proofs.Common.{◌≡◌, ◌||◌, ◌<◌, length, take, get_or, ap, sym, ◌∙◌, arith}
+use Rattle.std.proofs.Common.{◌||◌, ◌<◌, length, take, get_or, ap, sym, ◌∙◌, arith}
 use Rattle.std.specs.List.{list_any}
 use Rattle.std.proofs.lemmas.List.Folds.{list_any_more}
 use Rattle.std.proofs.lemmas.Option.{slice_get-get_or}

@@ -1,6 +1,6 @@
 -- The mask is as the sweep law says.
-use Rattle.std.proofs.Common.{◌≡◌, ◌<◌, get_or, ap, subst, sym, ◌∙◌, arith}
-use Rattle.cell_base.specs.Stages.{order_of, order_at}
+use Rattle.std.proofs.Common.{get_or, ap, subst, arith}
+use Rattle.cell_base.specs.Stages.{order_of}
 use Rattle.cell_base.specs.Numbers.{stage_numbered}
 use Rattle.policy_laws.proofs.Numbering.{numbering_law}
 use Rattle.upstream_sets.specs.Sweeps.{IsFloor}

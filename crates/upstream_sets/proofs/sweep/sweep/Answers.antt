@@ -1,6 +1,5 @@
 -- The masks that are known from the first stage on are all.
-use Rattle.std.proofs.Common.{arith, subst}
-use Rattle.upstream_sets.specs.Sweeps.{KnowsMasks}
+use Rattle.std.proofs.Common.{arith}
 use Rattle.upstream_sets.proofs.Stages.{masks_whole}
 use Rattle.upstream_sets.proofs.sweep.sweep.Goals as goal
 

@@ -1,7 +1,6 @@
 -- One mask more.
-use Rattle.std.proofs.Common.{◌≡◌, ◌+◌, Bool, true, false, cond, List, [], ◌∷◌, ◌++◌, get_or, ap, sym, ◌∙◌}
+use Rattle.std.proofs.Common.{◌≡◌, ◌+◌, Bool, true, false, cond, List, [], ◌∷◌, ◌++◌, ap, sym, ◌∙◌}
 use Rattle.std.proofs.lemmas.List.{append-nil}
-use Rattle.cell_base.specs.Masks.{has_bit}
 use Rattle.route_table.specs.declared.stage_table.StageNo.{StageNo}
 use Rattle.upstream_sets.specs.Members.{with_bit_before}
 use Rattle.upstream_sets.proofs.Stages.{of_number, with_bit_before-next}

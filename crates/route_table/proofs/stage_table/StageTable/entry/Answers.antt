@@ -1,5 +1,4 @@
 -- The stage of a number is a stage.
-use Rattle.std.proofs.Common.{◌≡◌, ◌<◌, ◌≤◌, length, sym, ◌∙◌, ap, subst, arith}
 use Rattle.policy_laws.proofs.Numbering.{stage_at}
 use Rattle.route_table.proofs.stage_table.StageTable.entry.Goals as goal
 

@@ -27,8 +27,7 @@ loop-kind-preserved c =
     let kind = c.loop-kind.kind in
     let within : kind ≤ length cell.types = omega arith in
     let first : c.len.result ≡ first_number cell kind =
-        c.len.ensures ∙ ap length c.loop-kind.invariant.1 ∙ length-entries_before cell kind within in
-    (
+    c.len.ensures ∙ ap length c.loop-kind.invariant.1 ∙ length-entries_before cell kind within in (
       c.in_ok-try_push.ensures.ok ∙ ap (λ firsts. firsts ++ c.len.result ∷ []) c.loop-kind.invariant.0
           ∙ ap (λ n. first_numbers cell kind ++ n ∷ []) first ∙ sym (first_numbers-next cell kind),
       c.in_ok-push_route.ensures ∙ ap (λ entries. entries ++ map (entry_of cell) (stages_of cell kind)) c.loop-kind.invariant.1

@@ -1,7 +1,6 @@
 -- The successor is a later stage of the same type.
-use Rattle.std.proofs.Common.{◌≡◌, Some, ap, sym, ◌∙◌, subst, refl, arith}
-use Rattle.cell_base.specs.declared.cells.Cell.{Cell}
-use Rattle.cell_base.specs.Stages.{Stage, stage, IsStage, successor}
+use Rattle.std.proofs.Common.{◌≡◌, Some, ap, ◌∙◌, subst, refl, arith}
+use Rattle.cell_base.specs.Stages.{stage, IsStage, successor}
 use Rattle.route_table.specs.declared.entries.Entry.{Entry}
 use Rattle.cell_base.specs.Numbers.{number_of, stage_numbered}
 use Rattle.policy_laws.proofs.Numbering.{numbering_law, number_within, later_number}
