@@ -1,5 +1,5 @@
 //! Standard output, or another writer, as a sink.
-ghost use Rattle.std.specs.Prelude.{None};
+ghost use Rattle.std.specs.Prelude.{None, ⊤};
 
 use outside_io::{Failed, Sink};
 use std::io::Write;
@@ -21,6 +21,8 @@ impl<W: Write> OutSink<W> {
 
 impl<W: Write> Sink for OutSink<W> {
     ghost taken = { λ _. None };
+
+    ghost was_put = { λ _ _ _. ⊤ };
 
     ghost faults = { λ sink. sink.faults };
 
