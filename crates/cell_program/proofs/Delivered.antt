@@ -1,5 +1,5 @@
 -- Lines that a sink takes in turn, and fails to take one of.
-use Rattle.std.proofs.Common.{◌≡◌, ℕ, ◌+◌, ◌<◌, List, [], ◌∷◌, ◌++◌, length, map, take, drop, get_or, Option, subst, sym, ap, ◌∙◌, add-one, drop-cons, refl, take-append-drop}
+use Rattle.std.proofs.Common.{◌≡◌, ℕ, ◌+◌, ◌<◌, List, [], ◌∷◌, ◌++◌, length, take, drop, get_or, Option, subst, sym, ap, ◌∙◌, add-one, drop-cons, refl, take-append-drop}
 use Rattle.std.proofs.lemmas.List.{map-append, take_more}
 use Rattle.outside_io.specs.Puts.{SinkTold, sink_told, TookAll, TookSome}
 use Rattle.outside_io.specs.PutLaws.{took_more, failed_before, failed_behind}

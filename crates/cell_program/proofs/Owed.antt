@@ -1,6 +1,5 @@
 -- How the outcomes of `solo` come about.
 use Rattle.std.proofs.Common.{◌≡◌, ℕ, List, [], ◌∷◌, length, Option, Ok, refl, sym, subst, ap, ◌∙◌}
-use Rattle.outside_io.specs.Causes.{Rose}
 use Rattle.outside_io.specs.Files.{Names}
 use Rattle.cell_base.specs.declared.cells.Cell.{Cell}
 use Rattle.cell_base.specs.declared.requests.Part.{Part}
@@ -9,14 +8,13 @@ use Rattle.cell_file.specs.Walk.{cell_of}
 use Rattle.shift_file.specs.Walk.{shift_of}
 use Rattle.cell_program.specs.CellEnds.{cell_end}
 use Rattle.cell_program.specs.ShiftEnds.{shift_end}
-use Rattle.cell_program.specs.Commands.{Task, Nothing, Comes, AfterFile, FileFailed, FileRefused, FileRead, OwesSolo}
+use Rattle.cell_program.specs.Commands.{Task, Nothing, Comes, FileFailed, FileRefused, FileRead, OwesSolo}
 use Rattle.cell_program.specs.Ends.{MayCome, IsOwed, MemoryWanted, IsDelivered, Ends}
-use Rattle.cell_program.specs.Reading.{IsUnread, ByFault, ByMemory, EndsEarly, Unread, Refused}
+use Rattle.cell_program.specs.Reading.{ByFault, ByMemory, EndsEarly, Unread, Refused}
 use Rattle.cell_program.specs.Runs.{IsSoloRun, IsSoloRecord, record_of, lines_of_run}
-use Rattle.cell_program.specs.Texts.{Outcome, done, usage, usage_text, early_outcome}
+use Rattle.cell_program.specs.Texts.{done, usage, usage_text, early_outcome}
 use Rattle.cell_program.specs.Told.{Told, IsMadeOfFile}
 use Rattle.cell_program.specs.declared.early.Early.{Early}
-use Rattle.cell_program.specs.declared.early.Early.TheVariants.{Memory}
 use Rattle.cell_program.specs.declared.solo.SoloRun.{SoloRun}
 
 -- the lines of a run are those of its shift

@@ -1,5 +1,5 @@
 -- What the files hold decides which file is refused, and by which fault.
-use Rattle.std.proofs.Common.{◌≡◌, ◌⊎◌, inl, inr, ℕ, List, Option, Some, None, IsSomeAnd, Result, Ok, Err, sym, ◌∙◌, ap, subst}
+use Rattle.std.proofs.Common.{◌≡◌, ◌⊎◌, inl, inr, ℕ, List, Option, Some, None, IsSomeAnd, Result, Ok, Err, ◌∙◌, ap, subst}
 use Rattle.outside_io.specs.Files.{Names}
 use Rattle.outside_io.specs.Puts.{TookAll}
 use Rattle.cell_base.specs.declared.cells.Cell.{Cell}
@@ -11,7 +11,7 @@ use Rattle.shift_file.specs.Walk.{shift_of}
 use Rattle.cell_program.specs.CellEnds.{cell_end}
 use Rattle.cell_program.specs.ShiftEnds.{shift_end}
 use Rattle.cell_program.specs.Commands.{Task, Nothing, Solo, Comes, AfterFile, OwesSolo, FileFailed, FileRefused, FileRead, HoldsBadCell, HoldsBadShift, IsAnswered, IsDone, TakesAll}
-use Rattle.cell_program.specs.Ends.{MayCome, IsOwed, MemoryWanted, Whole, SinkFailed, Ends}
+use Rattle.cell_program.specs.Ends.{IsOwed, MemoryWanted, Whole, SinkFailed, Ends}
 use Rattle.cell_program.specs.Texts.{Outcome, early_outcome}
 use Rattle.cell_program.specs.Told.{Told, IsMadeOfFile}
 use Rattle.cell_program.specs.declared.early.Early.{Early}

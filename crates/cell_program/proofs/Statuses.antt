@@ -1,23 +1,19 @@
 -- What the status of an end tells, by cases of how its outcome came about.
-use Rattle.std.proofs.Common.{◌≡◌, ◌⊎◌, inl, inr, ℕ, ◌+◌, List, [], ◌∷◌, ◌++◌, length, take, Ok, Err, sym, ◌∙◌, ap, subst, refl, arith}
+use Rattle.std.proofs.Common.{◌≡◌, ◌⊎◌, inl, inr, ℕ, ◌+◌, [], ◌∷◌, ◌++◌, length, take, sym, ◌∙◌, ap, subst, refl, arith}
 use Rattle.std.proofs.Math.Seq.{take-append-add}
 use Rattle.outside_io.specs.Causes.{Rose}
 use Rattle.outside_io.specs.Puts.{TookAll, TookSome}
 use Rattle.outside_io.specs.PutLaws.{some_is_prefix}
-use Rattle.cell_base.specs.declared.cells.Cell.{Cell}
-use Rattle.cell_base.specs.declared.shifts.Shift.{Shift}
 use Rattle.cell_file.specs.declared.faults.CellFault.{CellFault}
 use Rattle.cell_file.specs.declared.faults.CellFault.TheVariants.{NotToml, WrongKey, WrongKind, BadName, BadNumber, Repeated, UnknownName, TooMany, Empty, MixedOrders, TooManyUnits, Memory}
 use Rattle.shift_file.specs.declared.faults.ShiftFault.{ShiftFault}
 use Rattle.shift_file.specs.declared.faults.ShiftFault.TheVariants.{NotToml as ShiftNotToml, WrongKey as ShiftWrongKey, WrongKind as ShiftWrongKind, BadStep, BadNumber as ShiftBadNumber, UnknownName as ShiftUnknownName, Empty as ShiftEmpty, TooMany as ShiftTooMany, TooLong, TooManyAsks, Memory as ShiftMemory}
-use Rattle.cell_file.specs.Walk.{cell_of}
-use Rattle.shift_file.specs.Walk.{shift_of}
 use Rattle.cell_program.specs.CellEnds.{cell_end}
 use Rattle.cell_program.specs.ShiftEnds.{shift_end}
 use Rattle.cell_program.specs.Commands.{Task, Nothing, Solo, Comes, AreThere, OwesSolo, FileFailed, FileRefused, FileRead, IsAccepted, IsCellRefused, IsPrinted, IsShiftRefused, ReadsAll, files_of}
-use Rattle.cell_program.specs.Ends.{MayCome, IsOwed, MemoryWanted, Whole, SinkFailed, Ends, PutsLines}
+use Rattle.cell_program.specs.Ends.{IsOwed, MemoryWanted, Whole, SinkFailed, Ends, PutsLines}
 use Rattle.cell_program.specs.Texts.{Outcome, early_outcome}
-use Rattle.cell_program.specs.Told.{Told, IsMadeOfFile}
+use Rattle.cell_program.specs.Told.{Told}
 
 -- what each status of an outcome tells
 record Tells (told : Told) (task : Task) (outcome : Outcome) : Type 0 where

@@ -1,5 +1,5 @@
 -- How a call of the program may end.
-use Rattle.std.specs.Prelude.{◌≡◌, ℕ, List, take}
+use Rattle.std.specs.Prelude.{◌≡◌, ℕ, take}
 use Rattle.std.specs.List.{concat}
 use Rattle.outside_io.specs.Causes.{Rose}
 use Rattle.outside_io.specs.Puts.{SinkTold, TookAll, TookSome}
