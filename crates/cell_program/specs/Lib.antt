@@ -1,8 +1,9 @@
 pub mod CellEnds
 pub mod Commands
 pub mod Ends
-pub mod Runs
+pub mod OutSink
 pub mod Reading
+pub mod Runs
 pub mod ShiftEnds
 pub mod Texts
 pub mod Told

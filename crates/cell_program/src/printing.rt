@@ -1,11 +1,10 @@
 //! Lines on their way to the sink, each one `put`.
-ghost use Rattle.std.specs.Prelude.{OnOk, OnErr};
+ghost use Rattle.std.specs.Prelude.{[], ◌∷◌, OnOk, OnErr};
 ghost use Rattle.std.specs.List.{All};
-ghost use Rattle.std.specs.Io.KnownBytes.{Appends};
 ghost use Rattle.outside_io.specs.Causes.{HasCause};
-ghost use Rattle.outside_io.specs.Sink.{AppendsPrefix};
+ghost use Rattle.outside_io.specs.Puts.{TookAll, TookSome, sink_told};
 ghost use Rattle.record_text.specs.Fitting.{EntryFits};
-ghost use Rattle.record_text.specs.Records.{text_of_entries};
+ghost use Rattle.cell_program.specs.Runs.{entry_lines};
 
 use cell_base::{Cell, Entry};
 use outside_io::{Failed, Sink};
@@ -13,8 +12,8 @@ use record_text::{Line, line_of};
 
 /// Puts one line.
 pub fn print_line<K: Sink>(out: &mut K, line: &Line) -> Result<(), Failed>
-    ensures whole { OnOk result (Appends (K.taken out.old) (K.taken out.new) line.now) }
-    ensures part { OnErr result (AppendsPrefix (K.taken out.old) (K.taken out.new) line.now) }
+    ensures whole { OnOk result (TookAll (sink_told K.taken K.was_put K.faults out.old out.new) (line.now ∷ [])) }
+    ensures part { OnErr result (TookSome (sink_told K.taken K.was_put K.faults out.old out.new) (line.now ∷ [])) }
     ensures cause { HasCause (K.faults out.old) (K.faults out.new) result }
 {
     out.put(line.bytes())
@@ -24,9 +23,9 @@ pub fn print_line<K: Sink>(out: &mut K, line: &Line) -> Result<(), Failed>
 pub fn print_entries<K: Sink>(out: &mut K, cell: &Cell, entries: &[Entry]) -> Result<(), Failed>
     requires { All (EntryFits cell.now) entries.now }
     ensures whole { OnOk result
-        (Appends (K.taken out.old) (K.taken out.new) (text_of_entries cell.now entries.now)) }
+        (TookAll (sink_told K.taken K.was_put K.faults out.old out.new) (entry_lines cell.now entries.now)) }
     ensures part { OnErr result
-        (AppendsPrefix (K.taken out.old) (K.taken out.new) (text_of_entries cell.now entries.now)) }
+        (TookSome (sink_told K.taken K.was_put K.faults out.old out.new) (entry_lines cell.now entries.now)) }
     ensures cause { HasCause (K.faults out.old) (K.faults out.new) result }
 {
     for entry in entries {
