@@ -110,7 +110,8 @@ numbered_more cell n (first ∷ blocks) block are is = (
       (omega (arith, is, length-append (block_lines cell first) (lines_of cell blocks), length-block cell first)),
 )
 
-pub lines_more : (cell : Cell) (blocks : List Block) (block : Block) → lines_of cell (blocks ++ block ∷ []) ≡ lines_of cell blocks ++ block_lines cell block
+pub lines_more : (cell : Cell) (blocks : List Block) (block : Block)
+    → lines_of cell (blocks ++ block ∷ []) ≡ lines_of cell blocks ++ block_lines cell block
 lines_more cell blocks block =
     flat_map-append (block_lines cell) blocks (block ∷ []) ∙ ap (λ xs. lines_of cell blocks ++ xs) (append-nil (block_lines cell block))
 

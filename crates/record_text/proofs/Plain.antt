@@ -141,7 +141,8 @@ plain_plan n small = (key (codes "plan") refl, (plain_decimal n small, tt))
 -- ---- joined words
 
 lacks_space : (word : List ℕ) → IsPlain word → IsWord word
-lacks_space word plain = All-weaker IsPrinted (λ b. is_space b ≡ false) (λ b printed. ne_eqb b 32 (λ e. omega (arith, printed, e))) word plain
+lacks_space word plain = All-weaker IsPrinted (λ b. is_space b ≡ false)
+    (λ b printed. ne_eqb b 32 (λ e. omega (arith, printed, e))) word plain
 
 lacks_newline : (word : List ℕ) → IsPlain word → IsLine word
 lacks_newline word plain =

@@ -122,7 +122,8 @@ module _ (cell : Cell) (fits : CellFits cell) (told : Told) (known : ToldFits ce
   by_two verb word request is = rw (is, told_again) refl
 
   -- a step of three words, whose first two are no request of which the third one tells
-  by_three : (verb word last : List ℕ) (request : Request) → told_behind cell (two_at cell (verb ∷ word ∷ last ∷ told_words cell told)) ≡ None
+  by_three : (verb word last : List ℕ) (request : Request) → told_behind cell (two_at cell (verb ∷ word ∷ last ∷ told_words cell told))
+      ≡ None
       → step_of_three cell verb word last ≡ Ok request → asked_at cell (verb ∷ word ∷ last ∷ told_words cell told) ≡ Some (request, told)
   unfolding asked_at three_at told_behind
   by_three verb word last request none is = rw (none, is, told_again) refl
@@ -158,7 +159,8 @@ module _ (cell : Cell) (fits : CellFits cell) (told : Told) (known : ToldFits ce
   asked_at-complete : (request : Request) → RequestFits cell request → job_number request < 2 ^ 32
       → asked_at cell (request_words cell request ++ told_words cell told) ≡ Some (request, told)
   asked_at-complete (Load job kind) asked small =
-      by_three (codes "load") (decimal job.0) (type_name cell kind.0) (Load job kind) (no_load_of_two (decimal job.0) (type_name cell kind.0))
+      by_three (codes "load") (decimal job.0) (type_name cell kind.0) (Load job kind)
+      (no_load_of_two (decimal job.0) (type_name cell kind.0))
       (request_again cell fits (Load job kind) asked small)
   asked_at-complete (Process machine) asked small =
       by_two (codes "process") (resource_name cell machine.0) (Process machine) (request_again cell fits (Process machine) asked small)
@@ -172,7 +174,8 @@ pub entry_at-complete : (cell : Cell) → CellFits cell → (entry : Entry) → 
 unfolding entry_at
 entry_at-complete cell fits entry written =
     rw (
-      number_at-complete 0 65535 entry.session (request_words cell entry.request ++ told_words cell entry.told) (lit< tt) (omega arith) (omega (arith, written.session)),
+      number_at-complete 0 65535 entry.session (request_words cell entry.request ++ told_words cell entry.told) (lit< tt) (omega arith)
+          (omega (arith, written.session)),
       asked_at-complete cell fits entry.told written.fits.told written.told entry.request written.fits.request written.job,
     ) refl
 
@@ -191,7 +194,9 @@ head_at-sound ws r is =
     let counted = number_at-sound 0 18446744073709551615 other.0 grants.0 (lit< tt) grants.1 in
     let end = ended-sound (shift.0.0, grants.0.0) r grants.0.1 grants.2 in
     subst (λ (r : ℕ × ℕ). (ws ≡ head_words r.0 r.1) × (r.0 < 2 ^ 32) × (r.1 < 2 ^ 64)) end.1 (
-      first ∙ ap (λ xs. codes "shift" ∷ xs) (number.0 ∙ ap (λ xs. decimal shift.0.0 ∷ xs) (second ∙ ap (λ xs. codes "after" ∷ xs) (counted.0 ∙ ap (λ xs. decimal grants.0.0 ∷ xs) end.0))),
+      first ∙ ap (λ xs. codes "shift" ∷ xs)
+          (number.0 ∙ ap (λ xs. decimal shift.0.0 ∷ xs)
+          (second ∙ ap (λ xs. codes "after" ∷ xs) (counted.0 ∙ ap (λ xs. decimal grants.0.0 ∷ xs) end.0))),
       omega (arith, number.2),
       omega (arith, counted.2),
     )
@@ -220,7 +225,10 @@ left_at-sound ws n is =
 pub left_at-complete : (n : ℕ) → n < 2 ^ 32 → left_at (left_words n) ≡ Some n
 unfolding left_at is_end
 left_at-complete n small =
-    rw (after_word-complete (codes "left") (decimal n ∷ []), number_at-complete 0 4294967295 n [] (lit< tt) (omega arith) (omega (arith, small))) refl
+    rw (
+      after_word-complete (codes "left") (decimal n ∷ []),
+      number_at-complete 0 4294967295 n [] (lit< tt) (omega arith) (omega (arith, small)),
+    ) refl
 
 pub plan_at-sound : (ws : Words) (n : ℕ) → plan_at ws ≡ Some n → (ws ≡ plan_words n) × (n < 2 ^ 64)
 unfolding plan_at
@@ -236,7 +244,10 @@ plan_at-sound ws n is =
 pub plan_at-complete : (n : ℕ) → n < 2 ^ 64 → plan_at (plan_words n) ≡ Some n
 unfolding plan_at is_end
 plan_at-complete n small =
-    rw (after_word-complete (codes "plan") (decimal n ∷ []), number_at-complete 0 18446744073709551615 n [] (lit< tt) (omega arith) (omega (arith, small))) refl
+    rw (
+      after_word-complete (codes "plan") (decimal n ∷ []),
+      number_at-complete 0 18446744073709551615 n [] (lit< tt) (omega arith) (omega (arith, small)),
+    ) refl
 
 -- ---- steps
 
