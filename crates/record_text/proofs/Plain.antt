@@ -1,5 +1,5 @@
 -- The words of the lines have neither spaces nor newlines.
-use Rattle.std.proofs.Common.{codes, ◌≡◌, ℕ, ◌<◌, ◌≤◌, ◌^◌, Bool, true, false, nat_lt, List, [], ◌∷◌, ◌++◌, get_or, refl, arith, lit<, ltb-true}
+use Rattle.std.proofs.Common.{codes, ◌≡◌, ℕ, ◌<◌, ◌^◌, Bool, true, false, nat_lt, List, [], ◌∷◌, ◌++◌, get_or, refl, arith, ltb-true}
 use Rattle.std.specs.Prelude.{if◌then◌else◌, IsTrue}
 use Rattle.std.specs.List.{All, list_all}
 use Rattle.std.specs.Fmt.{decimal}
@@ -22,7 +22,7 @@ use Rattle.cell_base.specs.declared.shifts.Entry.{Entry}
 use Rattle.cell_base.specs.Names.{IsName, is_name_byte}
 use Rattle.cell_base.specs.Fits.{CellFits, RequestFits}
 use Rattle.step_text.specs.Words.{is_space, words, joined}
-use Rattle.step_text.specs.Steps.{job_number, request_words, branch_words, done_word}
+use Rattle.step_text.specs.Steps.{job_number, request_words, done_word}
 use Rattle.step_text.proofs.Joined.{IsWord, words_again}
 use Rattle.step_text.proofs.Naming.{resource_named, type_named}
 use Rattle.record_text.specs.BadLines.{is_newline}

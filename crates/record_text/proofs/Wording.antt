@@ -1,11 +1,9 @@
 -- Lines as words, both ways.
-use Rattle.std.proofs.Common.{codes, ◌≡◌, ◌≢◌, ℕ, zero, suc, ◌<◌, ◌^◌, Bool, true, false, ◌==◌, ◌&&◌, ◌+◌, List, [], ◌∷◌, ◌++◌, Option, Some, None, Ok, refl, sym, ap, ◌∙◌, subst, inl, inr, arith, lit<}
+use Rattle.std.proofs.Common.{codes, ◌≡◌, ℕ, ◌<◌, ◌^◌, Bool, true, false, ◌==◌, ◌&&◌, ◌+◌, List, [], ◌∷◌, ◌++◌, Option, Some, None, Ok, refl, sym, ap, ◌∙◌, subst, inl, inr, arith, lit<}
 use Rattle.std.specs.Fmt.{decimal}
-use Rattle.std.specs.Option.{option_or}
 use Rattle.std.specs.Prelude.{if◌then◌else◌}
 use Rattle.std.specs.Result.{result_ok}
 use Rattle.std.specs.Str.{bytes_eq}
-use Rattle.std.proofs.lemmas.Bool.{eqb-true, eqb-false}
 use Rattle.std.proofs.lemmas.Fmt.{decimal_digit}
 use Rattle.std.proofs.lemmas.Option.{same_Some}
 use Rattle.cell_base.specs.declared.cells.Cell.{Cell}
@@ -14,23 +12,20 @@ use Rattle.cell_base.specs.declared.limits.TheConstants.{MAX_BRANCHES}
 use Rattle.cell_base.specs.declared.requests.JobId.{JobId}
 use Rattle.cell_base.specs.declared.requests.Request.{Request}
 use Rattle.cell_base.specs.declared.requests.Request.TheVariants.{Load, Process, Move, Unload, Place}
-use Rattle.cell_base.specs.declared.requests.Refusal.{Refusal}
-use Rattle.cell_base.specs.declared.requests.Reply.TheVariants.{Granted, Refused}
 use Rattle.cell_base.specs.declared.requests.Told.{Told}
-use Rattle.cell_base.specs.declared.requests.Told.TheVariants.{Answered, Halted}
 use Rattle.cell_base.specs.declared.shifts.Entry.{Entry}
 use Rattle.cell_base.specs.Fits.{CellFits, RequestFits}
 use Rattle.cell_base.specs.Named.{resource_name, type_name}
-use Rattle.step_text.specs.Steps.{IsStep, job_number, branch_words, request_words, step_of_two, step_of_three, step_of_words}
+use Rattle.step_text.specs.Steps.{job_number, request_words, step_of_two, step_of_three, step_of_words}
 use Rattle.step_text.proofs.Again.{move_again, request_again}
 use Rattle.step_text.proofs.Back.{words_back}
-use Rattle.record_text.specs.Fitting.{ToldFits, EntryFits}
+use Rattle.record_text.specs.Fitting.{ToldFits}
 use Rattle.record_text.specs.Ranges.{ToldInRange, EntryIsWritten, StepIsWritten}
 use Rattle.record_text.specs.Lines.{head_words, told_words, entry_words, left_words, plan_words}
-use Rattle.record_text.specs.Reading.{Words, ◌>>=◌, after_word, is_end, number_at, two_at, three_at, place_at, told_of, told_at, told_behind, asked_at, entry_at, head_at, left_at, plan_at, step_at}
+use Rattle.record_text.specs.Reading.{Words, after_word, is_end, number_at, two_at, three_at, place_at, told_of, told_at, told_behind, asked_at, entry_at, head_at, left_at, plan_at, step_at}
 use Rattle.record_text.proofs.Chains.{bind_some, or_some, ok_some}
 use Rattle.record_text.proofs.Requesting.{after_word-sound, after_word-complete, ended-sound, number_at-sound, number_at-complete, IsRead, two_at-sound, three_at-sound, place_at-sound, place_at-complete}
-use Rattle.record_text.proofs.Telling.{IsTold, told_at-sound, told_at-complete}
+use Rattle.record_text.proofs.Telling.{told_at-sound, told_at-complete}
 
 -- ---- entries
 
