@@ -1,0 +1,9 @@
+//! A part as it stands.
+use cell_base::{Part, ResId};
+
+/// A part and the resource on which it stands.
+#[derive(Clone, Copy, Debug, PartialEq, Eq)]
+pub struct Standing {
+    pub part: Part,
+    pub on: ResId,
+}
