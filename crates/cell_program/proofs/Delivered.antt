@@ -1,91 +1,105 @@
 -- Lines that a sink takes in turn, and fails to take one of.
-use Rattle.std.proofs.Common.{◌≡◌, ℕ, ◌+◌, ◌<◌, List, [], ◌∷◌, ◌++◌, length, take, drop, get_or, Option, subst, sym, ap, ◌∙◌, add-one, drop-cons, refl, take-append-drop}
-use Rattle.std.proofs.lemmas.List.{map-append, take_more}
+use Rattle.std.proofs.Common.{◌≡◌, ℕ, ◌+◌, ◌<◌, List, [], ◌∷◌, ◌++◌, length, map, take, drop, get_or, Option, subst, sym, ap, ◌∙◌, add-one, append_assoc, append-nil, drop-cons, refl}
+use Rattle.std.proofs.lemmas.List.{map-append}
 use Rattle.outside_io.specs.Puts.{SinkTold, sink_told, TookAll, TookSome}
-use Rattle.outside_io.specs.PutLaws.{took_more, failed_before, failed_behind}
+use Rattle.outside_io.specs.PutLaws.{took_none, took_more, failed_before, failed_behind}
 use Rattle.cell_base.specs.declared.cells.Cell.{Cell}
+use Rattle.cell_base.specs.declared.requests.Request.{Request}
 use Rattle.cell_base.specs.declared.shifts.Entry.{Entry}
-use Rattle.record_text.specs.Lines.{line_of, head_words, entry_words, left_words}
-use Rattle.cell_program.specs.Runs.{entry_lines, record_of}
+use Rattle.record_text.specs.Lines.{line_of, left_words}
+use Rattle.cell_program.specs.Blocks.{history_lines, plan_lines, planned_block}
 
--- ---- entries
+-- of these items the first ones have their lines taken, and the rest not yet
+pub record Underway {X : Type 0} (told : SinkTold) (line_for : X → List ℕ) (every rest : List X) : Type 0 where
+  pub behind : List X
+  pub parted : behind ++ rest ≡ every
+  pub took : TookAll told (map line_for behind)
 
--- the entries before one, that one, and those behind it
-parted : (entries : List Entry) (i : ℕ) (d : Entry) → i < length entries
-    → take i entries ++ get_or entries i d ∷ drop (i + 1) entries ≡ entries
-parted entries i d within =
-    let at : drop i entries ≡ get_or entries i d ∷ drop (i + 1) entries = rw add-one (drop-cons entries i d within) in
-    ap (λ (rest : List Entry). take i entries ++ rest) (sym at) ∙ take-append-drop i entries
-
-lines_parted : (cell : Cell) (entries : List Entry) (i : ℕ) (d : Entry) → i < length entries
-    → entry_lines cell (take i entries) ++ line_of (entry_words cell (get_or entries i d)) ∷ entry_lines cell (drop (i + 1) entries)
-    ≡ entry_lines cell entries
-lines_parted cell entries i d within =
-    sym (map-append (λ (entry : Entry). line_of (entry_words cell entry)) (take i entries) (get_or entries i d ∷ drop (i + 1) entries))
-    ∙ ap (entry_lines cell) (parted entries i d within)
-
--- the same cell and entries have the same lines
-pub same_lines : (on cell : Cell) (read entries : List Entry) → on ≡ cell → read ≡ entries
-    → entry_lines on read ≡ entry_lines cell entries
-same_lines on cell read entries a b =
-    ap (λ (c : Cell). entry_lines c read) a ∙ ap (entry_lines cell) b
+-- at an index, the item there and those behind it are the rest
+pub rest_at : {X : Type 0} (items : List X) (i : ℕ) (d : X) → i < length items → drop i items ≡ get_or items i d ∷ drop (i + 1) items
+rest_at items i d within = rw add-one (drop-cons items i d within)
 
 module _ {K : Type 0} (taken : K → Option (List ℕ)) (was_put : K → List ℕ → K → Type 0) (faults : K → ℕ) where
   abbrev told : K → K → SinkTold
   told = sink_told taken was_put faults
 
-  -- the lines of the first entries, and then that of the next one
-  pub entries_more : (cell : Cell) (entries : List Entry) (i : ℕ) (d : Entry) (line : List ℕ) (a b c : K) → i < length entries
-      → TookAll (told a b) (entry_lines cell (take i entries)) → line ≡ line_of (entry_words cell (get_or entries i d))
-      → TookAll (told b c) (line ∷ []) → TookAll (told a c) (entry_lines cell (take (i + 1) entries))
-  entries_more cell entries i d line a b c within whole is more =
-      let next : List ℕ = line_of (entry_words cell (get_or entries i d)) in
-      subst (TookAll (told a c))
-      (sym (map-append (λ (entry : Entry). line_of (entry_words cell entry)) (take i entries) (get_or entries i d ∷ []))
-      ∙ ap (entry_lines cell) (sym (take_more entries i d within)))
-      (took_more taken was_put faults a b c (entry_lines cell (take i entries)) (next ∷ []) whole
-      (subst (λ (l : List ℕ). TookAll (told b c) (l ∷ [])) is more))
+  -- ---- the lines of items
 
-  -- the same, where the sink failed to take that of the next one
-  pub entries_part : (cell : Cell) (entries : List Entry) (i : ℕ) (d : Entry) (line : List ℕ) (a b c : K) → i < length entries
-      → TookAll (told a b) (entry_lines cell (take i entries)) → line ≡ line_of (entry_words cell (get_or entries i d))
-      → TookSome (told b c) (line ∷ []) → TookSome (told a c) (entry_lines cell entries)
-  entries_part cell entries i d line a b c within whole is part =
-      let rest : List (List ℕ) = entry_lines cell (drop (i + 1) entries) in
-      let next : List ℕ = line_of (entry_words cell (get_or entries i d)) in
-      subst (TookSome (told a c)) (lines_parted cell entries i d within)
-      (failed_behind taken was_put faults a b c (entry_lines cell (take i entries)) (next ∷ rest) whole
-      (failed_before taken was_put faults b c (next ∷ []) rest (subst (λ (l : List ℕ). TookSome (told b c) (l ∷ [])) is part)))
+  module _ {X : Type 0} (line_for : X → List ℕ) (every : List X) (a : K) where
+    -- no line is taken yet
+    pub begins : Underway (told a a) line_for every every
+    begins = record { behind = []; parted = refl; took = took_none taken was_put faults a }
 
-  -- ---- a whole record
+    module _ (b : K) where
+      -- every line is taken
+      pub ends : Underway (told a b) line_for every [] → TookAll (told a b) (map line_for every)
+      ends so_far =
+          subst (λ (items : List X). TookAll (told a b) (map line_for items)) (sym (append-nil so_far.behind) ∙ so_far.parted) so_far.took
 
-  module _ (cell : Cell) (number : ℕ) (history : List Entry) (parts : ℕ) (head left : List ℕ)
-      (head_is : head ≡ line_of (head_words number 0)) (left_is : left ≡ line_of (left_words parts)) where
-    record_is : (head ∷ []) ++ (entry_lines cell history ++ left ∷ []) ≡ record_of cell number history parts
-    unfolding record_of
-    record_is = rw (head_is, left_is) refl
+      module _ (c : K) (item : X) (rest : List X) (line : List ℕ) (is : line ≡ line_for item)
+          (so_far : Underway (told a b) line_for every (item ∷ rest)) where
+        -- one more is taken
+        pub goes_on : TookAll (told b c) (line ∷ []) → Underway (told a c) line_for every rest
+        goes_on more = record {
+          behind = so_far.behind ++ item ∷ [];
+          parted = append_assoc so_far.behind (item ∷ []) rest ∙ so_far.parted;
+          took = subst (TookAll (told a c)) (sym (map-append line_for so_far.behind (item ∷ [])))
+              (took_more taken was_put faults a b c (map line_for so_far.behind) (line_for item ∷ []) so_far.took
+              (subst (λ (l : List ℕ). TookAll (told b c) (l ∷ [])) is more));
+        }
+
+        -- one is not
+        pub breaks_off : TookSome (told b c) (line ∷ []) → TookSome (told a c) (map line_for every)
+        breaks_off part =
+            subst (TookSome (told a c)) (sym (map-append line_for so_far.behind (item ∷ rest)) ∙ ap (map line_for) so_far.parted)
+            (failed_behind taken was_put faults a b c (map line_for so_far.behind) (line_for item ∷ map line_for rest) so_far.took
+            (failed_before taken was_put faults b c (line_for item ∷ []) (map line_for rest)
+            (subst (λ (l : List ℕ). TookSome (told b c) (l ∷ [])) is part)))
+
+  -- ---- a first part and a second one
+
+  module _ (first then every : List (List ℕ)) (joined : first ++ then ≡ every) (a b : K) where
+    pub failed_first : TookSome (told a b) first → TookSome (told a b) every
+    failed_first part = subst (TookSome (told a b)) joined (failed_before taken was_put faults a b first then part)
+
+    module _ (c : K) (whole : TookAll (told a b) first) where
+      pub failed_then : TookSome (told b c) then → TookSome (told a c) every
+      failed_then part = subst (TookSome (told a c)) joined (failed_behind taken was_put faults a b c first then whole part)
+
+      pub took_both : TookAll (told b c) then → TookAll (told a c) every
+      took_both more = subst (TookAll (told a c)) joined (took_more taken was_put faults a b c first then whole more)
+
+  -- ---- a block with a plan
+
+  module _ (cell : Cell) (shift grants : ℕ) (history : List Entry) (parts : ℕ) (plan : List Request) (left : List ℕ)
+      (left_is : left ≡ line_of (left_words parts)) where
+    abbrev block : List (List ℕ)
+    block = planned_block cell shift grants history parts plan
+
+    abbrev rest : List (List ℕ)
+    rest = left ∷ plan_lines cell plan
+
+    block_is : history_lines cell shift grants history ++ rest ≡ block
+    unfolding planned_block
+    block_is = ap (λ (l : List ℕ). history_lines cell shift grants history ++ l ∷ plan_lines cell plan) left_is
 
     module _ (a b : K) where
-      pub part_of_head : TookSome (told a b) (head ∷ []) → TookSome (told a b) (record_of cell number history parts)
-      part_of_head part =
-          subst (TookSome (told a b)) record_is (failed_before taken was_put faults a b (head ∷ []) (entry_lines cell history ++ left ∷ []) part)
+      pub part_of_history : TookSome (told a b) (history_lines cell shift grants history) → TookSome (told a b) block
+      part_of_history part = failed_first (history_lines cell shift grants history) rest block block_is a b part
 
-      module _ (c : K) (first : TookAll (told a b) (head ∷ [])) where
-        pub part_of_entries : TookSome (told b c) (entry_lines cell history) → TookSome (told a c) (record_of cell number history parts)
-        part_of_entries part =
-            subst (TookSome (told a c)) record_is
-            (failed_behind taken was_put faults a b c (head ∷ []) (entry_lines cell history ++ left ∷ []) first
-            (failed_before taken was_put faults b c (entry_lines cell history) (left ∷ []) part))
+      module _ (c : K) (first : TookAll (told a b) (history_lines cell shift grants history)) where
+        pub part_of_left : TookSome (told b c) (left ∷ []) → TookSome (told a c) block
+        part_of_left part =
+            failed_then (history_lines cell shift grants history) rest block block_is a b c first
+            (failed_first (left ∷ []) (plan_lines cell plan) rest refl b c part)
 
-        module _ (d : K) (then : TookAll (told b c) (entry_lines cell history)) where
-          pub part_of_left : TookSome (told c d) (left ∷ []) → TookSome (told a d) (record_of cell number history parts)
-          part_of_left part =
-              subst (TookSome (told a d)) record_is
-              (failed_behind taken was_put faults a b d (head ∷ []) (entry_lines cell history ++ left ∷ []) first
-              (failed_behind taken was_put faults b c d (entry_lines cell history) (left ∷ []) then part))
+        module _ (d : K) (next : TookAll (told b c) (left ∷ [])) where
+          pub part_of_plan : TookSome (told c d) (plan_lines cell plan) → TookSome (told a d) block
+          part_of_plan part =
+              failed_then (history_lines cell shift grants history) rest block block_is a b d first
+              (failed_then (left ∷ []) (plan_lines cell plan) rest refl b c d next part)
 
-          pub whole_record : TookAll (told c d) (left ∷ []) → TookAll (told a d) (record_of cell number history parts)
-          whole_record last =
-              subst (TookAll (told a d)) record_is
-              (took_more taken was_put faults a b d (head ∷ []) (entry_lines cell history ++ left ∷ []) first
-              (took_more taken was_put faults b c d (entry_lines cell history) (left ∷ []) then last))
+          pub whole_block : TookAll (told c d) (plan_lines cell plan) → TookAll (told a d) block
+          whole_block last =
+              took_both (history_lines cell shift grants history) rest block block_is a b d first
+              (took_both (left ∷ []) (plan_lines cell plan) rest refl b c d next last)

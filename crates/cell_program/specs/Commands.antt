@@ -84,7 +84,7 @@ IsShiftRefused told (Solo cell shift) =
     (c : Cell) × IsMadeOfFile told.names cell cell_of (Ok c)
     × ((fault : ShiftFault) × IsMadeOfFile told.names shift (shift_of c) (Err fault))
 
--- both files stand for a cell and a shift, and the sink took the lines of the one history of that shift in rounds
+-- both files stand for a cell and a shift, and the sink took the lines of the record of that shift
 abbrev pub IsPrinted : Told → Task → Type 0
 IsPrinted told Nothing = ⊥
 IsPrinted told (Solo cell shift) =

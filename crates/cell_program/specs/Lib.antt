@@ -1,3 +1,4 @@
+pub mod Blocks
 pub mod CellEnds
 pub mod Commands
 pub mod Ends

@@ -50,7 +50,8 @@ pub fn cell_main<R: Threads + Wait + Sync, F: Files, K: Sink, D: Disk + Send, P:
     ensures lines { let told = told_by F.holds F.faults K.taken K.was_put K.faults files.old files.new out.old out.new in
         PutsLines (Comes told (task_of (map string_bytes words.now))) told.sink result.status }
 
-    // Status 0: both files stand for a cell and a shift, and the lines of the one history in rounds were taken.
+    // Status 0: both files stand for a cell and a shift, and the lines of the record were taken: the one history in rounds,
+    // and the plan that drains the state behind it.
     ensures done { let told = told_by F.holds F.faults K.taken K.was_put K.faults files.old files.new out.old out.new in
         result.status ≡ 0 → IsPrinted told (task_of (map string_bytes words.now)) }
 
@@ -120,7 +121,7 @@ fn end_solo<F: Files, K: Sink>(
         → IsThere (F.holds files.old) shift.now → result ≡ 3 → ⊥ }
 {
     match run_of_files(alloc, files, cell, shift) {
-        Ok(run) => match print_run(out, &run) {
+        Ok(run) => match print_run(out, run) {
             Ok(()) => 0,
             Err(_) => 8,
         },
