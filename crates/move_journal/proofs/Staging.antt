@@ -1,0 +1,128 @@
+-- What the two writes of an append make of a journal.
+use Rattle.std.proofs.Common.{◌≡◌, ◌⊎◌, inl, inr, ℕ, ◌+◌, ◌≤◌, List, [], ◌∷◌, ◌++◌, length, get_or, drop, sym, ◌∙◌, ap, subst, arith, append_assoc, length-append}
+use Rattle.std.proofs.lemmas.Bool.{cases_eq}
+use Rattle.cell_base.specs.declared.shifts.Grant.{Grant}
+use Rattle.entry_codec.specs.Records.{record_of}
+use Rattle.outside_io.specs.Disk.{overwritten, Torn, Only}
+use Rattle.move_journal.specs.Disks.{ComesOf}
+use Rattle.move_journal.specs.Journals.{front, gate_of, IsRead, IsJournal, HoldsRecord, Staged, WithOrWithout}
+use Rattle.move_journal.proofs.Fronts.{length-front, front-push, each-push}
+use Rattle.move_journal.proofs.Splits.{torn_behind, torn_byte, written_behind, written_byte, regroup}
+use Rattle.move_journal.proofs.Turning.{of_only}
+
+-- ---- the write of the record
+
+module _ (file text : List ℕ) (grants : List Grant) (journal : IsJournal file text grants) where
+  closed_front : List ℕ
+  closed_front = front text grants ++ journal.gate ∷ []
+
+  length-closed_front : length closed_front ≡ gate_of text grants + 1
+  unfolding closed_front
+  length-closed_front = omega (arith, length-front text grants, length-append (front text grants) (journal.gate ∷ []))
+
+  split_at_gate : file ≡ closed_front ++ journal.behind
+  unfolding closed_front
+  split_at_gate = journal.split ∙ regroup (front text grants) journal.gate journal.behind
+
+  -- whatever is torn behind the closed gate, the grants are the same
+  torn_behind_gate : (n : ℕ) (c : List ℕ) → Torn (gate_of text grants + 1) n file c → IsJournal c text grants
+  unfolding closed_front
+  torn_behind_gate n c torn =
+      let at : ℕ = gate_of text grants + 1 in
+      let split_torn = subst (λ (f : List ℕ). Torn at n f c) split_at_gate torn in
+      record {
+        size = journal.size;
+        each = journal.each;
+        gate = journal.gate;
+        closed = journal.closed;
+        behind = drop at c;
+        split = torn_behind at n closed_front journal.behind c length-closed_front split_torn
+            ∙ append_assoc (front text grants) (journal.gate ∷ []) (drop at c);
+      }
+
+  written_behind_gate : (grant : Grant) → IsRead grant → (new : List ℕ)
+      → new ≡ overwritten file (gate_of text grants + 1) (record_of grant ++ 0 ∷ []) → Staged text grants grant new
+  unfolding closed_front
+  written_behind_gate grant is new written =
+      let at : ℕ = gate_of text grants + 1 in
+      let piece : List ℕ = record_of grant ++ 0 ∷ [] in
+      let rest : List ℕ = drop (at + length piece) (closed_front ++ journal.behind) in
+      record {
+        size = journal.size;
+        each = journal.each;
+        is_read = is;
+        gate = journal.gate;
+        closed = journal.closed;
+        behind = rest;
+        split = written ∙ ap (λ (f : List ℕ). overwritten f at piece) split_at_gate
+            ∙ written_behind at closed_front journal.behind piece length-closed_front
+            ∙ append_assoc closed_front piece rest
+            ∙ append_assoc (front text grants) (journal.gate ∷ []) (piece ++ rest)
+            ∙ ap (λ (l : List ℕ). front text grants ++ journal.gate ∷ l) (append_assoc (record_of grant) (0 ∷ []) rest);
+      }
+
+  pub gate_within : gate_of text grants + 1 ≤ length file
+  gate_within =
+      omega (arith, ap length journal.split, length-front text grants, length-append (front text grants) (journal.gate ∷ journal.behind))
+
+module _ (file text : List ℕ) (grants : List Grant) (gate : ℕ) (grant : Grant) (bytes piece : List ℕ)
+    (holds : HoldsRecord file text grants gate grant bytes) (piece_is : piece ≡ bytes ++ 0 ∷ [])
+  where
+    pub record_torn : (outcomes : List ℕ → Type 0) → Only file outcomes → (c : List ℕ)
+        → ComesOf (gate + 1) (length piece) outcomes c → IsJournal c text grants
+    record_torn outcomes only c comes =
+        let torn = of_only _ _ file outcomes only c comes in
+        torn_behind_gate file text grants holds.journal (length piece) c
+        (subst (λ (at : ℕ). Torn (at + 1) (length piece) file c) holds.gate_is torn)
+
+    pub record_written : (new : List ℕ) → new ≡ overwritten file (gate + 1) piece → Staged text grants grant new
+    record_written new written =
+        let same : piece ≡ record_of grant ++ 0 ∷ [] = piece_is ∙ ap (λ (l : List ℕ). l ++ 0 ∷ []) holds.bytes_are in
+        written_behind_gate file text grants holds.journal grant holds.is_read new
+        (written ∙ ap (λ (at : ℕ). overwritten file (at + 1) piece) holds.gate_is
+        ∙ ap (λ (l : List ℕ). overwritten file (gate_of text grants + 1) l) same)
+
+-- ---- the write of the gate
+
+module _ (file text : List ℕ) (grants : List Grant) (grant : Grant) (staged : Staged text grants grant file)
+    (at : ℕ) (at_is : at ≡ gate_of text grants)
+  where
+    abbrev behind_it : List ℕ
+    behind_it = record_of grant ++ 0 ∷ staged.behind
+
+    front_is : length (front text grants) ≡ at
+    front_is = length-front text grants ∙ sym at_is
+
+    opened : (c : List ℕ) → c ≡ front text grants ++ 1 ∷ behind_it → IsJournal c text (grants ++ grant ∷ [])
+    opened c is = record {
+      size = staged.size;
+      each = each-push grants grant staged.each staged.is_read;
+      gate = 0;
+      closed = omega arith;
+      behind = staged.behind;
+      split = is ∙ sym (front-push text grants grant (0 ∷ staged.behind));
+    }
+
+    -- a gate that is torn is open or it isn't
+    pub gate_torn : (outcomes : List ℕ → Type 0) → Only file outcomes → (c : List ℕ) → ComesOf at 1 outcomes c
+        → WithOrWithout text grants grant c
+    gate_torn outcomes only c comes =
+        let gate : ℕ = get_or c at 0 in
+        let torn = subst (λ (f : List ℕ). Torn at 1 f c) staged.split (of_only _ _ file outcomes only c comes) in
+        let whole : c ≡ front text grants ++ gate ∷ behind_it = torn_byte at (front text grants) staged.gate behind_it c front_is torn in
+        elim (cases_eq gate 1) [
+          | inl is_open ↦ inr (opened c (whole ∙ ap (λ (g : ℕ). front text grants ++ g ∷ behind_it) is_open))
+          | inr shut ↦ inl (record {
+            size = staged.size;
+            each = staged.each;
+            gate = gate;
+            closed = shut;
+            behind = behind_it;
+            split = whole;
+          })
+        ]
+
+    pub gate_written : (new : List ℕ) → new ≡ overwritten file at (1 ∷ []) → IsJournal new text (grants ++ grant ∷ [])
+    gate_written new written =
+        opened new (written ∙ ap (λ (f : List ℕ). overwritten f at (1 ∷ [])) staged.split
+        ∙ written_byte at (front text grants) staged.gate 1 behind_it front_is)

@@ -1,0 +1,6 @@
+-- What the contracts cite.
+pub mod Blanks
+pub mod Disks
+pub mod Journals
+pub mod Kept
+pub mod Rooms
