@@ -1,0 +1,4 @@
+pub mod Carrying
+pub mod Replying
+pub mod Rows
+pub mod Verdicts
