@@ -33,7 +33,7 @@ pub passed : (right : Bool) (why : Why) → fails_unless right why ≡ None → 
 passed true why is = refl
 passed false why is = absurd cc
 
-after_requests-append : (cell : Cell) (parts : List Part) (xs ys : List Request)
+pub after_requests-append : (cell : Cell) (parts : List Part) (xs ys : List Request)
     → after_requests cell parts (xs ++ ys) ≡ after_requests cell (after_requests cell parts xs) ys
 after_requests-append cell parts [] ys = refl
 after_requests-append cell parts (x ∷ xs) ys = after_requests-append cell (state_after cell parts x) xs ys
@@ -57,7 +57,7 @@ module _ (cell : Cell) where
     by (Answered (Refused why)) right = refusal_stays cell parts entry.request why (same_when (reply_to cell parts entry.request) (Refused why) right)
     by Halted right = refl
 
-  granted_more : (entry : Entry) (entries : List Entry) → granted_requests (entry ∷ entries) ≡ granted_requests (entry ∷ []) ++ granted_requests entries
+  pub granted_more : (entry : Entry) (entries : List Entry) → granted_requests (entry ∷ entries) ≡ granted_requests (entry ∷ []) ++ granted_requests entries
   granted_more entry entries = by entry.told where
     by : (told : Told)
         → granted_requests ((record { session = entry.session; request = entry.request; told = told }) ∷ entries)

@@ -1,12 +1,12 @@
 //! The walk over the blocks of a record, which carries one state along.
-ghost use Rattle.std.specs.Prelude.{◌≡◌, ◌+◌, ◌<◌, ◌≤◌, ◌^◌, ◌∷◌, [], length, None, Some, IfOk};
+ghost use Rattle.std.specs.Prelude.{◌≡◌, ◌+◌, ◌<◌, ◌≤◌, ◌^◌, ◌∷◌, [], length, None, IfOk, IfSome};
 ghost use Rattle.std.specs.List.{All, sum_by};
 ghost use Rattle.cell_base.specs.Fits.{CellFits, RequestFits};
 ghost use Rattle.cell_base.specs.Histories.{after, state_after_entry};
 ghost use Rattle.record_text.specs.Blocks.{BlockIsWellFormed, AreNumbered, line_count, tail_count, steps_of};
 ghost use Rattle.shift_checker.specs.declared.verdict.Verdict.TheVariants.{Yes};
 ghost use Rattle.shift_checker.specs.Judging.{granted_requests, judge_entries, judge_left, judge_steps, judge_tail, judge_block, verdict_from, is_told_rightly};
-ghost use Rattle.shift_checker.specs.Carrying.{unbegun, IsCountedBefore, halted_in, settled, carried_on, carried_lines};
+ghost use Rattle.shift_checker.specs.Carrying.{unbegun, IsBefore, halted_in, settled, carried_on, carried_lines};
 
 use crate::replies::{is_granted, last_request, same_reply};
 use crate::{Verdict, Why};
@@ -69,7 +69,7 @@ impl<'a> Walk<'a> {
     fn block(&mut self, block: &Block) -> Verdict
         requires formed { BlockIsWellFormed self.old.cell block.now }
         requires lines { block.now.first_line + line_count block.now ≤ 2 ^ 32 }
-        requires few { IsCountedBefore block.now.first_line self.old.at }
+        requires before { IsBefore self.old.cell block.now.first_line self.old.at }
         ensures verdict { let begun = settled self.old.cell self.old.at block.now.after in
             result ≡ verdict_from block.now.first_line (judge_block self.old.cell begun.parts begun.count block.now) }
         ensures state { result ≡ Yes → self.new
@@ -91,7 +91,7 @@ impl<'a> Walk<'a> {
 
     /// Lets the halted request count where the next head names one more.
     fn settle(&mut self, named: u64)
-        requires halted { (request : Request) → self.old.at.halted ≡ Some request → RequestFits self.old.cell request }
+        requires halted { IfSome self.old.at.halted (RequestFits self.old.cell) }
         requires few { self.old.at.count + 1 < 2 ^ 64 }
         ensures { self.new ≡ record self.old { at = settled self.old.cell self.old.at named } }
     {
