@@ -155,10 +155,10 @@ module _ (cell : Cell) where
       ap (λ more. with_halted next more blocks) (halted_is block.entries block.tail this.halts) in
       same_behind (judge_lines cell (counted before block blocks) blocks) (carried_lines cell (carried_on cell begun block) blocks) n lines
       (λ right.
-          ap (λ requests. verdict_from (n + length lines) (judge_lines cell requests blocks)) later
-          ∙ same_lines (n + length lines) blocks next last (All-tail (BlockIsWellFormed cell) block blocks formed)
-          ∙ ap (λ at. verdict_from (n + length lines) (carried_lines cell at blocks))
-          (carried_on_is before block this (right_entries n begun.parts begun.count block right)))
+      ap (λ requests. verdict_from (n + length lines) (judge_lines cell requests blocks)) later
+      ∙ same_lines (n + length lines) blocks next last (All-tail (BlockIsWellFormed cell) block blocks formed)
+      ∙ ap (λ at. verdict_from (n + length lines) (carried_lines cell at blocks))
+      (carried_on_is before block this (right_entries n begun.parts begun.count block right)))
       ∙ ap (λ (at : Carried). verdict_from n (judge_block cell at.parts at.count block ++ carried_lines cell (carried_on cell at block) blocks))
       (sym (settled_is granted halted block blocks))
 

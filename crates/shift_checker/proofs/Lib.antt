@@ -1,4 +1,5 @@
 pub mod Carrying
+pub mod Legal
 pub mod Replying
 pub mod Rows
 pub mod Verdicts

@@ -102,9 +102,9 @@ pub few_granted : (cell : Cell) (entries : List Entry) → length (granted_reque
 few_granted cell [] = omega arith
 few_granted cell (entry ∷ entries) =
     omega (arith, ap length (granted_more cell entry entries), length-append (granted_requests (entry ∷ [])) (granted_requests entries), at_most_one, few_granted cell entries)
-    where
-      at_most_one : length (granted_requests (entry ∷ [])) ≤ 1
-      at_most_one = grind arith
+  where
+    at_most_one : length (granted_requests (entry ∷ [])) ≤ 1
+    at_most_one = grind arith
 
 pub few_so_far : (cell : Cell) (entries : List Entry) (i : ℕ) → length (granted_requests (take i entries)) ≤ length entries
 few_so_far cell entries i =
@@ -123,10 +123,10 @@ all_granted-append cell parts [] ys = refl
 all_granted-append cell parts (x ∷ xs) ys =
     rw (all_granted-append cell (state_after cell parts x) xs ys) (sym (both (is_granted (reply_to cell parts x))
     (all_granted cell (state_after cell parts x) xs) (all_granted cell (after_requests cell (state_after cell parts x) xs) ys)))
-    where
-      both : (a b c : Bool) → ((a && b) && c) ≡ (a && (b && c))
-      both true b c = refl
-      both false b c = refl
+  where
+    both : (a b c : Bool) → ((a && b) && c) ≡ (a && (b && c))
+    both true b c = refl
+    both false b c = refl
 
 module _ (cell : Cell) (parts : List Part) (steps : List Request) (i : ℕ) (d : Request) (within : i < length steps) where
   abbrev step : Request
@@ -242,7 +242,10 @@ module _ (cell : Cell) (blocks : List Block) (i : ℕ) (d : Block) (within : i <
   pub lines_fit : sum_by line_count blocks < 2 ^ 32 → block.first_line + line_count block ≤ 2 ^ 32
   lines_fit few =
       omega (
-        arith, few, first_line_is, lines_behind,
+        arith,
+        few,
+        first_line_is,
+        lines_behind,
         sum_by-append line_count (take (i + 1) blocks) (drop (i + 1) blocks),
         ap (sum_by line_count) (take-append-drop (i + 1) blocks),
       )
@@ -314,7 +317,10 @@ pub before_next : (cell : Cell) (n : ℕ) (at : Carried) (block : Block) → IsB
 before_next cell n at block before formed = record {
   counted =
       omega (
-        arith, before.counted, few_settled cell at block.after, few_granted cell block.entries,
+        arith,
+        before.counted,
+        few_settled cell at block.after,
+        few_granted cell block.entries,
         at_most_one (halted_in block.entries block.tail),
       );
   fits = halted_fits cell block.entries block.tail formed.entries;

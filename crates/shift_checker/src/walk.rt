@@ -30,8 +30,8 @@ impl<'a> Model for Walk<'a> {
     ghost Value = { Walked };
 
     ghost view = { λ s. record {
-        cell = s.recount.cell;
-        at = record { parts = s.recount.parts; count = s.count; halted = s.halted };
+      cell = s.recount.cell;
+      at = record { parts = s.recount.parts; count = s.count; halted = s.halted };
     } };
 }
 
@@ -109,10 +109,12 @@ impl<'a> Walk<'a> {
         requires lines { first_line + length entries.now < 2 ^ 32 }
         requires few { self.old.at.count < first_line }
         ensures verdict { result ≡ verdict_from (first_line + 1) (judge_entries self.old.cell self.old.at.parts entries.now) }
-        ensures state { result ≡ Yes → self.new ≡ record self.old { at = record self.old.at {
+        ensures state { result ≡ Yes → self.new ≡ record self.old {
+          at = record self.old.at {
             parts = after self.old.cell self.old.at.parts entries.now;
             count = self.old.at.count + length (granted_requests entries.now);
-        } } }
+          };
+        } }
     {
         for (i, entry) in entries.iter().enumerate() {
             if !self.is_told_rightly(entry) {
@@ -130,10 +132,12 @@ impl<'a> Walk<'a> {
         requires fits { RequestFits self.old.cell entry.now.request }
         requires few { self.old.at.count + 1 < 2 ^ 64 }
         ensures told { result ≡ is_told_rightly self.old.cell self.old.at.parts entry.now.request entry.now.told }
-        ensures state { self.new ≡ record self.old { at = record self.old.at {
+        ensures state { self.new ≡ record self.old {
+          at = record self.old.at {
             parts = state_after_entry self.old.cell self.old.at.parts entry.now.request entry.now.told;
             count = self.old.at.count + length (granted_requests (entry.now ∷ []));
-        } } }
+          };
+        } }
     {
         match entry.told {
             Told::Answered(reply) => {
