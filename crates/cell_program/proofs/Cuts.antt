@@ -6,7 +6,6 @@ use Rattle.outside_io.specs.Files.{Names, IsReadOf}
 use Rattle.cell_base.specs.declared.cells.Cell.{Cell}
 use Rattle.cell_base.specs.declared.places.Field.TheVariants.{Whole}
 use Rattle.toml_walk.specs.Documents.{top, short}
-use Rattle.toml_walk.specs.declared.faults.DocumentFault.{DocumentFault}
 use Rattle.toml_walk.specs.declared.faults.DocumentFault.TheVariants.{TooMany}
 use Rattle.cell_file.specs.Walk.{cell_of}
 use Rattle.shift_file.specs.Walk.{shift_of}

@@ -1,95 +1,105 @@
--- Texts that a sink takes piece by piece, and fails to take in one of them.
-use Rattle.std.proofs.Common.{◌≡◌, inl, inr, ℕ, ◌+◌, ◌<◌, ◌≤◌, List, ◌∷◌, ◌++◌, length, take, drop, get_or, Option, subst, sym, ap, ◌∙◌, arith, add-one, drop-cons, refl}
-use Rattle.std.specs.Io.KnownBytes.{Appends}
-use Rattle.std.proofs.KnownBytes.{Appends-trans}
-use Rattle.std.proofs.Math.Seq.{take-append-add, take-append_seam}
-use Rattle.std.proofs.lemmas.Bool.{cases_lt}
-use Rattle.std.proofs.lemmas.List.{take-append-le, take_all, take-append-drop}
-use Rattle.std.proofs.lemmas.List.Concat.{flat_map-append}
-use Rattle.outside_io.specs.Sink.{AppendsPrefix}
+-- Lines that a sink takes in turn, and fails to take one of.
+use Rattle.std.proofs.Common.{◌≡◌, ℕ, ◌+◌, ◌<◌, List, [], ◌∷◌, ◌++◌, length, map, take, drop, get_or, Option, subst, sym, ap, ◌∙◌, add-one, append_assoc, append-nil, drop-cons, refl}
+use Rattle.std.proofs.lemmas.List.{map-append}
+use Rattle.outside_io.specs.Puts.{SinkTold, sink_told, TookAll, TookSome}
+use Rattle.outside_io.specs.PutLaws.{took_none, took_more, failed_before, failed_behind}
 use Rattle.cell_base.specs.declared.cells.Cell.{Cell}
+use Rattle.cell_base.specs.declared.requests.Request.{Request}
 use Rattle.cell_base.specs.declared.shifts.Entry.{Entry}
-use Rattle.record_text.specs.Lines.{line_of, head_words, entry_words, left_words}
-use Rattle.record_text.specs.Records.{text_of_entries}
-use Rattle.cell_program.specs.Runs.{record_of}
+use Rattle.record_text.specs.Lines.{line_of, left_words}
+use Rattle.cell_program.specs.Blocks.{history_lines, plan_lines, planned_block}
 
-module _ (a b : Option (List ℕ)) where
-  -- a first part of a text is a first part of a longer one
-  part_of_more : (text more : List ℕ) → AppendsPrefix a b text → AppendsPrefix a b (text ++ more)
-  part_of_more text more part = elim (cases_lt (length text) part.0) [
-    | inl past ↦
-        (length text, subst (Appends a b) (take_all part.0 text (omega (arith, past)) ∙ sym (take-append_seam text more)) part.1)
-    | inr within ↦ (part.0, subst (Appends a b) (sym (take-append-le part.0 text more within)) part.1)
-  ]
+-- of these items the first ones have their lines taken, and the rest not yet
+pub record Underway {X : Type 0} (told : SinkTold) (line_for : X → List ℕ) (every rest : List X) : Type 0 where
+  pub behind : List X
+  pub parted : behind ++ rest ≡ every
+  pub took : TookAll told (map line_for behind)
 
-  -- a whole text, and then a first part of another
-  part_behind : (c : Option (List ℕ)) (text more : List ℕ) → Appends a b text → AppendsPrefix b c more
-      → AppendsPrefix a c (text ++ more)
-  part_behind c text more whole part = (
-    length text + part.0,
-    subst (Appends a c) (sym (take-append-add text more part.0)) (Appends-trans a b c text (take part.0 more) whole part.1),
-  )
+-- at an index, the item there and those behind it are the rest
+pub rest_at : {X : Type 0} (items : List X) (i : ℕ) (d : X) → i < length items → drop i items ≡ get_or items i d ∷ drop (i + 1) items
+rest_at items i d within = rw add-one (drop-cons items i d within)
 
--- ---- entries
+module _ {K : Type 0} (taken : K → Option (List ℕ)) (was_put : K → List ℕ → K → Type 0) (faults : K → ℕ) where
+  abbrev told : K → K → SinkTold
+  told = sink_told taken was_put faults
 
--- the entries before one, that one, and those behind it
-parted : (entries : List Entry) (i : ℕ) (d : Entry) → i < length entries
-    → take i entries ++ get_or entries i d ∷ drop (i + 1) entries ≡ entries
-parted entries i d within =
-    let at : drop i entries ≡ get_or entries i d ∷ drop (i + 1) entries = rw add-one (drop-cons entries i d within) in
-    ap (λ (rest : List Entry). take i entries ++ rest) (sym at) ∙ take-append-drop i entries
+  -- ---- the lines of items
 
-text_parted : (cell : Cell) (entries : List Entry) (i : ℕ) (d : Entry) → i < length entries
-    → text_of_entries cell (take i entries) ++ (line_of (entry_words cell (get_or entries i d)) ++ text_of_entries cell
-    (drop (i + 1) entries))
-    ≡ text_of_entries cell entries
-text_parted cell entries i d within =
-    sym (flat_map-append (λ (entry : Entry). line_of (entry_words cell entry)) (take i entries) (get_or entries i d ∷ drop (i + 1) entries))
-    ∙ ap (text_of_entries cell) (parted entries i d within)
+  module _ {X : Type 0} (line_for : X → List ℕ) (every : List X) (a : K) where
+    -- no line is taken yet
+    pub begins : Underway (told a a) line_for every every
+    begins = record { behind = []; parted = refl; took = took_none taken was_put faults a }
 
--- the lines of the first entries, and then a first part of the line of the next one
-pub entries_part : (cell : Cell) (entries : List Entry) (i : ℕ) (d : Entry) (line : List ℕ) (a b c : Option (List ℕ)) → i < length entries
-    → Appends a b (text_of_entries cell (take i entries)) → line ≡ line_of (entry_words cell (get_or entries i d)) → AppendsPrefix b c line
-    → AppendsPrefix a c (text_of_entries cell entries)
-entries_part cell entries i d line a b c within whole is part =
-    let rest : List ℕ = text_of_entries cell (drop (i + 1) entries) in
-    subst (AppendsPrefix a c) (text_parted cell entries i d within)
-    (part_behind a b c (text_of_entries cell (take i entries)) (line_of (entry_words cell (get_or entries i d)) ++ rest) whole
-    (part_of_more b c (line_of (entry_words cell (get_or entries i d))) rest (subst (AppendsPrefix b c) is part)))
+    module _ (b : K) where
+      -- every line is taken
+      pub ends : Underway (told a b) line_for every [] → TookAll (told a b) (map line_for every)
+      ends so_far =
+          subst (λ (items : List X). TookAll (told a b) (map line_for items)) (sym (append-nil so_far.behind) ∙ so_far.parted) so_far.took
 
--- the same cell and entries have the same text
-pub same_text : (on cell : Cell) (read entries : List Entry) → on ≡ cell → read ≡ entries
-    → text_of_entries on read ≡ text_of_entries cell entries
-same_text on cell read entries a b =
-    ap (λ (c : Cell). text_of_entries c read) a ∙ ap (text_of_entries cell) b
+      module _ (c : K) (item : X) (rest : List X) (line : List ℕ) (is : line ≡ line_for item)
+          (so_far : Underway (told a b) line_for every (item ∷ rest)) where
+        -- one more is taken
+        pub goes_on : TookAll (told b c) (line ∷ []) → Underway (told a c) line_for every rest
+        goes_on more = record {
+          behind = so_far.behind ++ item ∷ [];
+          parted = append_assoc so_far.behind (item ∷ []) rest ∙ so_far.parted;
+          took = subst (TookAll (told a c)) (sym (map-append line_for so_far.behind (item ∷ [])))
+              (took_more taken was_put faults a b c (map line_for so_far.behind) (line_for item ∷ []) so_far.took
+              (subst (λ (l : List ℕ). TookAll (told b c) (l ∷ [])) is more));
+        }
 
--- ---- a whole record
+        -- one is not
+        pub breaks_off : TookSome (told b c) (line ∷ []) → TookSome (told a c) (map line_for every)
+        breaks_off part =
+            subst (TookSome (told a c)) (sym (map-append line_for so_far.behind (item ∷ rest)) ∙ ap (map line_for) so_far.parted)
+            (failed_behind taken was_put faults a b c (map line_for so_far.behind) (line_for item ∷ map line_for rest) so_far.took
+            (failed_before taken was_put faults b c (line_for item ∷ []) (map line_for rest)
+            (subst (λ (l : List ℕ). TookSome (told b c) (l ∷ [])) is part)))
 
-module _ (cell : Cell) (number : ℕ) (history : List Entry) (parts : ℕ) (head left : List ℕ)
-    (head_is : head ≡ line_of (head_words number 0)) (left_is : left ≡ line_of (left_words parts)) where
-  record_is : head ++ (text_of_entries cell history ++ left) ≡ record_of cell number history parts
-  unfolding record_of
-  record_is = rw (head_is, left_is) refl
+  -- ---- a first part and a second one
 
-  module _ (a b : Option (List ℕ)) where
-    pub part_of_head : AppendsPrefix a b head → AppendsPrefix a b (record_of cell number history parts)
-    part_of_head part = subst (AppendsPrefix a b) record_is (part_of_more a b head (text_of_entries cell history ++ left) part)
+  module _ (first then every : List (List ℕ)) (joined : first ++ then ≡ every) (a b : K) where
+    pub failed_first : TookSome (told a b) first → TookSome (told a b) every
+    failed_first part = subst (TookSome (told a b)) joined (failed_before taken was_put faults a b first then part)
 
-    module _ (c : Option (List ℕ)) (first : Appends a b head) where
-      pub part_of_entries : AppendsPrefix b c (text_of_entries cell history) → AppendsPrefix a c (record_of cell number history parts)
-      part_of_entries part =
-          subst (AppendsPrefix a c) record_is
-          (part_behind a b c head (text_of_entries cell history ++ left) first (part_of_more b c (text_of_entries cell history) left part))
+    module _ (c : K) (whole : TookAll (told a b) first) where
+      pub failed_then : TookSome (told b c) then → TookSome (told a c) every
+      failed_then part = subst (TookSome (told a c)) joined (failed_behind taken was_put faults a b c first then whole part)
 
-      module _ (d : Option (List ℕ)) (then : Appends b c (text_of_entries cell history)) where
-        pub part_of_left : AppendsPrefix c d left → AppendsPrefix a d (record_of cell number history parts)
+      pub took_both : TookAll (told b c) then → TookAll (told a c) every
+      took_both more = subst (TookAll (told a c)) joined (took_more taken was_put faults a b c first then whole more)
+
+  -- ---- a block with a plan
+
+  module _ (cell : Cell) (shift grants : ℕ) (history : List Entry) (parts : ℕ) (plan : List Request) (left : List ℕ)
+      (left_is : left ≡ line_of (left_words parts)) where
+    abbrev block : List (List ℕ)
+    block = planned_block cell shift grants history parts plan
+
+    abbrev rest : List (List ℕ)
+    rest = left ∷ plan_lines cell plan
+
+    block_is : history_lines cell shift grants history ++ rest ≡ block
+    unfolding planned_block
+    block_is = ap (λ (l : List ℕ). history_lines cell shift grants history ++ l ∷ plan_lines cell plan) left_is
+
+    module _ (a b : K) where
+      pub part_of_history : TookSome (told a b) (history_lines cell shift grants history) → TookSome (told a b) block
+      part_of_history part = failed_first (history_lines cell shift grants history) rest block block_is a b part
+
+      module _ (c : K) (first : TookAll (told a b) (history_lines cell shift grants history)) where
+        pub part_of_left : TookSome (told b c) (left ∷ []) → TookSome (told a c) block
         part_of_left part =
-            subst (AppendsPrefix a d) record_is
-            (part_behind a b d head (text_of_entries cell history ++ left) first
-            (part_behind b c d (text_of_entries cell history) left then part))
+            failed_then (history_lines cell shift grants history) rest block block_is a b c first
+            (failed_first (left ∷ []) (plan_lines cell plan) rest refl b c part)
 
-        pub whole_record : Appends c d left → Appends a d (record_of cell number history parts)
-        whole_record last =
-            subst (Appends a d) record_is
-            (Appends-trans a b d head (text_of_entries cell history ++ left) first
-            (Appends-trans b c d (text_of_entries cell history) left then last))
+        module _ (d : K) (next : TookAll (told b c) (left ∷ [])) where
+          pub part_of_plan : TookSome (told c d) (plan_lines cell plan) → TookSome (told a d) block
+          part_of_plan part =
+              failed_then (history_lines cell shift grants history) rest block block_is a b d first
+              (failed_then (left ∷ []) (plan_lines cell plan) rest refl b c d next part)
+
+          pub whole_block : TookAll (told c d) (plan_lines cell plan) → TookAll (told a d) block
+          whole_block last =
+              took_both (history_lines cell shift grants history) rest block block_is a b d first
+              (took_both (left ∷ []) (plan_lines cell plan) rest refl b c d next last)

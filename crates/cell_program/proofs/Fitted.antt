@@ -1,8 +1,8 @@
 -- The entries of a history in rounds fit the cell.
 use Rattle.std.proofs.Common.{◌≡◌, ◌⊎◌, inl, inr, ℕ, ◌-◌, Bool, true, false, cond, Option, Some, None, List, [], ◌∷◌, Contains, All, refl, sym, ap, ◌∙◌, subst}
-use Rattle.std.specs.Prelude.{slice_get, unwrap_or, ◌==◌}
+use Rattle.std.specs.Prelude.{slice_get, unwrap_or, ◌==◌, ◌||◌}
 use Rattle.std.specs.List.{filter}
-use Rattle.std.proofs.lemmas.Bool.{eq-eqb, true≢false}
+use Rattle.std.proofs.lemmas.Bool.{eq-eqb, or_parts, true≢false}
 use Rattle.std.proofs.lemmas.List.Elements.{All-nil, All-cons, All-head, All-tail, All-contains}
 use Rattle.cell_base.specs.declared.cells.Cell.{Cell}
 use Rattle.cell_base.specs.declared.requests.Part.{Part}
@@ -15,13 +15,15 @@ use Rattle.cell_base.specs.declared.requests.Told.TheVariants.{Answered, Halted}
 use Rattle.cell_base.specs.declared.shifts.Entry.{Entry}
 use Rattle.cell_base.specs.declared.shifts.Shift.{Shift}
 use Rattle.cell_base.specs.Fits.{CellFits, RequestFits, ShiftFits}
-use Rattle.cell_base.specs.Histories.{IsLegal, IsToldRightly, state_after_entry, entries_of}
+use Rattle.cell_base.specs.Histories.{IsLegal, IsToldRightly, after, state_after_entry, entries_of, was_halted}
+use Rattle.cell_base.specs.Plans.{Drains, plan_of}
 use Rattle.cell_base.specs.Outcomes.{reply_to}
 use Rattle.cell_base.specs.Policy.{IsAdmitted}
 use Rattle.cell_base.specs.Rounds.{IsSession, IsRoundRobin}
-use Rattle.cell_base.specs.Scripts.{Progress, begin_at, IsTrace, progress_after, script_of}
+use Rattle.cell_base.specs.Scripts.{Progress, begin_at, IsTrace, IsWholeTrace, holds_halt, progress_after, script_of}
 use Rattle.policy_laws.proofs.Admission.{admission_law, saturation_law}
 use Rattle.policy_laws.proofs.Lists.{All-slice_get, All-from_Contains, Contains-head, Contains-tail, Contains-none, Contains-cases}
+use Rattle.policy_laws.proofs.Plans.{plan_law}
 use Rattle.policy_laws.proofs.States.{IsAdmitted-empty}
 use Rattle.record_text.specs.Fitting.{EntryFits, ToldFits, RefusalFits}
 
@@ -38,6 +40,24 @@ Contains-filter p [] x contains passes = absurd (Contains-none x contains)
 Contains-filter p (y ∷ ys) x contains passes =
     kept_behind p y x ys (p y) refl passes
     (elim (Contains-cases y x ys contains) [ inl is ↦ inl is | inr behind ↦ inr (Contains-filter p ys x behind passes) ])
+
+-- where no entry is halted, this one isn't
+halted_of : (entries : List Entry) (entry : Entry) → holds_halt entries ≡ false → Contains entries entry → was_halted entry.told ≡ false
+halted_of [] entry unhalted contains = absurd (Contains-none entry contains)
+halted_of (first ∷ entries) entry unhalted contains =
+    let parts = or_parts (was_halted first.told) (holds_halt entries) unhalted in
+    elim (Contains-cases first entry entries contains) [
+      | inl is ↦ subst (λ (e : Entry). was_halted e.told ≡ false) is parts.0
+      | inr behind ↦ halted_of entries entry parts.1 behind
+    ]
+
+none_halted : (entries : List Entry) → All (λ (entry : Entry). was_halted entry.told ≡ false) entries → holds_halt entries ≡ false
+none_halted [] all = refl
+none_halted (entry ∷ entries) all =
+    let Going : Entry → Type 0 = λ e. was_halted e.told ≡ false in
+    let here : was_halted entry.told ≡ false = All-head Going entry entries all in
+    let later : holds_halt entries ≡ false = none_halted entries (All-tail Going entry entries all) in
+    ap (λ (b : Bool). b || holds_halt entries) here ∙ later
 
 module _ (cell : Cell) where
   -- a trace asks steps of its script
@@ -92,19 +112,48 @@ module _ (cell : Cell) where
         (entries_fit (state_after_entry cell parts entry.request entry.told) entries
         (stays parts entry.request entry.told admitted here) legal.1 (All-tail Fits entry entries fit))
 
-    -- the entries of a shift in rounds on the empty cell
-    pub rounds_fit : (shift : Shift) (history : List Entry) → ShiftFits cell shift → IsRoundRobin cell [] shift history
-        → All (EntryFits cell) history
-    rounds_fit shift history shift_fits rounds =
-        entries_fit [] history (IsAdmitted-empty cell) rounds.legal
-        (All-from_Contains (λ (entry : Entry). RequestFits cell entry.request) history (λ entry contains. asked entry contains))
-      where
-        asked : (entry : Entry) → Contains history entry → RequestFits cell entry.request
-        asked entry contains =
-            let session : ℕ = entry.session in
-            let whole = rounds.whole session (All-contains (λ (e : Entry). IsSession shift e.session) history entry rounds.sessions
-            contains) in
-            let own = Contains-filter (λ (e : Entry). e.session == session) history entry contains (eq-eqb session session refl) in
-            All-contains (λ (e : Entry). RequestFits cell e.request) (entries_of session history) entry
-            (trace_fits (script_of shift session) shift.patience (begin_at 0) (entries_of session history)
-            (script_fits shift session shift_fits) whole.trace) own
+    -- the state behind the entries is admitted
+    admitted_behind : (parts : List Part) (entries : List Entry) → IsAdmitted cell parts → All (λ (entry : Entry). RequestFits cell entry.request) entries
+        → IsAdmitted cell (after cell parts entries)
+    admitted_behind parts [] admitted fit = admitted
+    admitted_behind parts (entry ∷ entries) admitted fit =
+        let Fits : Entry → Type 0 = λ e. RequestFits cell e.request in
+        admitted_behind (state_after_entry cell parts entry.request entry.told) entries
+        (stays parts entry.request entry.told admitted (All-head Fits entry entries fit)) (All-tail Fits entry entries fit)
+
+    module _ (shift : Shift) (history : List Entry) (shift_fits : ShiftFits cell shift) (rounds : IsRoundRobin cell [] shift history) where
+      -- an entry stands in the trace of its session
+      traced : (entry : Entry) → Contains history entry
+          → IsWholeTrace (script_of shift entry.session) shift.patience (begin_at 0) (entries_of entry.session history)
+          × Contains (entries_of entry.session history) entry
+      traced entry contains =
+          let session : ℕ = entry.session in
+          (
+            rounds.whole session (All-contains (λ (e : Entry). IsSession shift e.session) history entry rounds.sessions contains),
+            Contains-filter (λ (e : Entry). e.session == session) history entry contains (eq-eqb session session refl),
+          )
+
+      asked : (entry : Entry) → Contains history entry → RequestFits cell entry.request
+      asked entry contains =
+          let own = traced entry contains in
+          All-contains (λ (e : Entry). RequestFits cell e.request) (entries_of entry.session history) entry
+          (trace_fits (script_of shift entry.session) shift.patience (begin_at 0) (entries_of entry.session history)
+          (script_fits shift entry.session shift_fits) own.0.trace) own.1
+
+      requests_fit : All (λ (entry : Entry). RequestFits cell entry.request) history
+      requests_fit = All-from_Contains (λ (entry : Entry). RequestFits cell entry.request) history asked
+
+      -- the entries of a shift in rounds on the empty cell fit
+      pub rounds_fit : All (EntryFits cell) history
+      rounds_fit = entries_fit [] history (IsAdmitted-empty cell) rounds.legal requests_fit
+
+      -- the state behind them is drained by its plan
+      pub rounds_drain : let behind = after cell [] history in Drains cell behind (plan_of cell behind)
+      rounds_drain = (plan_law cell fits (after cell [] history) (admitted_behind [] history (IsAdmitted-empty cell) requests_fit)).drains
+
+      -- none of them halted
+      pub rounds_unhalted : holds_halt history ≡ false
+      rounds_unhalted =
+          none_halted history
+          (All-from_Contains (λ (entry : Entry). was_halted entry.told ≡ false) history
+          (λ entry contains. let own = traced entry contains in halted_of (entries_of entry.session history) entry own.0.unhalted own.1))

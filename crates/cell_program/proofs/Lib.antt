@@ -1,3 +1,4 @@
+mod BlockTexts
 mod Cuts
 mod Delivered
 mod Fitted

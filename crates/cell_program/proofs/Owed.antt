@@ -1,34 +1,65 @@
 -- How the outcomes of `solo` come about.
-use Rattle.std.proofs.Common.{◌≡◌, ℕ, List, length, Option, Ok, refl, ap, ◌∙◌}
-use Rattle.outside_io.specs.Causes.{Rose}
+use Rattle.std.proofs.Common.{◌≡◌, ℕ, List, [], ◌∷◌, length, Option, Ok, refl, sym, subst, ap, ◌∙◌}
+use Rattle.std.specs.List.{concat}
 use Rattle.outside_io.specs.Files.{Names}
 use Rattle.cell_base.specs.declared.cells.Cell.{Cell}
 use Rattle.cell_base.specs.declared.requests.Part.{Part}
+use Rattle.cell_base.specs.declared.shifts.Entry.{Entry}
 use Rattle.cell_base.specs.declared.shifts.Shift.{Shift}
+use Rattle.cell_base.specs.Fits.{CellFits, ShiftFits}
+use Rattle.cell_base.specs.Histories.{after}
+use Rattle.cell_base.specs.Plans.{plan_of}
+use Rattle.outside_io.specs.Causes.{Rose}
 use Rattle.cell_file.specs.Walk.{cell_of}
 use Rattle.shift_file.specs.Walk.{shift_of}
+use Rattle.cell_program.proofs.BlockTexts.{planned_text}
+use Rattle.cell_program.proofs.Fitted.{rounds_drain, rounds_unhalted}
+use Rattle.cell_program.specs.Blocks.{planned_block}
 use Rattle.cell_program.specs.CellEnds.{cell_end}
 use Rattle.cell_program.specs.ShiftEnds.{shift_end}
-use Rattle.cell_program.specs.Commands.{AfterFile, FileFailed, FileRefused, FileRead, OwesSolo}
-use Rattle.cell_program.specs.Ends.{MayCome, IsOwed, MemoryWanted}
-use Rattle.cell_program.specs.Reading.{IsUnread, ByFault, ByMemory, EndsEarly, Unread, Refused}
-use Rattle.cell_program.specs.Runs.{IsSoloRun, IsSoloText, record_of, text_of_run}
-use Rattle.cell_program.specs.Texts.{done, early_outcome}
-use Rattle.cell_program.specs.Told.{IsMadeOfFile}
+use Rattle.cell_program.specs.Commands.{Task, Nothing, Comes, FileFailed, FileRefused, FileRead, OwesSolo}
+use Rattle.cell_program.specs.Ends.{MayCome, IsOwed, MemoryWanted, IsDelivered, Ends}
+use Rattle.cell_program.specs.Reading.{ByFault, ByMemory, EndsEarly, Unread, Refused}
+use Rattle.cell_program.specs.Runs.{IsSoloRun, IsSoloRecord, lines_of_run}
+use Rattle.cell_program.specs.Texts.{done, usage, usage_text, early_outcome}
+use Rattle.cell_program.specs.Told.{Told, IsMadeOfFile}
 use Rattle.cell_program.specs.declared.early.Early.{Early}
-use Rattle.cell_program.specs.declared.early.Early.TheVariants.{Memory}
 use Rattle.cell_program.specs.declared.solo.SoloRun.{SoloRun}
 
--- the text of a run is that of its shift
-pub solo_text : (cell : Cell) (shift : Shift) (run : SoloRun) → IsSoloRun cell shift run → IsSoloText cell shift (text_of_run run)
-solo_text cell shift run is = record {
-  history = run.history.items;
-  rounds = is.rounds;
-  printed =
-      ap (λ (c : Cell). record_of c run.number run.history.items (length run.core.parts)) is.on
-      ∙ ap (λ (n : ℕ). record_of cell n run.history.items (length run.core.parts)) is.numbered
-      ∙ ap (λ (parts : List Part). record_of cell shift.number run.history.items (length parts)) is.left;
-}
+module _ (cell : Cell) (shift : Shift) (run : SoloRun) (is : IsSoloRun cell shift run) where
+  -- the lines of a run are those of its history and of the plan behind it
+  lines_are : let behind = after cell [] run.history.items in
+      lines_of_run run ≡ planned_block cell shift.number 0 run.history.items (length behind) (plan_of cell behind)
+  lines_are =
+      let history : List Entry = run.history.items in
+      ap (λ (c : Cell). planned_block c run.number 0 history (length run.core.parts) (plan_of c run.core.parts)) is.on
+      ∙ ap (λ (n : ℕ). planned_block cell n 0 history (length run.core.parts) (plan_of cell run.core.parts)) is.numbered
+      ∙ ap (λ (parts : List Part). planned_block cell shift.number 0 history (length parts) (plan_of cell parts)) is.left
+
+  -- and so are those of the record of its shift
+  solo_record : CellFits cell → ShiftFits cell shift → IsSoloRecord cell shift (lines_of_run run)
+  solo_record fits shift_fits =
+      let history : List Entry = run.history.items in
+      record {
+        history = history;
+        rounds = is.rounds;
+        drains = rounds_drain cell fits shift history shift_fits is.rounds;
+        printed = lines_are;
+        text = ap concat lines_are
+            ∙ planned_text cell [] shift.number 0 history (plan_of cell (after cell [] history))
+            (rounds_unhalted cell fits shift history shift_fits is.rounds);
+      }
+
+-- words that are no command
+pub ends_usage : (told : Told) (task : Task) → task ≡ Nothing → (line : List ℕ) (status : ℕ) → line ≡ usage_text
+    → IsDelivered told.sink (record { status = 2; lines = line ∷ [] }) status → Ends (Comes told task) told status
+ends_usage told task none line status is delivered =
+    subst (λ (t : Task). Ends (Comes told t) told status) (sym none)
+    (record {
+      outcome = usage;
+      comes = refl;
+      delivered = subst (λ (l : List ℕ). IsDelivered told.sink (record { status = 2; lines = l ∷ [] }) status) is delivered;
+    })
 
 module _ (names : Option Names) (faults faults_after : ℕ) (cell_name shift_name : List ℕ) where
   -- the cell was not read
@@ -51,6 +82,8 @@ module _ (names : Option Names) (faults faults_after : ℕ) (cell_name shift_nam
 
     -- both were read, and the shift ran
     pub ends_done : (shift : Shift) (run : SoloRun) → IsMadeOfFile names shift_name (shift_of cell) (Ok shift)
-        → IsSoloRun cell shift run → OwesSolo names faults faults_after cell_name shift_name (done (text_of_run run))
+        → CellFits cell → ShiftFits cell shift → IsSoloRun cell shift run
+        → OwesSolo names faults faults_after cell_name shift_name (done (lines_of_run run))
     unfolding OwesSolo
-    ends_done shift run read is = FileRead cell made (FileRead shift read (text_of_run run, solo_text cell shift run is, refl))
+    ends_done shift run read fits shift_fits is =
+        FileRead cell made (FileRead shift read (lines_of_run run, solo_record cell shift run is fits shift_fits, refl))

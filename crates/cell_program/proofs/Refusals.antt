@@ -1,7 +1,7 @@
 -- What the files hold decides which file is refused, and by which fault.
-use Rattle.std.proofs.Common.{◌≡◌, ◌⊎◌, inl, inr, ℕ, List, Option, Some, None, IsSomeAnd, Result, Ok, Err, sym, ◌∙◌, ap, subst}
-use Rattle.std.specs.Io.KnownBytes.{Appends}
+use Rattle.std.proofs.Common.{◌≡◌, ◌⊎◌, inl, inr, ℕ, List, Option, Some, None, IsSomeAnd, Result, Ok, Err, ◌∙◌, ap, subst}
 use Rattle.outside_io.specs.Files.{Names}
+use Rattle.outside_io.specs.Puts.{TookAll}
 use Rattle.cell_base.specs.declared.cells.Cell.{Cell}
 use Rattle.cell_base.specs.declared.shifts.Shift.{Shift}
 use Rattle.cell_file.specs.declared.faults.CellFault.{CellFault}
@@ -11,7 +11,7 @@ use Rattle.shift_file.specs.Walk.{shift_of}
 use Rattle.cell_program.specs.CellEnds.{cell_end}
 use Rattle.cell_program.specs.ShiftEnds.{shift_end}
 use Rattle.cell_program.specs.Commands.{Task, Nothing, Solo, Comes, AfterFile, OwesSolo, FileFailed, FileRefused, FileRead, HoldsBadCell, HoldsBadShift, IsAnswered, IsDone, TakesAll}
-use Rattle.cell_program.specs.Ends.{MayCome, IsOwed, MemoryWanted, Whole, SinkFailed, Ends}
+use Rattle.cell_program.specs.Ends.{IsOwed, MemoryWanted, Whole, SinkFailed, Ends}
 use Rattle.cell_program.specs.Texts.{Outcome, early_outcome}
 use Rattle.cell_program.specs.Told.{Told, IsMadeOfFile}
 use Rattle.cell_program.specs.declared.early.Early.{Early}
@@ -91,11 +91,11 @@ answered told task status early ends end read takes = elim ends.delivered [
   | SinkFailed eight taken rose ↦ absurd (takes rose)
 ]
   where
-    whole : status ≡ ends.outcome.status → Appends told.taken told.taken_after ends.outcome.text → IsEnd ends.outcome early
+    whole : status ≡ ends.outcome.status → TookAll told.sink ends.outcome.lines → IsEnd ends.outcome early
         → IsAnswered told early status
     whole same taken (inl starved) = inl (same ∙ status_of starved)
     whole same taken (inr (inl is)) =
-        inr (same ∙ status_of is, subst (Appends told.taken told.taken_after) (ap (λ (o : Outcome). o.text) is) taken)
+        inr (same ∙ status_of is, subst (TookAll told.sink) (ap (λ (o : Outcome). o.lines) is) taken)
     whole same taken (inr (inr three)) = absurd (read (same ∙ three))
 
 -- a file that is refused is answered by its fault

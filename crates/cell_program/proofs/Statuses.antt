@@ -1,26 +1,23 @@
 -- What the status of an end tells, by cases of how its outcome came about.
-use Rattle.std.proofs.Common.{◌≡◌, ◌⊎◌, inl, inr, ℕ, List, Ok, Err, sym, ◌∙◌, ap, subst, refl, arith}
-use Rattle.std.specs.Io.KnownBytes.{Appends}
+use Rattle.std.proofs.Common.{◌≡◌, ◌⊎◌, inl, inr, ℕ, ◌+◌, [], ◌∷◌, ◌++◌, length, take, sym, ◌∙◌, ap, subst, refl, arith}
+use Rattle.std.proofs.Math.Seq.{take-append-add}
 use Rattle.outside_io.specs.Causes.{Rose}
-use Rattle.cell_base.specs.declared.cells.Cell.{Cell}
-use Rattle.cell_base.specs.declared.shifts.Shift.{Shift}
+use Rattle.outside_io.specs.Puts.{TookAll, TookSome}
+use Rattle.outside_io.specs.PutLaws.{some_is_prefix}
 use Rattle.cell_file.specs.declared.faults.CellFault.{CellFault}
 use Rattle.cell_file.specs.declared.faults.CellFault.TheVariants.{NotToml, WrongKey, WrongKind, BadName, BadNumber, Repeated, UnknownName, TooMany, Empty, MixedOrders, TooManyUnits, Memory}
 use Rattle.shift_file.specs.declared.faults.ShiftFault.{ShiftFault}
 use Rattle.shift_file.specs.declared.faults.ShiftFault.TheVariants.{NotToml as ShiftNotToml, WrongKey as ShiftWrongKey, WrongKind as ShiftWrongKind, BadStep, BadNumber as ShiftBadNumber, UnknownName as ShiftUnknownName, Empty as ShiftEmpty, TooMany as ShiftTooMany, TooLong, TooManyAsks, Memory as ShiftMemory}
-use Rattle.cell_file.specs.Walk.{cell_of}
-use Rattle.shift_file.specs.Walk.{shift_of}
 use Rattle.cell_program.specs.CellEnds.{cell_end}
 use Rattle.cell_program.specs.ShiftEnds.{shift_end}
 use Rattle.cell_program.specs.Commands.{Task, Nothing, Solo, Comes, AreThere, OwesSolo, FileFailed, FileRefused, FileRead, IsAccepted, IsCellRefused, IsPrinted, IsShiftRefused, ReadsAll, files_of}
-use Rattle.cell_program.specs.Ends.{MayCome, IsOwed, MemoryWanted, Whole, SinkFailed, Ends}
-use Rattle.cell_program.specs.Runs.{IsSoloText}
+use Rattle.cell_program.specs.Ends.{IsOwed, MemoryWanted, Whole, SinkFailed, Ends, PutsLines}
 use Rattle.cell_program.specs.Texts.{Outcome, early_outcome}
-use Rattle.cell_program.specs.Told.{Told, IsMadeOfFile}
+use Rattle.cell_program.specs.Told.{Told}
 
 -- what each status of an outcome tells
 record Tells (told : Told) (task : Task) (outcome : Outcome) : Type 0 where
-  pub done : outcome.status ≡ 0 → Appends told.taken told.taken_after outcome.text → IsPrinted told task
+  pub done : outcome.status ≡ 0 → TookAll told.sink outcome.lines → IsPrinted told task
   pub none : outcome.status ≡ 2 → task ≡ Nothing
   pub unread : outcome.status ≡ 3 → Rose told.file_faults told.file_faults_after
   pub cell : outcome.status ≡ 4 → IsCellRefused told task
@@ -107,7 +104,7 @@ module _ (told : Told) (task : Task) (outcome : Outcome) where
     complete = λ accepted read. absurd (unaccepted accepted);
   }
 
-  printed : outcome.status ≡ 0 → (Appends told.taken told.taken_after outcome.text → IsPrinted told task) → Tells told task outcome
+  printed : outcome.status ≡ 0 → (TookAll told.sink outcome.lines → IsPrinted told task) → Tells told task outcome
   printed at prints = record {
     done = λ is taken. prints taken;
     none = λ is. absurd (omega (arith, at, is));
@@ -160,8 +157,7 @@ comes_tells told (Solo cell shift) outcome (IsOwed (FileRead c made (FileRead s 
         (
           solo.0,
           solo.1,
-          subst (Appends told.taken told.taken_after)
-              (ap (λ (o : Outcome). o.text) solo.2) taken,
+          subst (TookAll told.sink) (ap (λ (o : Outcome). o.lines) solo.2) taken,
         ),
       ),
     ))
@@ -200,14 +196,37 @@ module _ (told : Told) (task : Task) (status : ℕ) (ends : Ends (Comes told tas
     | SinkFailed eight taken rose ↦ absurd (omega (arith, eight, is))
   ]
 
-  pub ends_sink_fault : status ≡ 8 → Rose told.sink_faults told.sink_faults_after
+  pub ends_sink_fault : status ≡ 8 → Rose told.sink.faults told.sink.faults_after
   ends_sink_fault is = elim ends.delivered [
     | Whole same taken kept ↦ absurd (tells.never (sym same ∙ is))
     | SinkFailed eight taken rose ↦ rose
   ]
 
+  -- the lines that were put are all of an outcome's, or its first ones
+  pub ends_lines : PutsLines (Comes told task) told.sink status
+  ends_lines = elim ends.delivered [
+    | Whole same took kept ↦ record {
+      outcome = ends.outcome;
+      comes = ends.comes;
+      each = λ other. (same, took.put);
+      first = λ is. absurd (tells.never (sym same ∙ is));
+      part = λ is. absurd (tells.never (sym same ∙ is));
+    }
+    | SinkFailed eight took rose ↦ record {
+      outcome = ends.outcome;
+      comes = ends.comes;
+      each = λ other. absurd (other eight);
+      first = λ is. (length took.whole + 1, subst told.sink.puts (sym (first_lines took)) took.put);
+      part = λ is. some_is_prefix told.sink ends.outcome.lines took;
+    }
+  ]
+    where
+      first_lines : (took : TookSome told.sink ends.outcome.lines) → take (length took.whole + 1) ends.outcome.lines ≡ took.whole ++ took.last ∷ []
+      first_lines took =
+          ap (take (length took.whole + 1)) took.parted ∙ take-append-add took.whole (took.last ∷ took.rest) 1
+
   -- nothing is refused, and nothing outside fails
-  pub ends_complete : IsAccepted told task → (status ≡ 3 → ⊥) → (Rose told.sink_faults told.sink_faults_after → ⊥)
+  pub ends_complete : IsAccepted told task → (status ≡ 3 → ⊥) → (Rose told.sink.faults told.sink.faults_after → ⊥)
       → (status ≡ 0) ⊎ (status ≡ 9)
   ends_complete accepted read sink = elim ends.delivered [
     | Whole same taken kept ↦ along same (tells.complete accepted (λ is. read (same ∙ is)))

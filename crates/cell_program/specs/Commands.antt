@@ -1,9 +1,9 @@
 -- What each command owes, its tests in their order, and what its end tells.
 use Rattle.std.specs.Prelude.{◌≡◌, ◌⊎◌, ℕ, List, [], ◌∷◌, Option, IsSomeAnd, codes, if◌then◌else◌, Result, Ok, Err, ⊤}
 use Rattle.std.specs.Str.{bytes_eq}
-use Rattle.std.specs.Io.KnownBytes.{Appends}
 use Rattle.outside_io.specs.Causes.{Rose}
 use Rattle.outside_io.specs.Files.{Names, IsThere}
+use Rattle.outside_io.specs.Puts.{TookAll}
 use Rattle.cell_base.specs.declared.cells.Cell.{Cell}
 use Rattle.cell_base.specs.declared.shifts.Shift.{Shift}
 use Rattle.cell_file.specs.Walk.{cell_of}
@@ -13,8 +13,8 @@ use Rattle.shift_file.specs.declared.faults.ShiftFault.{ShiftFault}
 use Rattle.cell_program.specs.CellEnds.{cell_end}
 use Rattle.cell_program.specs.ShiftEnds.{shift_end}
 use Rattle.cell_program.specs.Ends.{MayCome}
-use Rattle.cell_program.specs.Runs.{IsSoloText}
-use Rattle.cell_program.specs.Texts.{Outcome, done, usage, early_outcome}
+use Rattle.cell_program.specs.Runs.{IsSoloRecord}
+use Rattle.cell_program.specs.Texts.{Outcome, done, usage, early_status, early_text, early_outcome}
 use Rattle.cell_program.specs.Told.{Told, IsMadeOfFile}
 use Rattle.cell_program.specs.declared.early.Early.{Early}
 use Rattle.cell_program.specs.declared.early.Early.TheVariants.{ReadFault}
@@ -52,9 +52,9 @@ pub data AfterFile {V E : Type 0} (names : Option Names) (faults faults_after : 
   FileRead : (value : V) → IsMadeOfFile names name make (Ok value) → follows value
       → AfterFile names faults faults_after name make end follows outcome
 
--- the text of a shift is printed
+-- the record of a shift is printed
 abbrev pub IsDone : Cell → Shift → Outcome → Type 0
-IsDone cell shift outcome = (text : List ℕ) × IsSoloText cell shift text × (outcome ≡ done text)
+IsDone cell shift outcome = (lines : List (List ℕ)) × IsSoloRecord cell shift lines × (outcome ≡ done lines)
 
 -- what `solo` owes: the cell is read, then the shift, and then the shift runs
 unfoldable pub OwesSolo : Option Names → ℕ → ℕ → List ℕ → List ℕ → Outcome → Type 0
@@ -84,12 +84,12 @@ IsShiftRefused told (Solo cell shift) =
     (c : Cell) × IsMadeOfFile told.names cell cell_of (Ok c)
     × ((fault : ShiftFault) × IsMadeOfFile told.names shift (shift_of c) (Err fault))
 
--- both files stand for a cell and a shift, and the sink took the text of the one history of that shift in rounds
+-- both files stand for a cell and a shift, and the sink took the lines of the record of that shift
 abbrev pub IsPrinted : Told → Task → Type 0
 IsPrinted told Nothing = ⊥
 IsPrinted told (Solo cell shift) =
     (c : Cell) × IsMadeOfFile told.names cell cell_of (Ok c) × ((s : Shift) × IsMadeOfFile told.names shift (shift_of c) (Ok s)
-    × ((text : List ℕ) × IsSoloText c s text × Appends told.taken told.taken_after text))
+    × ((lines : List (List ℕ)) × IsSoloRecord c s lines × TookAll told.sink lines))
 
 -- nothing that the command reads is refused
 abbrev pub IsAccepted : Told → Task → Type 0
@@ -107,7 +107,7 @@ ReadsAll told sound task = (Rose told.file_faults told.file_faults_after → ⊥
 
 -- the sink did not fail
 abbrev pub TakesAll : Told → Type 0
-TakesAll told = Rose told.sink_faults told.sink_faults_after → ⊥
+TakesAll told = Rose told.sink.faults told.sink.faults_after → ⊥
 
 -- the files tell, and hold bytes under the cell's name that this is the fault of
 abbrev pub HoldsBadCell : Told → Task → CellFault → Type 0
@@ -121,7 +121,7 @@ HoldsBadShift told (Solo cell shift) fault =
     (c : Cell) × IsSomeAnd told.names (λ names. IsSomeAnd (names cell) (λ bytes. cell_of bytes ≡ Ok c))
     × IsSomeAnd told.names (λ names. IsSomeAnd (names shift) (λ bytes. shift_of c bytes ≡ Err fault))
 
--- the status and the text are those of this end, or memory was wanting
+-- the status and the line are those of this end, or memory was wanting
 abbrev pub IsAnswered : Told → Early → ℕ → Type 0
 IsAnswered told early status =
-    (status ≡ 9) ⊎ ((status ≡ (early_outcome early).status) × Appends told.taken told.taken_after (early_outcome early).text)
+    (status ≡ 9) ⊎ ((status ≡ early_status early) × TookAll told.sink (early_text early ∷ []))

@@ -1,8 +1,10 @@
+pub mod Blocks
 pub mod CellEnds
 pub mod Commands
 pub mod Ends
-pub mod Runs
+pub mod OutSink
 pub mod Reading
+pub mod Runs
 pub mod ShiftEnds
 pub mod Texts
 pub mod Told

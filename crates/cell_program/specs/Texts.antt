@@ -12,14 +12,14 @@ use Rattle.cell_program.specs.declared.early.Early.{Early}
 use Rattle.cell_program.specs.declared.early.Early.TheVariants.{ReadFault, CellRefused, ShiftRefused, Memory}
 use Rattle.cell_program.specs.declared.findings.Finding.{Finding}
 
--- a status, and the text that is printed with it
+-- a status, and the lines that are printed with it, each with its newline
 pub record Outcome : Type 0 where
   pub status : ℕ
-  pub text : List ℕ
+  pub lines : List (List ℕ)
 
 -- a command that did what it is for
-abbrev pub done : List ℕ → Outcome
-done text = record { status = 0; text = text }
+abbrev pub done : List (List ℕ) → Outcome
+done lines = record { status = 0; lines = lines }
 
 -- ---- places
 
@@ -92,12 +92,27 @@ at number place = record { number = number; place = Some place; count = None }
 -- ---- outcomes
 
 -- the built commands with their words
-abbrev pub usage : Outcome
-usage = record { status = 2; text = codes "usage: solo CELL SHIFT" ++ 10 ∷ [] }
+abbrev pub usage_text : List ℕ
+usage_text = codes "usage: solo CELL SHIFT" ++ 10 ∷ []
 
--- the status and the line of an early end
+-- words that are no built command
+abbrev pub usage : Outcome
+usage = record { status = 2; lines = usage_text ∷ [] }
+
+-- the status of an early end
+abbrev pub early_status : Early → ℕ
+early_status ReadFault = 3
+early_status (CellRefused finding) = 4
+early_status (ShiftRefused finding) = 5
+early_status Memory = 9
+
+-- the line of an early end
+abbrev pub early_text : Early → List ℕ
+early_text ReadFault = codes "read fault" ++ 10 ∷ []
+early_text (CellRefused finding) = refusal_text (codes "cell") finding
+early_text (ShiftRefused finding) = refusal_text (codes "shift") finding
+early_text Memory = codes "want of memory" ++ 10 ∷ []
+
+-- both
 abbrev pub early_outcome : Early → Outcome
-early_outcome ReadFault = record { status = 3; text = codes "read fault" ++ 10 ∷ [] }
-early_outcome (CellRefused finding) = record { status = 4; text = refusal_text (codes "cell") finding }
-early_outcome (ShiftRefused finding) = record { status = 5; text = refusal_text (codes "shift") finding }
-early_outcome Memory = record { status = 9; text = codes "want of memory" ++ 10 ∷ [] }
+early_outcome early = record { status = early_status early; lines = early_text early ∷ [] }

@@ -2,7 +2,7 @@
 ghost use Rattle.std.specs.Prelude.{◌≡◌};
 ghost use Rattle.cell_program.specs.declared.early.Early.TheVariants.{Memory};
 ghost use Rattle.cell_program.specs.Reading.{unread_end};
-ghost use Rattle.cell_program.specs.Texts.{early_outcome};
+ghost use Rattle.cell_program.specs.Texts.{early_status};
 
 use crate::findings::Finding;
 use cell_base::NoMemory;
@@ -24,7 +24,7 @@ pub enum Early {
 impl Early {
     /// The exit status.
     pub fn status(&self) -> u8
-        ensures { result ≡ (early_outcome self.now).status }
+        ensures { result ≡ early_status self.now }
     {
         match self {
             Early::ReadFault => 3,

@@ -2,8 +2,7 @@
 //!
 //! `cell_main` is the top call. It answers a status and hands back the disk. Its clause `ends` is the walk of each command
 //! in the order of its tests; the clauses beside it say what a caller may rely on most: that a status comes only by its
-//! cause, the text that is printed, and that nothing is refused without a cause. Each line of the output is put to the
-//! sink by itself; that is tested, and no clause says it.
+//! cause, the lines that are printed, each of them by one `put`, and that nothing is refused without a cause.
 //!
 //! ```text
 //! let words = words_of(alloc, &["solo", "cell.toml", "shift.toml"])?;

@@ -2,7 +2,7 @@
 ghost use Rattle.std.specs.Prelude.{◌≡◌, ◌+◌, ◌≤◌, ◌++◌, [], length, IfSome};
 ghost use Rattle.std.specs.Option.{option_map, option_map_or};
 ghost use Rattle.record_text.specs.Spaced.{spaced};
-ghost use Rattle.cell_program.specs.Texts.{section_word, item_words, field_word, field_words, number_words, place_words, finding_words, refusal_text, usage, early_outcome};
+ghost use Rattle.cell_program.specs.Texts.{section_word, item_words, field_word, field_words, number_words, place_words, finding_words, refusal_text, usage_text, early_text};
 
 use crate::early::Early;
 use crate::findings::Finding;
@@ -11,7 +11,7 @@ use record_text::Line;
 
 /// The built commands with their words.
 pub fn usage_line() -> Line
-    ensures { result ≡ usage.text }
+    ensures { result ≡ usage_text }
 {
     Line::of_word(b"usage: solo CELL SHIFT").end()
 }
@@ -19,7 +19,7 @@ pub fn usage_line() -> Line
 impl Early {
     /// The line that is printed at this end.
     pub fn line(&self) -> Line
-        ensures { result ≡ (early_outcome self.now).text }
+        ensures { result ≡ early_text self.now }
     {
         match self {
             Early::ReadFault => Line::of_word(b"read fault").end(),

@@ -1,27 +1,27 @@
-//! A shift on the empty cell, on one thread: read, run and printed up to its left line.
+//! A shift on the empty cell, on one thread: read, run and printed, with the plan that empties the cell behind it.
 ghost use Rattle.std.specs.Prelude.{◌≡◌, ◌*◌, ◌≤◌, IfOk, IfErr, OnOk, OnErr, IsErrOf, length};
 ghost use Rattle.std.specs.List.{All};
-ghost use Rattle.std.specs.Io.KnownBytes.{Appends};
 ghost use Rattle.outside_io.specs.Causes.{HasCause};
 ghost use Rattle.outside_io.specs.Files.{IsThere};
-ghost use Rattle.outside_io.specs.Sink.{AppendsPrefix};
+ghost use Rattle.outside_io.specs.Puts.{TookAll, TookSome, sink_told};
 ghost use Rattle.cell_base.specs.declared.limits.TheConstants.{MAX_STEPS, MAX_ASKS};
 ghost use Rattle.cell_base.specs.Fits.{CellFits, ShiftFits, steps_of};
 ghost use Rattle.record_text.specs.Fitting.{EntryFits};
 ghost use Rattle.cell_program.specs.Commands.{OwesSolo};
 ghost use Rattle.cell_program.specs.Ends.{MayCome};
-ghost use Rattle.cell_program.specs.Runs.{IsSoloRun, text_of_run};
+ghost use Rattle.cell_program.specs.Runs.{IsSoloRun, lines_of_run};
 ghost use Rattle.cell_program.specs.Texts.{done, early_outcome};
 ghost use Rattle.cell_program.specs.declared.early.Early.TheVariants.{ReadFault};
 
 use crate::early::Early;
-use crate::printing::{print_entries, print_line};
+use crate::printing::{print_history, print_line, print_plan};
 use crate::reading::{read_cell_file, read_shift_file};
 use admission_core::Core;
 use cell_base::{Cell, Entry, NoMemory, Shelf, Shift};
 use cell_sessions::solo;
+use drain_planner::Drainer;
 use outside_io::{Failed, Files, Sink};
-use record_text::{head_line, left_line};
+use record_text::left_line;
 use std::alloc::Global;
 
 /// A shift that ran: the core behind it, its number and its history.
@@ -68,7 +68,7 @@ pub fn run_of_files<F: Files>(
 ) -> Result<SoloRun, Early>
     ensures run { IfOk result (λ run.
         OwesSolo (F.holds files.old) (F.faults files.old) (F.faults files.new) cell.now shift.now
-        (done (text_of_run run))) }
+        (done (lines_of_run run))) }
     ensures fits { IfOk result (λ run. All (EntryFits run.core.cell) run.history.items) }
     ensures early { IfErr result (λ early. MayCome
         (OwesSolo (F.holds files.old) (F.faults files.old) (F.faults files.new) cell.now shift.now)
@@ -81,18 +81,23 @@ pub fn run_of_files<F: Files>(
     Ok(run_rounds(alloc, cell, &shift)?)
 }
 
-/// Prints the head, the entries and the left line, each by itself, up to the first that the sink doesn't take.
-pub fn print_run<K: Sink>(out: &mut K, run: &SoloRun) -> Result<(), Failed>
-    requires { All (EntryFits run.now.core.cell) run.now.history.items }
-    ensures whole { OnOk result (Appends (K.taken out.old) (K.taken out.new) (text_of_run run.now)) }
-    ensures part { OnErr result (AppendsPrefix (K.taken out.old) (K.taken out.new) (text_of_run run.now)) }
+/// Prints the record, each line by itself, up to the first that the sink doesn't take.
+pub fn print_run<K: Sink>(out: &mut K, run: SoloRun) -> Result<(), Failed>
+    requires { All (EntryFits run.core.cell) run.history.items }
+    ensures whole { OnOk result (TookAll (sink_told K.taken K.was_put K.faults out.old out.new) (lines_of_run run)) }
+    ensures part { OnErr result (TookSome (sink_told K.taken K.was_put K.faults out.old out.new) (lines_of_run run)) }
     ensures cause { HasCause (K.faults out.old) (K.faults out.new) result }
 {
-    if let Err(failed) = print_line(out, &head_line(run.number, 0)) {
+    let SoloRun {
+        core,
+        number,
+        history,
+    } = run;
+    if let Err(failed) = print_history(out, core.cell(), number, 0, history.as_slice()) {
         return Err(failed);
     }
-    if let Err(failed) = print_entries(out, run.core.cell(), run.history.as_slice()) {
+    if let Err(failed) = print_line(out, &left_line(core.parts_left())) {
         return Err(failed);
     }
-    print_line(out, &left_line(run.core.parts_left()))
+    print_plan(out, &mut Drainer::new(core))
 }

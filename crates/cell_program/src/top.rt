@@ -1,15 +1,16 @@
 //! The top call.
-ghost use Rattle.std.specs.Prelude.{◌≡◌, ◌⊎◌, map};
+ghost use Rattle.std.specs.Prelude.{◌≡◌, ◌⊎◌, [], ◌∷◌, map};
 ghost use Rattle.std.specs.String.{string_bytes};
 ghost use Rattle.outside_io.specs.Causes.{Rose};
 ghost use Rattle.outside_io.specs.Files.{IsThere};
+ghost use Rattle.outside_io.specs.Puts.{sink_told};
 ghost use Rattle.cell_program.specs.Commands.{Comes, Nothing, Solo, AreThere, HoldsBadCell, HoldsBadShift, IsAccepted, IsAnswered, IsCellRefused, IsPrinted, IsShiftRefused, ReadsAll, TakesAll, files_of, task_of};
 ghost use Rattle.cell_program.specs.CellEnds.{cell_end};
 ghost use Rattle.cell_program.specs.ShiftEnds.{shift_end};
 ghost use Rattle.cell_file.specs.declared.faults.CellFault.{CellFault};
 ghost use Rattle.shift_file.specs.declared.faults.ShiftFault.{ShiftFault};
-ghost use Rattle.cell_program.specs.Ends.{Ends, IsDelivered};
-ghost use Rattle.cell_program.specs.Texts.{Outcome, usage, early_outcome};
+ghost use Rattle.cell_program.specs.Ends.{Ends, IsDelivered, PutsLines};
+ghost use Rattle.cell_program.specs.Texts.{Outcome};
 ghost use Rattle.cell_program.specs.Told.{told_by};
 
 use crate::early::Early;
@@ -42,11 +43,16 @@ pub fn cell_main<R: Threads + Wait + Sync, F: Files, K: Sink, D: Disk + Send, P:
     _pace: &P,
 ) -> Ended<D>
     // Some outcome may come of the words, and is what the sink was given, with its status.
-    ensures ends { let told = told_by F.holds F.faults K.taken K.faults files.old files.new out.old out.new in
+    ensures ends { let told = told_by F.holds F.faults K.taken K.was_put K.faults files.old files.new out.old out.new in
         Ends (Comes told (task_of (map string_bytes words.now))) told result.status }
 
-    // Status 0: both files stand for a cell and a shift, and the text of the one history in rounds was taken.
-    ensures done { let told = told_by F.holds F.faults K.taken K.faults files.old files.new out.old out.new in
+    // Every line of the output is one put, in its turn.
+    ensures lines { let told = told_by F.holds F.faults K.taken K.was_put K.faults files.old files.new out.old out.new in
+        PutsLines (Comes told (task_of (map string_bytes words.now))) told.sink result.status }
+
+    // Status 0: both files stand for a cell and a shift, and the lines of the record were taken: the one history in rounds,
+    // and the plan that drains the state behind it.
+    ensures done { let told = told_by F.holds F.faults K.taken K.was_put K.faults files.old files.new out.old out.new in
         result.status ≡ 0 → IsPrinted told (task_of (map string_bytes words.now)) }
 
     // Status 2 exactly where the words are no built command, unless the sink fails.
@@ -54,9 +60,9 @@ pub fn cell_main<R: Threads + Wait + Sync, F: Files, K: Sink, D: Disk + Send, P:
     ensures usage { task_of (map string_bytes words.now) ≡ Nothing → (result.status ≡ 2) ⊎ (result.status ≡ 8) }
 
     ensures read_fault { result.status ≡ 3 → Rose (F.faults files.old) (F.faults files.new) }
-    ensures cell_refused { let told = told_by F.holds F.faults K.taken K.faults files.old files.new out.old out.new in
+    ensures cell_refused { let told = told_by F.holds F.faults K.taken K.was_put K.faults files.old files.new out.old out.new in
         result.status ≡ 4 → IsCellRefused told (task_of (map string_bytes words.now)) }
-    ensures shift_refused { let told = told_by F.holds F.faults K.taken K.faults files.old files.new out.old out.new in
+    ensures shift_refused { let told = told_by F.holds F.faults K.taken K.was_put K.faults files.old files.new out.old out.new in
         result.status ≡ 5 → IsShiftRefused told (task_of (map string_bytes words.now)) }
     ensures sink_fault { result.status ≡ 8 → Rose (K.faults out.old) (K.faults out.new) }
 
@@ -67,15 +73,15 @@ pub fn cell_main<R: Threads + Wait + Sync, F: Files, K: Sink, D: Disk + Send, P:
 
     // Where nothing outside fails, what the files hold decides: a refused cell is answered by its fault, and so is a
     // refused shift of a cell that isn't; else it is done. Memory may be wanting in the place of each.
-    ensures refuses_cell { let told = told_by F.holds F.faults K.taken K.faults files.old files.new out.old out.new in
+    ensures refuses_cell { let told = told_by F.holds F.faults K.taken K.was_put K.faults files.old files.new out.old out.new in
         let task = task_of (map string_bytes words.now) in
         (fault : CellFault) → HoldsBadCell told task fault → ReadsAll told (F.is_sound files.old) task → TakesAll told
         → IsAnswered told (cell_end fault) result.status }
-    ensures refuses_shift { let told = told_by F.holds F.faults K.taken K.faults files.old files.new out.old out.new in
+    ensures refuses_shift { let told = told_by F.holds F.faults K.taken K.was_put K.faults files.old files.new out.old out.new in
         let task = task_of (map string_bytes words.now) in
         (fault : ShiftFault) → HoldsBadShift told task fault → ReadsAll told (F.is_sound files.old) task → TakesAll told
         → IsAnswered told (shift_end fault) result.status }
-    ensures complete { let told = told_by F.holds F.faults K.taken K.faults files.old files.new out.old out.new in
+    ensures complete { let told = told_by F.holds F.faults K.taken K.was_put K.faults files.old files.new out.old out.new in
         let task = task_of (map string_bytes words.now) in
         IsAccepted told task → ReadsAll told (F.is_sound files.old) task → TakesAll told
         → (result.status ≡ 0) ⊎ (result.status ≡ 9) }
@@ -89,7 +95,7 @@ pub fn cell_main<R: Threads + Wait + Sync, F: Files, K: Sink, D: Disk + Send, P:
 
 // Finds the command and runs it.
 fn run_command<F: Files, K: Sink>(alloc: Global, words: &[String], files: &mut F, out: &mut K) -> u8
-    ensures ends { let told = told_by F.holds F.faults K.taken K.faults files.old files.new out.old out.new in
+    ensures ends { let told = told_by F.holds F.faults K.taken K.was_put K.faults files.old files.new out.old out.new in
         Ends (Comes told (task_of (map string_bytes words.now))) told result }
     ensures sound { F.is_sound files.old
         → AreThere (F.holds files.old) (files_of (task_of (map string_bytes words.now)))
@@ -109,13 +115,13 @@ fn end_solo<F: Files, K: Sink>(
     cell: &str,
     shift: &str,
 ) -> u8
-    ensures ends { let told = told_by F.holds F.faults K.taken K.faults files.old files.new out.old out.new in
+    ensures ends { let told = told_by F.holds F.faults K.taken K.was_put K.faults files.old files.new out.old out.new in
         Ends (Comes told (Solo cell.now shift.now)) told result }
     ensures sound { F.is_sound files.old → IsThere (F.holds files.old) cell.now
         → IsThere (F.holds files.old) shift.now → result ≡ 3 → ⊥ }
 {
     match run_of_files(alloc, files, cell, shift) {
-        Ok(run) => match print_run(out, &run) {
+        Ok(run) => match print_run(out, run) {
             Ok(()) => 0,
             Err(_) => 8,
         },
@@ -125,8 +131,8 @@ fn end_solo<F: Files, K: Sink>(
 
 // Prints a line, and answers its status, or 8 where the sink fails.
 fn finish<K: Sink>(out: &mut K, status: u8, line: &Line) -> u8
-    ensures { IsDelivered (K.taken out.old) (K.taken out.new) (K.faults out.old) (K.faults out.new)
-        record { status = status; text = line.now } result }
+    ensures { IsDelivered (sink_told K.taken K.was_put K.faults out.old out.new)
+        record { status = status; lines = line.now ∷ [] } result }
 {
     match print_line(out, line) {
         Ok(()) => status,

@@ -9,9 +9,10 @@ pub struct Conversation {
     alloc: Global,
     name: String,
     words: Vec<String>,
-    // What is to be printed; where any lines may stand in it, what comes before them, and then what comes behind.
+    // What is to be printed; where any lines may stand in it, what comes before the first of them, and then each piece
+    // behind some.
     printed: String,
-    behind: Option<String>,
+    behind: Vec<String>,
     status: u8,
 }
 
@@ -23,7 +24,7 @@ impl Conversation {
             name: String::from_str(alloc, name)?,
             words: Vec::new(alloc),
             printed: String::new(alloc),
-            behind: None,
+            behind: Vec::new(alloc),
             status: 0,
         })
     }
@@ -36,12 +37,12 @@ impl Conversation {
 
     /// Adds a line of what is to be printed; `...` stands for any lines.
     pub fn add_printed(&mut self, line: &str) -> Result<()> {
-        let text = match &mut self.behind {
+        if line == "..." {
+            self.behind.push(String::new(self.alloc))?;
+            return Ok(());
+        }
+        let text = match self.behind.last_mut() {
             Some(behind) => behind,
-            None if line == "..." => {
-                self.behind = Some(String::new(self.alloc));
-                return Ok(());
-            }
             None => &mut self.printed,
         };
         text.push_str(line)?;
@@ -74,14 +75,19 @@ impl Conversation {
     }
 
     fn is_printed_as(&self, text: &[u8]) -> bool {
-        let printed = self.printed.as_bytes();
-        let Some(behind) = &self.behind else {
-            return text == printed;
-        };
-        let Some(rest) = text.strip_prefix(printed) else {
+        let Some(mut rest) = text.strip_prefix(self.printed.as_bytes()) else {
             return false;
         };
-        match rest.strip_suffix(behind.as_bytes()) {
+        let Some((last, pieces)) = self.behind.split_last() else {
+            return rest.is_empty();
+        };
+        for piece in pieces {
+            match behind_piece(rest, piece.as_bytes()) {
+                Some(behind) => rest = behind,
+                None => return false,
+            }
+        }
+        match rest.strip_suffix(last.as_bytes()) {
             Some(between) => between.is_empty() || between.ends_with(b"\n"),
             None => false,
         }
@@ -89,12 +95,25 @@ impl Conversation {
 
     /// What is to be printed with which status, as the script has it.
     pub fn written(&self) -> Result<String> {
-        let printed = self.printed.as_str();
+        let mut text = String::from_str(self.alloc, self.printed.as_str())?;
+        for piece in &self.behind {
+            text.push_str("...\n")?;
+            text.push_str(piece.as_str())?;
+        }
         let status = self.status;
-        let Some(behind) = &self.behind else {
-            return Ok(format!(in self.alloc; "{printed}= {status}\n")?);
-        };
-        let behind = behind.as_str();
-        Ok(format!(in self.alloc; "{printed}...\n{behind}= {status}\n")?)
+        let text = text.as_str();
+        Ok(format!(in self.alloc; "{text}= {status}\n")?)
     }
+}
+
+// What comes behind a piece, where it first stands at the beginning of a line.
+fn behind_piece<'a>(text: &'a [u8], piece: &[u8]) -> Option<&'a [u8]> {
+    let mut rest = text;
+    for line in text.split_inclusive(|byte| *byte == b'\n') {
+        if let Some(behind) = rest.strip_prefix(piece) {
+            return Some(behind);
+        }
+        rest = rest.get(line.len()..)?;
+    }
+    None
 }

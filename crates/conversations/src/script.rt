@@ -21,7 +21,7 @@
 //! | `\times N TEXT` | the text N times, without a newline |
 //! | `\hex DIGITS` | these bytes |
 //!
-//! In what is printed a line `...` stands for any lines; there is at most one.
+//! In what is printed a line `...` stands for any lines.
 
 use crate::conversation::Conversation;
 use crate::draft::Draft;

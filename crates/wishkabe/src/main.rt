@@ -3,19 +3,36 @@
 
 use cell_program::{DirFiles, OutSink, cell_main};
 use outside_io::{FreePace, NullDisk};
+use std::io::{BufWriter, Write};
 use std::process::ExitCode;
-use std::rt::Env;
+use std::rt::{Env, Files};
+use std::sync::Wait;
+use std::thread::Threads;
 use std::{env, io};
 
+// A buffer makes one write of many lines. Where there is no memory for it, each line is a write.
 fn main(rt: HostRuntime) -> ExitCode {
-    let words = words_behind_name(&rt);
-    let mut files = DirFiles::new(&rt);
-    let mut out = OutSink::new(io::writer(&rt));
+    let status = match BufWriter::new(rt.alloc(), io::writer(&rt)) {
+        Ok(writer) => run_over(&rt, writer),
+        Err(_) => run_over(&rt, io::writer(&rt)),
+    };
+    ExitCode::from(status)
+}
+
+// Runs the command, and answers its status, or 8 where what it printed could not be written.
+fn run_over<R: Env + AllocGlobal + Files + Threads + Wait + Sync, W: Write + Drop>(
+    rt: &R,
+    writer: W,
+) -> u8 {
+    let words = words_behind_name(rt);
+    let mut files = DirFiles::new(rt);
+    let mut out = OutSink::new(writer);
     let alloc = rt.alloc();
-    let ended = cell_main(
-        &rt, alloc, &words, &mut files, &mut out, NullDisk, &FreePace,
-    );
-    ExitCode::from(ended.status)
+    let ended = cell_main(rt, alloc, &words, &mut files, &mut out, NullDisk, &FreePace);
+    match out.flush() {
+        Ok(()) => ended.status,
+        Err(_) => 8,
+    }
 }
 
 // The words behind the program's name. Words that can't be had, as those that aren't UTF-8, are none: no command has

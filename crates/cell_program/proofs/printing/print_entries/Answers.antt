@@ -1,11 +1,30 @@
--- The sink failed within the line of an entry.
-use Rattle.std.proofs.Common.{arith}
-use Rattle.cell_program.proofs.Delivered.{entries_part}
+-- The line of one more entry was taken, or the sink failed at it.
+use Rattle.std.proofs.Common.{List, arith, drop, subst, ◌∙◌}
+use Rattle.outside_io.specs.Puts.{SinkTold, sink_told}
+use Rattle.cell_base.specs.declared.shifts.Entry.{Entry}
+use Rattle.cell_program.specs.Blocks.{entry_line}
+use Rattle.cell_program.proofs.Delivered.{Underway, begins, breaks_off, ends, goes_on, rest_at}
 use Rattle.cell_program.proofs.printing.print_entries.Goals as goal
 
 pub returns-in-Err-clause-part : goal.returns-in-Err-clause-part
 returns-in-Err-clause-part g c =
-    let taken = g.K.Sink.taken in
-    entries_part c.args.cell.now c.args.entries.now c.loop-entry.entry-index _ c.line_of.result (taken c.args.out.now)
-    (taken c.loop-entry.out) (taken c.print_line.new.out)
-    (omega (arith, c.loop-entry-test.true)) c.loop-entry.invariant.printed c.line_of.ensures c.in-Err.ensures.part
+    let told : SinkTold = sink_told g.K.Sink.taken g.K.Sink.was_put g.K.Sink.faults c.args.out.now c.loop-entry.out in
+    let entries : List Entry = c.args.entries.now in
+    breaks_off g.K.Sink.taken g.K.Sink.was_put g.K.Sink.faults (entry_line c.args.cell.now) entries c.args.out.now c.loop-entry.out
+    c.print_line.new.out _ _ c.line_of.result c.line_of.ensures
+    (subst (Underway told (entry_line c.args.cell.now) entries)
+    (rest_at entries c.loop-entry.entry-index _ (omega (arith, c.loop-entry-test.true))) c.loop-entry.invariant.printed)
+    c.in-Err.ensures.part
+
+pub loop-entry-preserved : goal.loop-entry-preserved
+loop-entry-preserved g c =
+    let told : SinkTold = sink_told g.K.Sink.taken g.K.Sink.was_put g.K.Sink.faults c.args.out.now c.loop-entry.out in
+    let entries : List Entry = c.args.entries.now in
+    record {
+      printed = goes_on g.K.Sink.taken g.K.Sink.was_put g.K.Sink.faults (entry_line c.args.cell.now) entries c.args.out.now
+          c.loop-entry.out c.print_line.new.out _ _ c.line_of.result c.line_of.ensures
+          (subst (Underway told (entry_line c.args.cell.now) entries)
+          (rest_at entries c.loop-entry.entry-index _ (omega (arith, c.loop-entry-test.true))) c.loop-entry.invariant.printed)
+          c.in_default.ensures.whole;
+      still = c.in_default.ensures.cause.kept ∙ c.loop-entry.invariant.still;
+    }

@@ -1,5 +1,4 @@
 -- What is made of the bytes that were read is made of the file.
-use Rattle.std.proofs.Common.{subst, sym, ap, ◌∙◌}
 use Rattle.cell_program.proofs.Cuts.{cell_made, cell_unmade}
 use Rattle.cell_program.proofs.reading.read_cell_file.Goals as goal
 

@@ -1,52 +1,72 @@
--- The sink failed within the head, an entry or the left line, or took the whole record.
-use Rattle.std.proofs.Common.{ℕ, refl, subst, length, ap, ◌∙◌}
-use Rattle.std.specs.Io.KnownBytes.{Appends}
+-- The sink failed in the history, at the left line or in the plan, or took the whole record.
+use Rattle.std.proofs.Common.{List, ℕ, length, ap, refl, subst, ◌∙◌}
 use Rattle.std.proofs.lemmas.Result.{on_err_weaker, on_ok_weaker}
-use Rattle.outside_io.specs.Sink.{AppendsPrefix}
+use Rattle.outside_io.specs.Puts.{TookAll, TookSome, sink_told}
+use Rattle.admission_core.specs.CoreState.{CoreState}
+use Rattle.cell_base.specs.declared.cells.Cell.{Cell}
+use Rattle.cell_base.specs.declared.shifts.Entry.{Entry}
+use Rattle.cell_base.specs.Plans.{plan_of}
 use Rattle.record_text.specs.Lines.{line_of, left_words}
-use Rattle.cell_program.proofs.Delivered.{part_of_head, part_of_entries, part_of_left, same_text, whole_record}
+use Rattle.cell_program.specs.Blocks.{history_lines, plan_lines}
+use Rattle.cell_program.proofs.Delivered.{part_of_history, part_of_left, part_of_plan, whole_block}
 use Rattle.cell_program.proofs.solo.print_run.Goals as goal
 
 pub returns-in-Err-clause-part : goal.returns-in-Err-clause-part
 returns-in-Err-clause-part g c =
-    let taken = g.K.Sink.taken in
-    let run = c.args.run.now in
-    part_of_head run.core.cell run.number run.history.items (length run.core.parts) c.head_line.result _ c.head_line.ensures refl
-    (taken c.args.out.now) (taken c.print_line.new.out) c.in-Err.ensures.part
+    let told = sink_told g.K.Sink.taken g.K.Sink.was_put g.K.Sink.faults c.args.out.now c.print_history.new.out in
+    let run = c.args.run in
+    let same =
+    ap (λ (cell : Cell). history_lines cell run.number 0 c.as_slice.result.now) c.cell.ensures.cell
+    ∙ ap (history_lines run.core.cell run.number 0) c.as_slice.ensures in
+    part_of_history g.K.Sink.taken g.K.Sink.was_put g.K.Sink.faults run.core.cell run.number 0 run.history.items
+    (length run.core.parts) (plan_of run.core.cell run.core.parts) (line_of (left_words (length run.core.parts))) refl
+    c.args.out.now c.print_history.new.out (subst (TookSome told) same c.in-Err.ensures.part)
 
-pub returns-in-Err-print_entries-clause-part : goal.returns-in-Err-print_entries-clause-part
-returns-in-Err-print_entries-clause-part g c =
-    let taken = g.K.Sink.taken in
-    let run = c.args.run.now in
-    let same = same_text c.cell.result.now run.core.cell c.as_slice.result.now run.history.items c.cell.ensures.cell c.as_slice.ensures in
-    part_of_entries run.core.cell run.number run.history.items (length run.core.parts) c.head_line.result _ c.head_line.ensures refl
-    (taken c.args.out.now) (taken c.print_line.new.out) (taken c.print_entries.new.out) c.in_default.ensures.whole
-    (subst (AppendsPrefix (taken c.print_line.new.out) (taken c.print_entries.new.out)) same c.in-Err-print_entries.ensures.part)
+pub returns-in-Err-print_line-clause-part : goal.returns-in-Err-print_line-clause-part
+returns-in-Err-print_line-clause-part g c =
+    let told = sink_told g.K.Sink.taken g.K.Sink.was_put g.K.Sink.faults c.args.out.now c.print_history.new.out in
+    let run = c.args.run in
+    let same =
+    ap (λ (cell : Cell). history_lines cell run.number 0 c.as_slice.result.now) c.cell.ensures.cell
+    ∙ ap (history_lines run.core.cell run.number 0) c.as_slice.ensures in
+    part_of_left g.K.Sink.taken g.K.Sink.was_put g.K.Sink.faults run.core.cell run.number 0 run.history.items
+    (length run.core.parts) (plan_of run.core.cell run.core.parts) c.left_line.result
+    (c.left_line.ensures ∙ ap (λ (n : ℕ). line_of (left_words n)) c.parts_left.ensures)
+    c.args.out.now c.print_history.new.out c.print_line.new.out (subst (TookAll told) same c.in_default.ensures.whole)
+    c.in-Err-print_line.ensures.part
 
 pub returns-clause-part : goal.returns-clause-part
 returns-clause-part g c =
-    let taken = g.K.Sink.taken in
-    let run = c.args.run.now in
-    let same = same_text c.cell.result.now run.core.cell c.as_slice.result.now run.history.items c.cell.ensures.cell c.as_slice.ensures in
+    let told = sink_told g.K.Sink.taken g.K.Sink.was_put g.K.Sink.faults in
+    let run = c.args.run in
+    let same =
+    ap (λ (cell : Cell). history_lines cell run.number 0 c.as_slice.result.now) c.cell.ensures.cell
+    ∙ ap (history_lines run.core.cell run.number 0) c.as_slice.ensures in
+    let plan = ap (λ (core : CoreState). plan_lines core.cell (plan_of core.cell core.parts)) c.new.ensures in
     on_err_weaker _
-    (part_of_left run.core.cell run.number run.history.items
-    (length run.core.parts) c.head_line.result c.left_line.result c.head_line.ensures
+    (λ part. part_of_plan g.K.Sink.taken g.K.Sink.was_put g.K.Sink.faults run.core.cell run.number 0 run.history.items
+    (length run.core.parts) (plan_of run.core.cell run.core.parts) c.left_line.result
     (c.left_line.ensures ∙ ap (λ (n : ℕ). line_of (left_words n)) c.parts_left.ensures)
-    (taken c.args.out.now) (taken c.print_line.new.out) (taken c.print_entries.new.out) c.in_default.ensures.whole
-    (taken c.print_line-2.new.out)
-    (subst (Appends (taken c.print_line.new.out) (taken c.print_entries.new.out)) same c.in_default-print_entries.ensures.whole))
-    c.print_line-2.ensures.part
+    c.args.out.now c.print_history.new.out c.print_line.new.out
+    (subst (TookAll (told c.args.out.now c.print_history.new.out)) same c.in_default.ensures.whole)
+    c.print_plan.new.out c.in_default-print_line.ensures.whole
+    (subst (TookSome (told c.print_line.new.out c.print_plan.new.out)) plan part))
+    c.print_plan.ensures.part
 
 pub returns-clause-whole : goal.returns-clause-whole
 returns-clause-whole g c =
-    let taken = g.K.Sink.taken in
-    let run = c.args.run.now in
-    let same = same_text c.cell.result.now run.core.cell c.as_slice.result.now run.history.items c.cell.ensures.cell c.as_slice.ensures in
+    let told = sink_told g.K.Sink.taken g.K.Sink.was_put g.K.Sink.faults in
+    let run = c.args.run in
+    let same =
+    ap (λ (cell : Cell). history_lines cell run.number 0 c.as_slice.result.now) c.cell.ensures.cell
+    ∙ ap (history_lines run.core.cell run.number 0) c.as_slice.ensures in
+    let plan = ap (λ (core : CoreState). plan_lines core.cell (plan_of core.cell core.parts)) c.new.ensures in
     on_ok_weaker _
-    (whole_record run.core.cell run.number run.history.items
-    (length run.core.parts) c.head_line.result c.left_line.result c.head_line.ensures
+    (λ whole. whole_block g.K.Sink.taken g.K.Sink.was_put g.K.Sink.faults run.core.cell run.number 0 run.history.items
+    (length run.core.parts) (plan_of run.core.cell run.core.parts) c.left_line.result
     (c.left_line.ensures ∙ ap (λ (n : ℕ). line_of (left_words n)) c.parts_left.ensures)
-    (taken c.args.out.now) (taken c.print_line.new.out) (taken c.print_entries.new.out) c.in_default.ensures.whole
-    (taken c.print_line-2.new.out)
-    (subst (Appends (taken c.print_line.new.out) (taken c.print_entries.new.out)) same c.in_default-print_entries.ensures.whole))
-    c.print_line-2.ensures.whole
+    c.args.out.now c.print_history.new.out c.print_line.new.out
+    (subst (TookAll (told c.args.out.now c.print_history.new.out)) same c.in_default.ensures.whole)
+    c.print_plan.new.out c.in_default-print_line.ensures.whole
+    (subst (TookAll (told c.print_line.new.out c.print_plan.new.out)) plan whole))
+    c.print_plan.ensures.whole

@@ -18,4 +18,5 @@ returns-in_err-shift-clause-early g c =
 pub returns-clause-run : goal.returns-clause-run
 returns-clause-run g c =
     ends_done _ _ _ _ _ c.in_ok-cell.cell c.in_ok-cell.ensures.read c.in_ok-shift.shift c.in_ok-run_rounds.field-0
-    (rw (c.in_ok-cell.ensures.same) at c.in_ok-shift.ensures.read) c.in_ok-run_rounds.ensures.run
+    (rw (c.in_ok-cell.ensures.same) at c.in_ok-shift.ensures.read) c.in_ok-cell.ensures.fits c.in_ok-shift.ensures.fits
+    c.in_ok-run_rounds.ensures.run

@@ -1,10 +1,13 @@
 -- What each status tells, by the end of the call.
 use Rattle.cell_program.proofs.Refusals.{cell_answered, shift_answered}
-use Rattle.cell_program.proofs.Statuses.{ends_done, ends_no_command, ends_read_fault, ends_cell_refused, ends_shift_refused, ends_sink_fault, ends_complete, no_read_fault, usage_ends}
+use Rattle.cell_program.proofs.Statuses.{ends_done, ends_lines, ends_no_command, ends_read_fault, ends_cell_refused, ends_shift_refused, ends_sink_fault, ends_complete, no_read_fault, usage_ends}
 use Rattle.cell_program.proofs.top.cell_main.Goals as goal
 
 pub returns-clause-done : goal.returns-clause-done
 returns-clause-done g c = ends_done _ _ _ c.run_command-status.ensures.ends
+
+pub returns-clause-lines : goal.returns-clause-lines
+returns-clause-lines g c = ends_lines _ _ _ c.run_command-status.ensures.ends
 
 pub returns-clause-no_command : goal.returns-clause-no_command
 returns-clause-no_command g c = ends_no_command _ _ _ c.run_command-status.ensures.ends

@@ -1,0 +1,186 @@
+//! The table of parts.
+ghost use Rattle.std.specs.Prelude.{◌≡◌, ◌+◌, ◌<◌, ◌≤◌, true, false, [], ◌∷◌, ◌++◌, length, Some, slice_get, IfOk};
+ghost use Rattle.std.specs.List.{find};
+ghost use Rattle.std.specs.Option.{option_map};
+ghost use Rattle.cell_base.specs.Policy.{is_loaded, HaveDistinctJobs};
+ghost use Rattle.cell_base.specs.Outcomes.{part_of};
+ghost use Rattle.cell_base.specs.declared.limits.TheConstants.{MAX_RESOURCES, MAX_UNITS};
+ghost use Rattle.part_table.specs.Parts.{parts_of, is_on, is_waiting, without_job, advanced, finished};
+ghost use Rattle.part_table.specs.Logs.{staying};
+
+use crate::Standing;
+use crate::log::Log;
+use cell_base::{JobId, NoMemory, Part, ResId};
+use std::alloc::Global;
+use std::marker::Model;
+
+/// The parts in the order of arrival at their present stages. Their jobs differ.
+#[derive(Drop)]
+pub struct Parts {
+    log: Log,
+    count: u32,
+    room: u32,
+}
+
+impl Model for Parts {
+    ghost use Rattle.std.specs.Prelude.{◌-◌};
+    ghost use Rattle.part_table.specs.Parts.{Table};
+    ghost use Rattle.part_table.specs.Logs.{staying, IsTable};
+
+    ghost Value = { Table };
+
+    ghost view = { λ s. record { items = staying s.log.entries; spare = s.room - s.count; resources = s.log.resources } };
+
+    ghost invariant = { λ s. IsTable s.log s.count s.room };
+}
+
+/// How many entries a log holds for each part that may stand at a time. So a part's entries are moved together once in many changes.
+const ENTRIES_A_PART: u32 = 4;
+
+/// Room for one more entry.
+fn make_room(log: &mut Log)
+    requires distinct { HaveDistinctJobs (parts_of (staying log.old.entries)) }
+    requires fits { length (staying log.old.entries) < log.old.room }
+    ensures items { staying log.new.entries ≡ staying log.old.entries }
+    ensures free { length log.new.entries < log.new.room }
+    ensures room { log.new.room ≡ log.old.room }
+    ensures resources { log.new.resources ≡ log.old.resources }
+{
+    if log.is_full() {
+        log.compact();
+    }
+}
+
+impl Parts {
+    /// An empty table with room for at least `n` parts.
+    pub fn with_room(alloc: Global, resources: u16, n: u32) -> Result<Parts, NoMemory>
+        requires few { resources ≤ MAX_RESOURCES }
+        requires room { n ≤ MAX_UNITS }
+        ensures empty { IfOk result (λ parts. parts.items ≡ []) }
+        ensures spare { IfOk result (λ parts. n ≤ parts.spare) }
+        ensures resources { IfOk result (λ parts. parts.resources ≡ resources) }
+    {
+        let log = Log::with_room(alloc, resources, n * ENTRIES_A_PART)?;
+        Ok(Parts {
+            log,
+            count: 0,
+            room: n,
+        })
+    }
+
+    /// The part of a job.
+    pub fn get(&self, job: JobId) -> Option<Part>
+        ensures part { result ≡ part_of (parts_of self.now.items) job }
+        ensures distinct { HaveDistinctJobs (parts_of self.now.items) }
+    {
+        match self.log.place_of(job) {
+            Some(at) => Some(self.log.get(at).item.part),
+            None => None,
+        }
+    }
+
+    /// The part at an index.
+    pub fn nth(&self, i: u32) -> Part
+        requires { i < length self.now.items }
+        ensures { slice_get (parts_of self.now.items) i ≡ Some result }
+    {
+        match self.log.nth(i) {
+            Some(item) => item.part,
+            None => unreachable!(),
+        }
+    }
+
+    /// The number of parts.
+    pub fn len(&self) -> u64
+        ensures { result ≡ length self.now.items }
+    {
+        u64::from(self.count)
+    }
+
+    /// How many more parts may arrive.
+    pub fn spare(&self) -> u64
+        ensures { result ≡ self.now.spare }
+    {
+        u64::from(self.room - self.count)
+    }
+
+    /// The first part on a resource that is not done.
+    pub fn first_waiting(&self, on: ResId) -> Option<JobId>
+        requires { on.0 < self.now.resources }
+        ensures { result ≡ option_map (λ item. item.part.job) (find (is_waiting on) self.now.items) }
+    {
+        match self.log.first_waiting(on) {
+            Some(item) => Some(item.part.job),
+            None => None,
+        }
+    }
+
+    /// The first part on a resource.
+    pub fn first_on(&self, on: ResId) -> Option<Part>
+        requires { on.0 < self.now.resources }
+        ensures { result ≡ option_map (λ item. item.part) (find (is_on on) self.now.items) }
+    {
+        match self.log.first_on(on) {
+            Some(item) => Some(item.part),
+            None => None,
+        }
+    }
+
+    /// A new part, behind all others.
+    pub fn arrive(&mut self, part: Part, on: ResId)
+        requires absent { is_loaded (parts_of self.old.items) part.job ≡ false }
+        requires on { on.0 < self.old.resources }
+        requires room { 0 < self.old.spare }
+        ensures items { self.new.items ≡ self.old.items ++ (record { part = part; on = on }) ∷ [] }
+        ensures spare { self.new.spare + 1 ≡ self.old.spare }
+        ensures resources { self.new.resources ≡ self.old.resources }
+    {
+        make_room(&mut self.log);
+        self.log.push(Standing { part, on });
+        self.count += 1;
+    }
+
+    /// The part of a job goes on to a place, and stands behind all others.
+    pub fn advance(&mut self, job: JobId, place: u16, done: bool, on: ResId)
+        requires present { is_loaded (parts_of self.old.items) job ≡ true }
+        requires on { on.0 < self.old.resources }
+        ensures items { self.new.items ≡ advanced self.old.items job place done on }
+        ensures spare { self.new.spare ≡ self.old.spare }
+        ensures resources { self.new.resources ≡ self.old.resources }
+    {
+        if let Some(part) = self.get(job) {
+            let moved = Part {
+                place,
+                done,
+                ..part
+            };
+            self.depart(job);
+            self.arrive(moved, on);
+        }
+    }
+
+    /// The work on the part of a job is done. It keeps its place in the order.
+    pub fn finish(&mut self, job: JobId)
+        requires { is_loaded (parts_of self.old.items) job ≡ true }
+        ensures items { self.new.items ≡ finished self.old.items job }
+        ensures spare { self.new.spare ≡ self.old.spare }
+        ensures resources { self.new.resources ≡ self.old.resources }
+    {
+        if let Some(at) = self.log.place_of(job) {
+            self.log.finish(at);
+        }
+    }
+
+    /// The part of a job leaves.
+    pub fn depart(&mut self, job: JobId)
+        requires { is_loaded (parts_of self.old.items) job ≡ true }
+        ensures items { self.new.items ≡ without_job self.old.items job }
+        ensures spare { self.new.spare ≡ self.old.spare + 1 }
+        ensures resources { self.new.resources ≡ self.old.resources }
+    {
+        if let Some(at) = self.log.place_of(job) {
+            self.log.take_out(at);
+            self.count -= 1;
+        }
+    }
+}
