@@ -54,10 +54,12 @@ module _ (cell : Cell) where
         → state_after_entry cell parts entry.request told
         ≡ after_requests cell parts (granted_requests ((record { session = entry.session; request = entry.request; told = told }) ∷ []))
     by (Answered Granted) right = refl
-    by (Answered (Refused why)) right = refusal_stays cell parts entry.request why (same_when (reply_to cell parts entry.request) (Refused why) right)
+    by (Answered (Refused why)) right = refusal_stays cell parts entry.request why
+        (same_when (reply_to cell parts entry.request) (Refused why) right)
     by Halted right = refl
 
-  pub granted_more : (entry : Entry) (entries : List Entry) → granted_requests (entry ∷ entries) ≡ granted_requests (entry ∷ []) ++ granted_requests entries
+  pub granted_more : (entry : Entry) (entries : List Entry) → granted_requests (entry ∷ entries) ≡ granted_requests (entry ∷ [])
+      ++ granted_requests entries
   granted_more entry entries = by entry.told where
     by : (told : Told)
         → granted_requests ((record { session = entry.session; request = entry.request; told = told }) ∷ entries)
@@ -99,7 +101,8 @@ module _ (cell : Cell) where
       let parts = or_parts (was_halted entry.told) (holds_halt front) none in
       rw parts.0 (last_halted front last parts.1 halted)
 
-  halted_is : (entries : List Entry) (tail : Tail) → HaltsRightly entries tail → halted_requests entries ≡ option_to_list (halted_in entries tail)
+  halted_is : (entries : List Entry) (tail : Tail) → HaltsRightly entries tail
+      → halted_requests entries ≡ option_to_list (halted_in entries tail)
   halted_is entries (tails.Planned left steps) none = none_halted entries none
   halted_is entries tails.Halted ends =
       let Is : List Entry → Type 0 = λ es. halted_requests es ≡ option_to_list (halted_in es tails.Halted) in
@@ -122,9 +125,11 @@ module _ (cell : Cell) where
   -- what is carried on from a block whose lines are right
   carried_on_is : (before : List Request) (block : Block) → BlockIsWellFormed cell block
       → ((i : ℕ) → i < length block.entries → judge_entry cell (after_requests cell [] before) block.entries i ≡ None)
-      → carried (before ++ granted_requests block.entries) (halted_in block.entries block.tail) ≡ carried_on cell (carried before None) block
+      → carried (before ++ granted_requests block.entries) (halted_in block.entries block.tail)
+      ≡ carried_on cell (carried before None) block
   carried_on_is before block formed right =
-      let behind : after_requests cell [] (before ++ granted_requests block.entries) ≡ after cell (after_requests cell [] before) block.entries =
+      let behind : after_requests cell [] (before ++ granted_requests block.entries)
+      ≡ after cell (after_requests cell [] before) block.entries =
       after_requests-append cell [] before (granted_requests block.entries)
       ∙ sym (entries_after (after_requests cell [] before) block.entries right) in
       rw (behind, length-append before (granted_requests block.entries)) refl
@@ -159,15 +164,18 @@ module _ (cell : Cell) where
       ∙ same_lines (n + length lines) blocks next last (All-tail (BlockIsWellFormed cell) block blocks formed)
       ∙ ap (λ at. verdict_from (n + length lines) (carried_lines cell at blocks))
       (carried_on_is before block this (right_entries n begun.parts begun.count block right)))
-      ∙ ap (λ (at : Carried). verdict_from n (judge_block cell at.parts at.count block ++ carried_lines cell (carried_on cell at block) blocks))
+      ∙ ap (λ (at : Carried). verdict_from n
+      (judge_block cell at.parts at.count block ++ carried_lines cell (carried_on cell at block) blocks))
       (sym (settled_is granted halted block blocks))
 
   -- the verdict is that of a walk
-  pub judge_by_walk : (blocks : List Block) → All (BlockIsWellFormed cell) blocks → judge cell blocks ≡ verdict_from 1 (carried_lines cell unbegun blocks)
-  judge_by_walk blocks formed = ap (λ requests. verdict_from 1 (judge_lines cell requests blocks)) (none blocks) ∙ same_lines 1 blocks [] None formed where
-    none : (blocks : List Block) → [] ≡ with_halted [] [] blocks
-    none [] = refl
-    none (block ∷ blocks) = by (block.after == 0 + 1) where
-      by : (b : Bool) → ◌≡◌ {A = List Request} [] (cond b [] [])
-      by true = refl
-      by false = refl
+  pub judge_by_walk : (blocks : List Block) → All (BlockIsWellFormed cell) blocks
+      → judge cell blocks ≡ verdict_from 1 (carried_lines cell unbegun blocks)
+  judge_by_walk blocks formed = ap (λ requests. verdict_from 1 (judge_lines cell requests blocks)) (none blocks)
+      ∙ same_lines 1 blocks [] None formed where
+        none : (blocks : List Block) → [] ≡ with_halted [] [] blocks
+        none [] = refl
+        none (block ∷ blocks) = by (block.after == 0 + 1) where
+          by : (b : Bool) → ◌≡◌ {A = List Request} [] (cond b [] [])
+          by true = refl
+          by false = refl

@@ -47,7 +47,8 @@ module _ (line : ℕ → Option Why) where
   all_right n a zero right = refl
   all_right n a (suc k) right =
       rw (ap line (sym (add-zero a)) ∙ right 0 (omega arith))
-      (all_right (n + 1) (a + 1) k (λ i below. let e : a + 1 + i ≡ a + suc i = omega arith in ap line e ∙ right (suc i) (omega (arith, below))))
+      (all_right (n + 1) (a + 1) k
+      (λ i below. let e : a + 1 + i ≡ a + suc i = omega arith in ap line e ∙ right (suc i) (omega (arith, below))))
 
   pub first_wrong : (n a k i : ℕ) (why : Why) → i < k → ((j : ℕ) → j < i → line (a + j) ≡ None) → line (a + i) ≡ Some why
       → verdict_from n (map line (range_with_len a k)) ≡ No (n + i) why

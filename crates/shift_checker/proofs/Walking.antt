@@ -86,7 +86,8 @@ module _ (cell : Cell) (parts : List Part) (entries : List Entry) (i : ℕ) (d :
   pub parts_behind : after cell parts (take (i + 1) entries) ≡ state_after_entry cell now entry.request entry.told
   parts_behind = ap (after cell parts) (take_more entries i d within) ∙ after-append cell parts (take i entries) (entry ∷ [])
 
-  pub count_behind : length (granted_requests (take (i + 1) entries)) ≡ length (granted_requests (take i entries)) + length (granted_requests (entry ∷ []))
+  pub count_behind : length (granted_requests (take (i + 1) entries))
+      ≡ length (granted_requests (take i entries)) + length (granted_requests (entry ∷ []))
   count_behind =
       ap (λ es. length (granted_requests es)) (take_more entries i d within)
       ∙ ap length (granted-append cell (take i entries) (entry ∷ []))
@@ -101,7 +102,13 @@ entries_right cell parts entries n i all right =
 pub few_granted : (cell : Cell) (entries : List Entry) → length (granted_requests entries) ≤ length entries
 few_granted cell [] = omega arith
 few_granted cell (entry ∷ entries) =
-    omega (arith, ap length (granted_more cell entry entries), length-append (granted_requests (entry ∷ [])) (granted_requests entries), at_most_one, few_granted cell entries)
+    omega (
+      arith,
+      ap length (granted_more cell entry entries),
+      length-append (granted_requests (entry ∷ [])) (granted_requests entries),
+      at_most_one,
+      few_granted cell entries,
+    )
   where
     at_most_one : length (granted_requests (entry ∷ [])) ≤ 1
     at_most_one = grind arith
@@ -170,10 +177,12 @@ module _ (cell : Cell) (parts : List Part) (steps : List Request) (i : ℕ) (d :
       (ap (judge_step cell parts steps) (zero-add i) ∙ judged_step ∙ ap (λ right. fails_unless right whys.Step) refused))
 
 module _ (cell : Cell) (parts : List Part) (steps : List Request) (n : ℕ) (granted : all_granted cell parts steps ≡ true) where
-  pub parts_remain : (length (after_requests cell parts steps) == 0) ≡ false → verdict_from n (judge_steps cell parts steps) ≡ No n whys.Parts
+  pub parts_remain : (length (after_requests cell parts steps) == 0) ≡ false
+      → verdict_from n (judge_steps cell parts steps) ≡ No n whys.Parts
   parts_remain some = rw (granted, some) refl
 
-  pub steps_right : (length (after_requests cell parts steps) == 0) ≡ true → ((j : ℕ) → j < length steps → judge_step cell parts steps j ≡ None)
+  pub steps_right : (length (after_requests cell parts steps) == 0) ≡ true
+      → ((j : ℕ) → j < length steps → judge_step cell parts steps j ≡ None)
       → verdict_from n (judge_steps cell parts steps) ≡ Yes
   steps_right none right =
       rw (granted, none)
@@ -200,14 +209,16 @@ module _ (cell : Cell) (parts : List Part) (count : ℕ) (block : Block) (n : �
       → verdict_from n (judge_block cell parts count block) ≡ verdict_from (n + 1 + length block.entries) tail_lines
   block_behind right =
       headed ∙ right_behind (n + 1) entry_lines tail_lines right
-      ∙ ap (λ k. verdict_from (n + 1 + k) tail_lines) (length-map-range_with_len (judge_entry cell parts block.entries) 0 (length block.entries))
+      ∙ ap (λ k. verdict_from (n + 1 + k) tail_lines)
+      (length-map-range_with_len (judge_entry cell parts block.entries) 0 (length block.entries))
 
 length-tail : (cell : Cell) (parts : List Part) (tail : Tail) → length (judge_tail cell parts tail) ≡ tail_count tail
 length-tail cell parts (tails.Planned left steps) =
     omega (arith, length-map-range_with_len (judge_step cell parts steps) 0 (length steps))
 length-tail cell parts tails.Halted = refl
 
-length-block : (cell : Cell) (parts : List Part) (count : ℕ) (block : Block) → length (judge_block cell parts count block) ≡ line_count block
+length-block : (cell : Cell) (parts : List Part) (count : ℕ) (block : Block)
+    → length (judge_block cell parts count block) ≡ line_count block
 length-block cell parts count block =
     omega (
       arith,
@@ -271,7 +282,8 @@ module _ (cell : Cell) (blocks : List Block) (i : ℕ) (d : Block) (within : i <
         (ap (λ n. verdict_from n lines) (sym first_line_is) ∙ wrong)
 
     pub blocks_behind : verdict_from block.first_line lines ≡ Yes
-        → verdict_from (1 + sum_by line_count (take (i + 1) blocks)) (carried_lines cell (carried_on cell begun block) (drop (i + 1) blocks))
+        → verdict_from (1 + sum_by line_count (take (i + 1) blocks))
+        (carried_lines cell (carried_on cell begun block) (drop (i + 1) blocks))
         ≡ verdict_from number (carried_lines cell at (drop i blocks))
     blocks_behind right =
         let later : List (Option Why) = carried_lines cell (carried_on cell begun block) (drop (i + 1) blocks) in
@@ -308,7 +320,8 @@ halted_fits cell entries tails.Halted each =
     let Fit : Option Entry → Type 0 = λ o. IfSome (option_map (λ (entry : Entry). entry.request) o) (RequestFits cell) in
     elim ((slice_get_cases entries (length entries - 1)).1) [
       | inl there ↦
-          subst Fit (sym there.2) (subst (λ (entry : Entry). RequestFits cell entry.request) there.3 (each (length entries - 1) there.0 there.1))
+          subst Fit (sym there.2)
+          (subst (λ (entry : Entry). RequestFits cell entry.request) there.3 (each (length entries - 1) there.0 there.1))
       | inr past ↦ subst Fit (sym past.1) tt
     ]
 

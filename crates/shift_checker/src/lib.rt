@@ -24,3 +24,6 @@ mod walk;
 
 pub use checking::check;
 pub use verdict::{Verdict, Why};
+
+#[cfg(test)]
+mod tests;

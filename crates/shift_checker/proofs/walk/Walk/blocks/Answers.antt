@@ -38,7 +38,8 @@ returns-in-No c =
     ∙ ap (λ (cell : Cell). verdict_at cell loop.self.at item) loop.invariant.cell
     ∙ ap (verdict_at cell loop.self.at) c.block-item.is in
     c.in-No.is
-    ∙ sym (blocks_wrong cell c.args.blocks.now loop.block-index item (omega (arith, c.loop-block-test.true)) c.requires.numbered loop.self.at
+    ∙ sym (blocks_wrong cell c.args.blocks.now loop.block-index item
+    (omega (arith, c.loop-block-test.true)) c.requires.numbered loop.self.at
     c.in-No.line c.in-No.why (sym here ∙ c.in-No.is))
     ∙ loop.invariant.rest
 

@@ -11,6 +11,7 @@ invariant-loop-block l = record {
   cell : l.self.cell ≡ l.fn.self.cell;
   before : IsBefore l.fn.self.cell (1 + sum_by line_count (take l.block-index l.blocks)) l.self.at;
   rest :
-      verdict_from (1 + sum_by line_count (take l.block-index l.blocks)) (carried_lines l.fn.self.cell l.self.at (drop l.block-index l.blocks))
+      verdict_from (1 + sum_by line_count (take l.block-index l.blocks))
+      (carried_lines l.fn.self.cell l.self.at (drop l.block-index l.blocks))
       ≡ verdict_from 1 (carried_lines l.fn.self.cell l.fn.self.at l.blocks);
 }

@@ -51,7 +51,12 @@ loop-i-preserved c =
           (after cell parts (take loop.i entries)) _ loop.invariant.cell loop.invariant.parts (ap (λ (walk : Walked). walk.at.parts) state)
           ∙ sym (parts_behind cell parts entries loop.i no_entry within);
       count =
-          omega (arith, ap (λ (walk : Walked). walk.at.count) state, loop.invariant.count, count_behind cell parts entries loop.i no_entry within);
+          omega (
+            arith,
+            ap (λ (walk : Walked). walk.at.count) state,
+            loop.invariant.count,
+            count_behind cell parts entries loop.i no_entry within,
+          );
       halted = ap (λ (walk : Walked). walk.at.halted) state ∙ loop.invariant.halted;
       right =
           one_more (λ j. judge_entry cell parts entries j ≡ None) loop.i loop.invariant.right
