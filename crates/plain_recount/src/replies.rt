@@ -6,9 +6,9 @@ ghost use Rattle.cell_base.specs.Stages.{IsStage, stage_of};
 ghost use Rattle.cell_base.specs.Outcomes.{without, admit, outcome_of_entry, outcome_of_move, outcome_of_unload, reply_to};
 ghost use Rattle.cell_base.specs.Fits.{RequestFits};
 
+use crate::counts::{count, first_over};
 use crate::lead_table::LeadTable;
 use crate::parts::{any_waiting_on, is_loaded, part_of};
-use crate::counts::{count, first_over};
 use cell_base::{Part, Refusal, Reply, Request};
 
 /// The reply to a request.

@@ -1,8 +1,7 @@
 -- The record of a legal history and its plan is right.
-use Rattle.std.proofs.Common.{◌≡◌, ℕ, zero, suc, ◌+◌, ◌<◌, Bool, true, false, cond, ◌&&◌, ◌==◌, List, [], ◌∷◌, ◌++◌, length, append-nil, None, zero-add, refl, sym, ap, ◌∙◌, subst, arith, eq-eqb}
+use Rattle.std.proofs.Common.{◌≡◌, ℕ, zero, suc, ◌+◌, ◌<◌, Bool, true, false, cond, ◌==◌, List, [], ◌∷◌, ◌++◌, length, append-nil, None, refl, sym, ap, ◌∙◌, subst, arith, eq-eqb}
 use Rattle.std.specs.List.{All}
 use Rattle.std.proofs.lemmas.Bool.{and_parts}
-use Rattle.std.proofs.lemmas.List.Elements.{All-nil}
 use Rattle.cell_base.specs.declared.cells.Cell.{Cell}
 use Rattle.cell_base.specs.declared.requests.Part.{Part}
 use Rattle.cell_base.specs.declared.requests.Request.{Request}
@@ -10,7 +9,7 @@ use Rattle.cell_base.specs.declared.requests.Told.{Told}
 use Rattle.cell_base.specs.declared.requests.Told.TheVariants.{Answered, Halted}
 use Rattle.cell_base.specs.declared.shifts.Entry.{Entry}
 use Rattle.cell_base.specs.Fits.{CellFits, RequestFits}
-use Rattle.cell_base.specs.Histories.{is_granted, state_after_entry, after, after_requests, all_granted, IsToldRightly, IsLegal}
+use Rattle.cell_base.specs.Histories.{is_granted, state_after_entry, after, all_granted, IsToldRightly, IsLegal}
 use Rattle.cell_base.specs.Outcomes.{reply_to, state_after}
 use Rattle.cell_base.specs.Plans.{Drains, plan_of}
 use Rattle.cell_base.specs.Scripts.{holds_halt}
@@ -22,10 +21,10 @@ use Rattle.record_text.specs.declared.blocks.Tail.TheVariants as tails
 use Rattle.record_text.specs.Records.{block_of}
 use Rattle.shift_checker.specs.declared.verdict.Why.TheVariants as whys
 use Rattle.shift_checker.specs.declared.verdict.Verdict.TheVariants.{Yes}
-use Rattle.shift_checker.specs.Judging.{fails_unless, is_told_rightly, judge_entry, judge_entries, judge_step, judge_steps, judge_tail, judge_block, verdict_from, judge}
+use Rattle.shift_checker.specs.Judging.{fails_unless, is_told_rightly, judge_entry, judge_entries, judge_step, judge_tail, judge_block, verdict_from, judge}
 use Rattle.shift_checker.proofs.Replying.{same_itself}
 use Rattle.shift_checker.specs.Replies.{same_reply}
-use Rattle.shift_checker.proofs.Verdicts.{right_behind, all_right}
+use Rattle.shift_checker.proofs.Verdicts.{right_behind}
 use Rattle.shift_checker.proofs.Walking.{entries_right, steps_right}
 
 module _ (cell : Cell) where

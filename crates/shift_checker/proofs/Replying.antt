@@ -1,6 +1,6 @@
 -- That the test of two replies decides whether they are the same.
-use Rattle.std.proofs.Common.{◌≡◌, true, false, ◌&&◌, ◌==◌, refl, ap}
-use Rattle.std.proofs.lemmas.Bool.{and_parts, and_from, eqb-true, eq-eqb}
+use Rattle.std.proofs.Common.{◌≡◌, true, ◌&&◌, ◌==◌, refl, ap}
+use Rattle.std.proofs.lemmas.Bool.{and_parts, eqb-true, eq-eqb}
 use Rattle.cell_base.specs.declared.requests.Refusal.{Refusal}
 use Rattle.cell_base.specs.declared.requests.Refusal.TheVariants.{JobLoaded, NoSuchJob, NotProcessed, AtLast, NotLast, Idle, Saturated, NoBranch}
 use Rattle.cell_base.specs.declared.requests.Reply.{Reply}

@@ -2,7 +2,6 @@
 use Rattle.std.proofs.Common.{◌≡◌, ℕ, zero, suc, ◌+◌, ◌<◌, List, [], ◌∷◌, ◌++◌, map, length, Option, Some, None, add-zero, refl, sym, ap, ◌∙◌, arith}
 use Rattle.std.specs.List.{range_with_len}
 use Rattle.shift_checker.specs.declared.verdict.Why.{Why}
-use Rattle.shift_checker.specs.declared.verdict.Verdict.{Verdict}
 use Rattle.shift_checker.specs.declared.verdict.Verdict.TheVariants.{Yes, No}
 use Rattle.shift_checker.specs.Judging.{verdict_from}
 

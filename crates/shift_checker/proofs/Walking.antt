@@ -1,11 +1,10 @@
 -- One line more of a walk: an entry, a step, and a block.
-use Rattle.std.proofs.Common.{◌≡◌, ℕ, zero, suc, ◌+◌, ◌-◌, ◌<◌, ◌≤◌, ◌^◌, Bool, true, false, not, ◌||◌, ◌&&◌, ◌==◌, cond, List, [], ◌∷◌, ◌++◌, map, length, take, drop, get_or, append_assoc, length-append, eq-eqb, Option, Some, None, zero-add, add-zero, refl, sym, ap, ◌∙◌, subst, inl, inr, arith}
+use Rattle.std.proofs.Common.{◌≡◌, ℕ, zero, suc, ◌+◌, ◌-◌, ◌<◌, ◌≤◌, ◌^◌, Bool, true, false, ◌&&◌, ◌==◌, List, [], ◌∷◌, ◌++◌, length, take, drop, get_or, append_assoc, length-append, eq-eqb, Option, Some, None, zero-add, add-zero, refl, sym, ap, ◌∙◌, subst, inl, inr, arith}
 use Rattle.std.specs.Prelude.{IfSome}
-use Rattle.std.specs.List.{All, filter, sum_by, range_with_len, slice_get}
+use Rattle.std.specs.List.{All, sum_by}
 use Rattle.std.specs.Option.{option_map, option_to_list}
 use Rattle.cell_base.proofs.Pairs.{lt-or-eq}
-use Rattle.std.proofs.lemmas.List.{take_more, drop_more, take-append-drop, length-map}
-use Rattle.std.proofs.lemmas.List.Elements.{All-get_or}
+use Rattle.std.proofs.lemmas.List.{take_more, drop_more, take-append-drop}
 use Rattle.std.proofs.lemmas.List.FromFn.{length-map-range_with_len}
 use Rattle.std.proofs.lemmas.List.Sums.{sum_by-append, sum_by-cons}
 use Rattle.std.proofs.lemmas.Option.{slice_get-get_or, slice_get_cases}
@@ -28,7 +27,7 @@ use Rattle.shift_checker.specs.declared.verdict.Why.TheVariants as whys
 use Rattle.shift_checker.specs.declared.verdict.Verdict.{Verdict}
 use Rattle.shift_checker.specs.declared.verdict.Verdict.TheVariants.{Yes, No}
 use Rattle.shift_checker.specs.Carrying.{Carried, halted_in, settled, carried_on, carried_lines, IsBefore}
-use Rattle.shift_checker.specs.Judging.{granted_requests, fails_unless, is_told_rightly, judge_entry, judge_entries, judge_plan, judge_step, judge_steps, judge_tail, judge_block, verdict_from}
+use Rattle.shift_checker.specs.Judging.{granted_requests, fails_unless, is_told_rightly, judge_entry, judge_entries, judge_step, judge_steps, judge_tail, judge_block, verdict_from}
 use Rattle.shift_checker.proofs.Carrying.{after_requests-append, granted_more}
 use Rattle.shift_checker.proofs.Verdicts.{right_behind, wrong_behind, all_right, first_wrong}
 

@@ -1,5 +1,5 @@
 -- What is wrong with a record, each line judged by itself.
-use Rattle.std.specs.Prelude.{ℕ, ◌+◌, Bool, true, false, not, ◌&&◌, ◌||◌, ◌==◌, if◌then◌else◌, Option, Some, None, List, [], ◌∷◌, ◌++◌, length, map, take, slice_get}
+use Rattle.std.specs.Prelude.{ℕ, ◌+◌, Bool, false, not, ◌||◌, ◌==◌, if◌then◌else◌, Option, Some, None, List, [], ◌∷◌, ◌++◌, length, map, take, slice_get}
 use Rattle.std.specs.List.{filter, range_with_len}
 use Rattle.std.specs.Option.{option_map_or}
 use Rattle.cell_base.specs.declared.cells.Cell.{Cell}

@@ -1,5 +1,5 @@
 -- The verdict of the walk is the judgement.
-use Rattle.std.proofs.Common.{◌≡◌, List, sym, ap, ◌∙◌}
+use Rattle.std.proofs.Common.{List, sym, ap, ◌∙◌}
 use Rattle.record_text.specs.declared.blocks.Block.{Block}
 use Rattle.shift_checker.specs.Carrying.{Walked, unbegun, carried_lines}
 use Rattle.shift_checker.specs.Judging.{verdict_from}

@@ -8,8 +8,7 @@ use Rattle.plain_recount.proofs.recount.Recount.ask.Goals as goal
 pub invariant_of-self : goal.invariant_of-self
 invariant_of-self c =
     let fit : RequestFits c.self.inside.table c.args.request.now =
-    subst (λ (standing : Standing). RequestFits standing.cell c.args.request.now) (sym c.self.view_is) c.requires in
-    (
+    subst (λ (standing : Standing). RequestFits standing.cell c.args.request.now) (sym c.self.view_is) c.requires in (
       record {
         fits = c.self.invariant.0.fits;
         admitted =

@@ -1,5 +1,5 @@
 -- The head is right, and then the entries decide, or the tail.
-use Rattle.std.proofs.Common.{◌≡◌, ◌+◌, List, length, sym, ap, ◌∙◌}
+use Rattle.std.proofs.Common.{◌+◌, List, length, sym, ap, ◌∙◌}
 use Rattle.cell_base.specs.declared.shifts.Entry.{Entry}
 use Rattle.cell_base.specs.Histories.{after}
 use Rattle.shift_checker.specs.Carrying.{Carried, Walked, settled}

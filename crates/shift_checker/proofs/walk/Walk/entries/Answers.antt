@@ -1,5 +1,5 @@
 -- One entry more is right, or it is the first one that fails.
-use Rattle.std.proofs.Common.{◌≡◌, ◌<◌, ◌≤◌, ℕ, ◌+◌, true, false, None, length, take, get_or, rules, sym, ap, ◌∙◌, arith}
+use Rattle.std.proofs.Common.{◌≡◌, ◌<◌, ◌+◌, true, false, None, length, take, get_or, rules, sym, ap, ◌∙◌, arith}
 use Rattle.cell_base.specs.declared.shifts.Entry.{Entry}
 use Rattle.cell_base.specs.Histories.{after, state_after_entry}
 use Rattle.shift_checker.specs.Carrying.{Walked}
