@@ -1,5 +1,6 @@
 pub mod Carrying
 pub mod Legal
+pub mod Onward
 pub mod Replying
 pub mod Rows
 pub mod Verdicts

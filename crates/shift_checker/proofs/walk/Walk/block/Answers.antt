@@ -4,7 +4,7 @@ use Rattle.cell_base.specs.declared.shifts.Entry.{Entry}
 use Rattle.cell_base.specs.Histories.{after}
 use Rattle.shift_checker.specs.Carrying.{Carried, Walked, settled}
 use Rattle.shift_checker.specs.Judging.{judge_entries, judge_tail, verdict_from}
-use Rattle.shift_checker.proofs.Walking.{block_wrong, block_behind}
+use Rattle.shift_checker.proofs.Onward.{block_wrong, block_behind}
 use Rattle.shift_checker.proofs.walk.Walk.block.Goals as goal
 
 pub returns-in-No-clause-verdict : goal.returns-in-No-clause-verdict

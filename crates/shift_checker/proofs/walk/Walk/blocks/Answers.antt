@@ -7,7 +7,7 @@ use Rattle.record_text.specs.declared.blocks.Block.{Block}
 use Rattle.record_text.specs.Blocks.{line_count, BlockIsWellFormed}
 use Rattle.shift_checker.specs.Carrying.{Carried, Walked, IsBefore, carried_lines}
 use Rattle.shift_checker.specs.Judging.{verdict_from}
-use Rattle.shift_checker.proofs.Walking.{first_line_is, lines_behind, lines_fit, verdict_at, next_at, blocks_wrong, blocks_behind, before_next}
+use Rattle.shift_checker.proofs.Onward.{first_line_is, lines_behind, lines_fit, verdict_at, next_at, blocks_wrong, blocks_behind, before_next}
 use Rattle.shift_checker.proofs.walk.Walk.blocks.Goals as goal
 
 pub block-verdict-requires-clause-lines : goal.block-verdict-requires-clause-lines
