@@ -175,7 +175,8 @@ impl<'a> Walk<'a> {
     fn planned(&mut self, line: u32, left: u32, steps: &[Request]) -> Verdict
         requires fit { All (RequestFits self.old.cell) steps.now }
         requires lines { line + 2 + length steps.now ≤ 2 ^ 32 }
-        ensures verdict { result ≡ verdict_from line (judge_left self.old.at.parts left ∷ judge_steps self.old.cell self.old.at.parts steps.now) }
+        ensures verdict { result ≡ verdict_from line
+            (judge_left self.old.at.parts left ∷ judge_steps self.old.cell self.old.at.parts steps.now) }
         ensures state { self.new ≡ self.old }
     {
         if left != self.recount.parts_left() {
