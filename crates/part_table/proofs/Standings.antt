@@ -1,6 +1,5 @@
 -- Parts as they stand: of different jobs, one more, one less, one that is done.
-use Rattle.std.proofs.Common.{◌≡◌, ◌≢◌, ℕ, ◌+◌, Bool, true, false, cond, not, List, [], ◌∷◌, ◌++◌, length, map, All, Contains, Option, Some, None, find, filter, sum_by, get_or, set, zero, suc, ap, ap₂, refl, sym, subst, arith, ◌∙◌, ⊎_elim}
-use Rattle.std.specs.List.{AllPairs}
+use Rattle.std.proofs.Common.{◌≡◌, ◌≢◌, ℕ, ◌+◌, Bool, true, false, cond, not, List, [], ◌∷◌, ◌++◌, length, map, All, Option, Some, None, find, filter, sum_by, ap, refl, sym, subst, arith, ◌∙◌}
 use Rattle.std.specs.Option.{option_map, option_map_or}
 use Rattle.std.proofs.lemmas.Option.{none-some, same_Some}
 use Rattle.std.proofs.lemmas.Bool.{eqb-true}
@@ -16,7 +15,7 @@ use Rattle.cell_base.specs.declared.requests.Part.{Part}
 use Rattle.cell_base.specs.Policy.{is_of_job, is_loaded, HaveDistinctJobs}
 use Rattle.cell_base.specs.Outcomes.{part_of, without}
 use Rattle.cell_base.proofs.Admission.{others_from_not_loaded, not_loaded_from_others}
-use Rattle.policy_laws.proofs.Parts.{distinct-push, distinct-without, without-others, part_of-found, sum_by-without}
+use Rattle.policy_laws.proofs.Parts.{distinct-push, distinct-without, without-others, sum_by-without}
 use Rattle.part_table.specs.declared.standing.Standing.{Standing}
 use Rattle.part_table.specs.Parts.{parts_of, is_job, without_job, advanced, finish, finished}
 
@@ -90,10 +89,7 @@ finish-job job item = at (is_job job item)
     at true = refl
     at false = refl
 
--- what is done of the list as far as a loop has come
-pub finish_yes : (job : JobId) (item : Standing) → is_job job item ≡ true → (let done : Standing = record item { part = record item.part { done = true } } in done) ≡ finish job item
-finish_yes job item e = rw e refl
-
+-- a part of another job stays as it is
 pub finish_no : (job : JobId) (item : Standing) → is_job job item ≡ false → finish job item ≡ item
 finish_no job item e = rw e refl
 
@@ -133,9 +129,3 @@ length_departed items job distinct present =
     let of_items : length (parts_of items) ≡ length items = length-map items (λ (item : Standing). item.part) in
     let of_rest : length (parts_of (without_job items job)) ≡ length (without_job items job) = length-map (without_job items job) (λ (item : Standing). item.part) in
     omega (arith, without_it, of_items, of_rest, ap length (parts_of-without items job))
-
--- a write of what stands there
-pub set_here : {X : Type 0} (xs : List X) (i : ℕ) (x : X) → x ≡ get_or xs i x → set xs i x ≡ xs
-set_here [] i x is = refl
-set_here (y ∷ ys) zero x is = ap (λ z. z ∷ ys) is
-set_here (y ∷ ys) (suc i) x is = ap (λ zs. y ∷ zs) (set_here ys i x is)

@@ -1,13 +1,15 @@
 //! The table of parts.
-ghost use Rattle.std.specs.Prelude.{◌≡◌, ◌+◌, ◌<◌, ◌≤◌, true, false, [], ◌∷◌, ◌++◌, length, Some, slice_get, IfOk, vec_capacity};
+ghost use Rattle.std.specs.Prelude.{◌≡◌, ◌+◌, ◌<◌, ◌≤◌, true, false, [], ◌∷◌, ◌++◌, length, Some, slice_get, IfOk};
 ghost use Rattle.std.specs.List.{find};
 ghost use Rattle.std.specs.Option.{option_map};
 ghost use Rattle.cell_base.specs.Policy.{is_loaded, HaveDistinctJobs};
 ghost use Rattle.cell_base.specs.Outcomes.{part_of};
 ghost use Rattle.cell_base.specs.declared.limits.TheConstants.{MAX_RESOURCES, MAX_UNITS};
 ghost use Rattle.part_table.specs.Parts.{parts_of, is_on, is_waiting, without_job, advanced, finished};
+ghost use Rattle.part_table.specs.Logs.{staying};
 
 use crate::Standing;
+use crate::log::Log;
 use cell_base::{JobId, NoMemory, Part, ResId};
 use std::alloc::Global;
 use std::marker::Model;
@@ -15,47 +17,37 @@ use std::marker::Model;
 /// The parts in the order of arrival at their present stages. Their jobs differ.
 #[derive(Drop)]
 pub struct Parts {
-    items: Vec<Standing>,
-    resources: u16,
+    log: Log,
+    count: u32,
+    room: u32,
 }
 
 impl Model for Parts {
-    ghost use Rattle.std.specs.Prelude.{◌-◌, ◌≤◌, vec_len, vec_capacity};
-    ghost use Rattle.part_table.specs.Parts.{Table, parts_of};
-    ghost use Rattle.cell_base.specs.Policy.{HaveDistinctJobs};
+    ghost use Rattle.std.specs.Prelude.{◌-◌};
+    ghost use Rattle.part_table.specs.Parts.{Table};
+    ghost use Rattle.part_table.specs.Logs.{staying, IsTable};
 
     ghost Value = { Table };
 
-    ghost view = { λ s. record { items = s.items.items; spare = vec_capacity s.items - vec_len s.items; resources = s.resources } };
+    ghost view = { λ s. record { items = staying s.log.entries; spare = s.room - s.count; resources = s.log.resources } };
 
-    ghost invariant = { λ s. (vec_len s.items ≤ vec_capacity s.items) × HaveDistinctJobs (parts_of s.items.items) };
+    ghost invariant = { λ s. IsTable s.log s.count s.room };
 }
 
-fn first_waiting(items: &[Standing], on: ResId) -> Option<Standing>
-    ensures { result ≡ find (is_waiting on) items.now }
-{
-    items
-        .iter()
-        .copied()
-        .find(|item| !item.part.done && item.on == on)
-}
+/// How many entries a log holds for each part that may stand at a time. So a part's entries are moved together once in many changes.
+const ENTRIES_A_PART: u32 = 4;
 
-fn first_on(items: &[Standing], on: ResId) -> Option<Standing>
-    ensures { result ≡ find (is_on on) items.now }
+/// Room for one more entry.
+fn make_room(log: &mut Log)
+    requires distinct { HaveDistinctJobs (parts_of (staying log.old.entries)) }
+    requires fits { length (staying log.old.entries) < log.old.room }
+    ensures items { staying log.new.entries ≡ staying log.old.entries }
+    ensures free { length log.new.entries < log.new.room }
+    ensures room { log.new.room ≡ log.old.room }
+    ensures resources { log.new.resources ≡ log.old.resources }
 {
-    items.iter().copied().find(|item| item.on == on)
-}
-
-fn finish(items: &mut Vec<Standing>, job: JobId)
-    ensures items { items.new.items ≡ finished items.old.items job }
-    ensures room { vec_capacity items.new ≡ vec_capacity items.old }
-{
-    for at in 0..items.len() {
-        let mut item = items[at];
-        if item.part.job == job {
-            item.part.done = true;
-            items[at] = item;
-        }
+    if log.is_full() {
+        log.compact();
     }
 }
 
@@ -68,10 +60,12 @@ impl Parts {
         ensures spare { IfOk result (λ parts. n ≤ parts.spare) }
         ensures resources { IfOk result (λ parts. parts.resources ≡ resources) }
     {
-        match Vec::with_capacity(alloc, n as usize) {
-            Ok(items) => Ok(Parts { items, resources }),
-            Err(_) => Err(NoMemory),
-        }
+        let log = Log::with_room(alloc, resources, n * ENTRIES_A_PART)?;
+        Ok(Parts {
+            log,
+            count: 0,
+            room: n,
+        })
     }
 
     /// The part of a job.
@@ -79,11 +73,10 @@ impl Parts {
         ensures part { result ≡ part_of (parts_of self.now.items) job }
         ensures distinct { HaveDistinctJobs (parts_of self.now.items) }
     {
-        self.items
-            .iter()
-            .copied()
-            .map(|item| item.part)
-            .find(|part| part.job == job)
+        match self.log.place_of(job) {
+            Some(at) => Some(self.log.get(at).item.part),
+            None => None,
+        }
     }
 
     /// The part at an index.
@@ -91,21 +84,24 @@ impl Parts {
         requires { i < length self.now.items }
         ensures { slice_get (parts_of self.now.items) i ≡ Some result }
     {
-        self.items[i as usize].part
+        match self.log.nth(i) {
+            Some(item) => item.part,
+            None => unreachable!(),
+        }
     }
 
     /// The number of parts.
     pub fn len(&self) -> u64
         ensures { result ≡ length self.now.items }
     {
-        self.items.len() as u64
+        u64::from(self.count)
     }
 
     /// How many more parts may arrive.
     pub fn spare(&self) -> u64
         ensures { result ≡ self.now.spare }
     {
-        (self.items.capacity() - self.items.len()) as u64
+        u64::from(self.room - self.count)
     }
 
     /// The first part on a resource that is not done.
@@ -113,7 +109,7 @@ impl Parts {
         requires { on.0 < self.now.resources }
         ensures { result ≡ option_map (λ item. item.part.job) (find (is_waiting on) self.now.items) }
     {
-        match first_waiting(&self.items, on) {
+        match self.log.first_waiting(on) {
             Some(item) => Some(item.part.job),
             None => None,
         }
@@ -124,7 +120,7 @@ impl Parts {
         requires { on.0 < self.now.resources }
         ensures { result ≡ option_map (λ item. item.part) (find (is_on on) self.now.items) }
     {
-        match first_on(&self.items, on) {
+        match self.log.first_on(on) {
             Some(item) => Some(item.part),
             None => None,
         }
@@ -139,7 +135,9 @@ impl Parts {
         ensures spare { self.new.spare + 1 ≡ self.old.spare }
         ensures resources { self.new.resources ≡ self.old.resources }
     {
-        self.items.push_reserved(Standing { part, on });
+        make_room(&mut self.log);
+        self.log.push(Standing { part, on });
+        self.count += 1;
     }
 
     /// The part of a job goes on to a place, and stands behind all others.
@@ -151,15 +149,13 @@ impl Parts {
         ensures resources { self.new.resources ≡ self.old.resources }
     {
         if let Some(part) = self.get(job) {
+            let moved = Part {
+                place,
+                done,
+                ..part
+            };
             self.depart(job);
-            self.arrive(
-                Part {
-                    place,
-                    done,
-                    ..part
-                },
-                on,
-            );
+            self.arrive(moved, on);
         }
     }
 
@@ -170,7 +166,9 @@ impl Parts {
         ensures spare { self.new.spare ≡ self.old.spare }
         ensures resources { self.new.resources ≡ self.old.resources }
     {
-        finish(&mut self.items, job);
+        if let Some(at) = self.log.place_of(job) {
+            self.log.finish(at);
+        }
     }
 
     /// The part of a job leaves.
@@ -180,6 +178,9 @@ impl Parts {
         ensures spare { self.new.spare ≡ self.old.spare + 1 }
         ensures resources { self.new.resources ≡ self.old.resources }
     {
-        self.items.retain(|item| item.part.job != job);
+        if let Some(at) = self.log.place_of(job) {
+            self.log.take_out(at);
+            self.count -= 1;
+        }
     }
 }

@@ -7,3 +7,10 @@ pub struct Standing {
     pub part: Part,
     pub on: ResId,
 }
+
+/// A part as it came, and whether it still stands so.
+#[derive(Clone, Copy, Debug, PartialEq, Eq)]
+pub struct Entry {
+    pub item: Standing,
+    pub stays: bool,
+}

@@ -65,6 +65,11 @@ number_back low high n word small e =
     subst (λ m. IsNumber low high m word) given.1
     (record { from = low_is; to = high_is; text = decimal_back word front.0 (omega (arith, high_is, small)) })
 
+pub job_small : (n : ℕ) (word : List ℕ) → job_of word ≡ Ok n → n < 2 ^ 32
+unfolding job_of
+job_small n word e =
+    omega (arith, (number_back 0 4294967295 n word (omega arith) (or_fault_ok (number_of 0 4294967295 word) BadStep n e)).to)
+
 pub job_back : (n : ℕ) (word : List ℕ) → job_of word ≡ Ok n → decimal n ≡ word
 unfolding job_of
 job_back n word e = (number_back 0 4294967295 n word (omega arith) (or_fault_ok (number_of 0 4294967295 word) BadStep n e)).text

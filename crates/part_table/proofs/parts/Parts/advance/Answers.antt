@@ -1,8 +1,7 @@
 -- The part leaves its place in the order, and comes again.
-use Rattle.std.proofs.Common.{◌≡◌, sym, ◌∙◌, ap, subst}
-use Rattle.cell_base.specs.Policy.{is_loaded}
+use Rattle.std.proofs.Common.{◌≡◌, sym, ◌∙◌}
 use Rattle.policy_laws.proofs.Parts.{part_of-found}
-use Rattle.part_table.specs.Parts.{parts_of, without_job}
+use Rattle.part_table.specs.Parts.{parts_of}
 use Rattle.part_table.proofs.Standings.{absent_departed, advanced_is, advanced_none}
 use Rattle.part_table.proofs.parts.Parts.advance.Goals as goal
 

@@ -1,26 +1,42 @@
--- What stays is what the filter keeps.
-use Rattle.std.proofs.Common.{◌≡◌, ◌+◌, not, arith, rules, tests, length}
-use Rattle.std.proofs.lemmas.Fn.{filter_same}
-use Rattle.part_table.specs.Parts.{is_job, without_job}
+-- The part is at its place, since its job is present.
+use Rattle.std.proofs.Common.{◌≡◌, length, ap, sym, arith, ◌∙◌}
+use Rattle.std.proofs.lemmas.Bool.{false≢true}
+use Rattle.part_table.specs.Parts.{without_job}
+use Rattle.part_table.specs.Logs.{staying}
 use Rattle.part_table.proofs.Standings.{distinct_departed, length_departed}
+use Rattle.part_table.proofs.Staying.{staying_taken, not_loaded_from_absent}
 use Rattle.part_table.proofs.parts.Parts.depart.Goals as goal
 
 pub invariant_of-self : goal.invariant_of-self
 invariant_of-self c =
-    let kept : c.retain.new.self.items ≡ without_job c.self.inside.items.items c.args.job =
-    filter_same _ (λ item. not (is_job c.args.job item)) _ (λ x b f k. search (rules, tests)) _ _ c.retain.ensures.filtered in
-    (omega (arith, c.self.invariant.0), rw kept (distinct_departed c.self.inside.items.items c.args.job c.self.invariant.1))
-
-pub returns-clause-items : goal.returns-clause-items
-returns-clause-items c =
-    rw (← c.self.view_is)
-    (filter_same _ (λ item. not (is_job c.args.job item)) _ (λ x b f k. search (rules, tests)) _ _ c.retain.ensures.filtered)
-
-pub returns-clause-spare : goal.returns-clause-spare
-returns-clause-spare c =
-    let kept : c.retain.new.self.items ≡ without_job c.self.inside.items.items c.args.job =
-    filter_same _ (λ item. not (is_job c.args.job item)) _ (λ x b f k. search (rules, tests)) _ _ c.retain.ensures.filtered in
+    let entries = c.self.inside.log.entries in
+    let place = c.in-Some.ensures in
     let present = rw (← c.self.view_is) at c.requires in
-    let less = length_departed c.self.inside.items.items c.args.job c.self.invariant.1 present in
-    let n : length c.retain.new.self.items + 1 ≡ length c.self.inside.items.items = rw kept less in
-    rw (← c.self.view_is) (omega (arith, n, c.retain.new.self.ok.0, c.self.inside.items.ok.0, c.self.invariant.0, c.retain.ensures.capacity))
+    let items : staying c.take_out.new.self.entries ≡ without_job (staying c.self.inside.log.entries) c.args.job =
+    ap staying (c.take_out.ensures.entries place.0 place.1)
+    ∙ staying_taken entries c.in-Some.at place.0 c.args.job place.1 place.2 place.3 place.4 in
+    record {
+      distinct = rw items (distinct_departed (staying entries) c.args.job c.self.invariant.distinct);
+      counted = omega (arith, c.self.invariant.counted, ap length items, length_departed (staying entries) c.args.job c.self.invariant.distinct present);
+      within = omega (arith, c.self.invariant.within);
+      fits = omega (arith, c.self.invariant.fits, c.take_out.ensures.room);
+    }
+
+pub returns-in-Some-clause-items : goal.returns-in-Some-clause-items
+returns-in-Some-clause-items c =
+    let place = c.in-Some.ensures in
+    rw (← c.self.view_is)
+    (ap staying (c.take_out.ensures.entries place.0 place.1)
+    ∙ staying_taken c.self.inside.log.entries c.in-Some.at place.0 c.args.job place.1 place.2 place.3 place.4)
+
+pub returns-in_default-clause-items : goal.returns-in_default-clause-items
+returns-in_default-clause-items c =
+    let present = rw (← c.self.view_is) at c.requires in
+    let absent = rw c.in_default.is at c.place_of.ensures in
+    absurd (false≢true (sym (not_loaded_from_absent c.self.inside.log.entries c.args.job absent) ∙ present))
+
+pub returns-in_default-clause-spare : goal.returns-in_default-clause-spare
+returns-in_default-clause-spare c =
+    let present = rw (← c.self.view_is) at c.requires in
+    let absent = rw c.in_default.is at c.place_of.ensures in
+    absurd (false≢true (sym (not_loaded_from_absent c.self.inside.log.entries c.args.job absent) ∙ present))

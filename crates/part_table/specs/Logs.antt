@@ -1,0 +1,72 @@
+-- Entries in the order in which they came, of which some are gone, and what finds them.
+use Rattle.std.specs.Prelude.{◌≡◌, ℕ, ◌+◌, ◌<◌, ◌≤◌, true, if◌then◌else◌, Some, List, length, map, slice_get, nat_eq}
+use Rattle.std.specs.List.{filter}
+use Rattle.std.specs.HashMap.{HashMap, get, hash_map_len, spare}
+use Rattle.cell_base.specs.declared.requests.JobId.{JobId}
+use Rattle.part_table.specs.declared.standing.Standing.{Standing}
+use Rattle.part_table.specs.declared.standing.Entry.{Entry}
+use Rattle.part_table.specs.declared.heads.TheConstants.{OFF, NOWHERE}
+use Rattle.cell_base.specs.Policy.{HaveDistinctJobs}
+use Rattle.part_table.specs.Heads.{Keyed}
+use Rattle.part_table.specs.Parts.{parts_of}
+
+-- what a contract sees of a log: its entries, how many there may be, and the number of resources
+pub record Logged : Type 0 where
+  pub entries : List Entry
+  pub room : ℕ
+  pub resources : ℕ
+
+-- the parts of the entries that are not gone
+abbrev pub staying : List Entry → List Standing
+staying entries = map (λ entry. entry.item) (filter (λ entry. entry.stays) entries)
+
+-- the number of the job of an entry
+abbrev pub job_of : Entry → ℕ
+job_of entry = entry.item.part.job.0
+
+-- no entry that stays is of the job
+abbrev pub IsAbsent : List Entry → JobId → Type 0
+IsAbsent entries job = (k : ℕ) (entry : Entry) → slice_get entries k ≡ Some entry → entry.stays ≡ true → job_of entry ≡ job.0 → ⊥
+
+-- the entry at the place, and no other that stays, is of the job
+abbrev pub IsPlaceOf : List Entry → JobId → ℕ → Type 0
+IsPlaceOf entries job place =
+    (found : Entry) × (slice_get entries place ≡ Some found) × (found.stays ≡ true) × (job_of found ≡ job.0)
+    × ((k : ℕ) (entry : Entry) → slice_get entries k ≡ Some entry → entry.stays ≡ true → job_of entry ≡ job.0 → k ≡ place)
+
+-- the resource on which the part of an entry stands, where it stays, and where it waits for work
+abbrev pub standing_key : Entry → ℕ
+standing_key entry = if entry.stays then entry.item.on.0 else OFF
+
+-- the resource on which a part stands that is not done
+abbrev pub key_of_waiting : Standing → ℕ
+key_of_waiting item = if item.part.done then OFF else item.on.0
+
+-- the same of an entry that stays
+abbrev pub waiting_key : Entry → ℕ
+waiting_key entry = if entry.stays then key_of_waiting entry.item else OFF
+
+-- the places of the jobs: each entry that stays is found, and what is found is of its job
+pub record ArePlaces {S : Type 0} (entries : List Entry) (places : HashMap ℕ ℕ S) : Type 0 where
+  pub placed : (k : ℕ) (entry : Entry) → slice_get entries k ≡ Some entry → entry.stays ≡ true → get nat_eq places (job_of entry) ≡ Some k
+  pub found : (job k : ℕ) → get nat_eq places job ≡ Some k → (entry : Entry) × (slice_get entries k ≡ Some entry) × (job_of entry ≡ job)
+  pub few : hash_map_len places ≤ length entries
+
+-- the parts of a log that belong together
+pub record IsLogged {S : Type 0} (entries : List Entry) (room : ℕ) (places : HashMap ℕ ℕ S) (standing waiting : Keyed) : Type 0 where
+  pub within : length entries ≤ room
+  pub small : room < NOWHERE
+  pub placed : ArePlaces entries places
+  pub places_left : room ≤ hash_map_len places + spare places
+  pub standing_keys : standing.keys ≡ map standing_key entries
+  pub waiting_keys : waiting.keys ≡ map waiting_key entries
+  pub standing_room : standing.room ≡ room
+  pub waiting_room : waiting.room ≡ room
+  pub resources : waiting.resources ≡ standing.resources
+
+-- a log whose parts are of different jobs, their number, and how many there may be
+pub record IsTable (log : Logged) (count room : ℕ) : Type 0 where
+  pub distinct : HaveDistinctJobs (parts_of (staying log.entries))
+  pub counted : count ≡ length (staying log.entries)
+  pub within : count ≤ room
+  pub fits : room ≤ log.room

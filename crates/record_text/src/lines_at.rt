@@ -1,0 +1,110 @@
+//! What the lines of a record say. Each reader reads what the definition of its name says.
+ghost use Rattle.std.specs.Prelude.{◌≡◌};
+ghost use Rattle.std.specs.Option.{option_map, option_copied};
+ghost use Rattle.cell_base.specs.Fits.{CellFits};
+ghost use Rattle.step_text.specs.Words.{words};
+ghost use Rattle.record_text.specs.Reading.{behind, told_behind, asked_at, entry_at, head_at, left_at, plan_at, step_at};
+
+use crate::requests_at::{place_at, three_at, two_at};
+use crate::told_at::told_at;
+use crate::words::{Rest, after_word, is_end, number_at};
+use cell_base::{Cell, Entry, Request, Told};
+use step_text::read_step;
+
+const SHIFT: &[u8] = b"shift";
+
+const AFTER: &[u8] = b"after";
+
+const LEFT: &[u8] = b"left";
+
+const PLAN: &[u8] = b"plan";
+
+/// The shift, and the number of grants before it, that a head line tells.
+#[tactic(auto, unfolding(crate::specs::Reading::head_at))]
+pub fn head_at(line: &[u8]) -> Option<(u32, u64)>
+    ensures { result ≡ head_at (words line.now) }
+{
+    let rest = after_word(SHIFT, Some(line))?;
+    let (shift, rest) = number_at(0, u32::MAX as u64, rest)?;
+    let rest = after_word(AFTER, rest)?;
+    let (after, rest) = number_at(0, u64::MAX, rest)?;
+    if is_end(rest) {
+        Some((shift as u32, after))
+    } else {
+        None
+    }
+}
+
+/// The entry that a line is.
+#[tactic(auto, unfolding(crate::specs::Reading::entry_at))]
+pub fn entry_at(cell: &Cell, line: &[u8]) -> Option<Entry>
+    requires { CellFits cell.now }
+    ensures { result ≡ entry_at cell.now (words line.now) }
+{
+    let (session, rest) = number_at(0, u16::MAX as u64, Some(line))?;
+    let (request, told) = asked_at(cell, rest)?;
+    Some(Entry {
+        session: session as u16,
+        request,
+        told,
+    })
+}
+
+/// A request and what was told of it. A name may be any word, so the end of the request is found by trying: the words of
+/// one form are never those of another.
+#[tactic(auto, unfolding(crate::specs::Reading::asked_at))]
+fn asked_at(cell: &Cell, rest: Rest<'_>) -> Option<(Request, Told)>
+    requires { CellFits cell.now }
+    ensures { result ≡ asked_at cell.now (behind (option_copied rest.entry)) }
+{
+    if let Some(asked) = told_behind(cell, two_at(cell, rest)) {
+        return Some(asked);
+    }
+    if let Some(asked) = told_behind(cell, three_at(cell, rest)) {
+        return Some(asked);
+    }
+    told_behind(cell, place_at(cell, rest))
+}
+
+#[tactic(auto, unfolding(crate::specs::Reading::told_behind))]
+fn told_behind(cell: &Cell, read: Option<(Request, Rest<'_>)>) -> Option<(Request, Told)>
+    requires { CellFits cell.now }
+    ensures { result ≡ told_behind cell.now (option_map (λ x. (x.0, behind (option_copied x.1))) read.entry) }
+{
+    let (request, rest) = read?;
+    let told = told_at(cell, rest)?;
+    Some((request, told))
+}
+
+/// The number of parts that a left line tells.
+#[tactic(auto, unfolding(crate::specs::Reading::left_at))]
+pub fn left_at(line: &[u8]) -> Option<u32>
+    ensures { result ≡ left_at (words line.now) }
+{
+    let rest = after_word(LEFT, Some(line))?;
+    let (left, rest) = number_at(0, u32::MAX as u64, rest)?;
+    if is_end(rest) {
+        Some(left as u32)
+    } else {
+        None
+    }
+}
+
+/// The number of steps that a plan line tells.
+#[tactic(auto, unfolding(crate::specs::Reading::plan_at))]
+pub fn plan_at(line: &[u8]) -> Option<u64>
+    ensures { result ≡ plan_at (words line.now) }
+{
+    let rest = after_word(PLAN, Some(line))?;
+    let (steps, rest) = number_at(0, u64::MAX, rest)?;
+    if is_end(rest) { Some(steps) } else { None }
+}
+
+/// The step of a plan that a line is.
+#[tactic(auto, unfolding(crate::specs::Reading::step_at, step_text::specs::Steps::step_of))]
+pub fn step_at(cell: &Cell, line: &[u8]) -> Option<Request>
+    requires { CellFits cell.now }
+    ensures { result ≡ step_at cell.now (words line.now) }
+{
+    read_step(cell, line).ok()
+}

@@ -1,0 +1,120 @@
+//! What was told of a request, up to the end of the line.
+ghost use Rattle.std.specs.Prelude.{◌≡◌};
+ghost use Rattle.std.specs.Option.{option_copied};
+ghost use Rattle.cell_base.specs.Fits.{CellFits};
+ghost use Rattle.record_text.specs.Reading.{behind, saturated_at, plain_refusal, why_at, told_at};
+
+use crate::words::{Rest, after_word, is_end, number_at, resource_at, word_at};
+use cell_base::{Cell, Refusal, Reply, ResId, Told};
+
+const GRANTED: &[u8] = b"granted";
+
+const REFUSED: &[u8] = b"refused";
+
+const HALTED: &[u8] = b"halted";
+
+const JOB_LOADED: &[u8] = b"job-loaded";
+
+const NO_SUCH_JOB: &[u8] = b"no-such-job";
+
+const NOT_PROCESSED: &[u8] = b"not-processed";
+
+const AT_LAST: &[u8] = b"at-last";
+
+const NOT_LAST: &[u8] = b"not-last";
+
+const IDLE: &[u8] = b"idle";
+
+const NO_BRANCH: &[u8] = b"no-branch";
+
+const SATURATED: &[u8] = b"saturated";
+
+const OF: &[u8] = b"of";
+
+/// What was told.
+#[tactic(auto, unfolding(crate::specs::Reading::told_at, crate::specs::Reading::told_of))]
+pub fn told_at(cell: &Cell, rest: Rest<'_>) -> Option<Told>
+    requires { CellFits cell.now }
+    ensures { result ≡ told_at cell.now (behind (option_copied rest.entry)) }
+{
+    let (word, rest) = word_at(rest)?;
+    if word == GRANTED {
+        return if is_end(rest) {
+            Some(Told::Answered(Reply::Granted))
+        } else {
+            None
+        };
+    }
+    if word == REFUSED {
+        let why = why_at(cell, rest)?;
+        return Some(Told::Answered(Reply::Refused(why)));
+    }
+    if word == HALTED {
+        return if is_end(rest) {
+            Some(Told::Halted)
+        } else {
+            None
+        };
+    }
+    None
+}
+
+#[tactic(auto, unfolding(crate::specs::Reading::why_at))]
+fn why_at(cell: &Cell, rest: Rest<'_>) -> Option<Refusal>
+    requires { CellFits cell.now }
+    ensures { result ≡ why_at cell.now (behind (option_copied rest.entry)) }
+{
+    let (word, rest) = word_at(rest)?;
+    if word == SATURATED {
+        return saturated_at(cell, rest);
+    }
+    let why = plain_refusal(word)?;
+    if is_end(rest) { Some(why) } else { None }
+}
+
+#[tactic(auto, unfolding(crate::specs::Reading::plain_refusal))]
+fn plain_refusal(word: &[u8]) -> Option<Refusal>
+    ensures { result ≡ plain_refusal word.now }
+{
+    if word == JOB_LOADED {
+        return Some(Refusal::JobLoaded);
+    }
+    if word == NO_SUCH_JOB {
+        return Some(Refusal::NoSuchJob);
+    }
+    if word == NOT_PROCESSED {
+        return Some(Refusal::NotProcessed);
+    }
+    if word == AT_LAST {
+        return Some(Refusal::AtLast);
+    }
+    if word == NOT_LAST {
+        return Some(Refusal::NotLast);
+    }
+    if word == IDLE {
+        return Some(Refusal::Idle);
+    }
+    if word == NO_BRANCH {
+        return Some(Refusal::NoBranch);
+    }
+    None
+}
+
+#[tactic(auto, unfolding(crate::specs::Reading::saturated_at))]
+fn saturated_at(cell: &Cell, rest: Rest<'_>) -> Option<Refusal>
+    requires { CellFits cell.now }
+    ensures { result ≡ saturated_at cell.now (behind (option_copied rest.entry)) }
+{
+    let (at, rest) = resource_at(cell, rest)?;
+    let (count, rest) = number_at(0, u32::MAX as u64, rest)?;
+    let rest = after_word(OF, rest)?;
+    let (capacity, rest) = number_at(0, u32::MAX as u64, rest)?;
+    if !is_end(rest) {
+        return None;
+    }
+    Some(Refusal::Saturated {
+        at: ResId(at),
+        count: count as u32,
+        capacity: capacity as u32,
+    })
+}
