@@ -19,7 +19,7 @@ use Rattle.shift_file.specs.declared.faults.ShiftFault.{ShiftFault}
 use Rattle.shift_file.specs.declared.faults.ShiftFault.TheVariants.{Memory as ShiftMemory}
 use Rattle.cell_program.specs.CellEnds.{cell_end}
 use Rattle.cell_program.specs.ShiftEnds.{shift_end}
-use Rattle.cell_program.specs.Reading.{EndsEarly, Unread, Refused, ByMemory}
+use Rattle.cell_program.specs.Reading.{GivenBy, EndsEarly, Unread, Refused, ByMemory}
 use Rattle.cell_program.specs.Told.{IsMadeOfFile}
 
 too_many : (most : ℕ) (bytes : List ℕ) → most < length bytes → short most bytes ≡ Err (TooMany (top Whole) (most + 1))
@@ -73,14 +73,14 @@ module _ (names : Option Names) (name read : List ℕ) where
 
   module _ (faults faults_after : ℕ) where
     pub cell_unmade : (fault : CellFault) → IsReadOf names name MAX_CELL_BYTES read → GivesOr CellMemory (Err fault) (cell_of read)
-        → EndsEarly names name cell_of cell_end faults faults_after (cell_end fault)
+        → EndsEarly names name (GivenBy cell_of) cell_end faults faults_after (cell_end fault)
     cell_unmade fault is (inl starved) = let same : fault ≡ CellMemory = cc in Unread (ByMemory (ap cell_end same))
     cell_unmade fault is (inr walk) =
         Refused fault (made_of_read cell_of MAX_CELL_BYTES cell_of-take names name read (Err fault) is walk) refl
 
     pub shift_unmade : (cell : Cell) (fault : ShiftFault) → IsReadOf names name MAX_SHIFT_BYTES read
         → GivesOr ShiftMemory (Err fault) (shift_of cell read)
-        → EndsEarly names name (shift_of cell) shift_end faults faults_after (shift_end fault)
+        → EndsEarly names name (GivenBy (shift_of cell)) shift_end faults faults_after (shift_end fault)
     shift_unmade cell fault is (inl starved) = let same : fault ≡ ShiftMemory = cc in Unread (ByMemory (ap shift_end same))
     shift_unmade cell fault is (inr walk) =
         Refused fault (made_of_read (shift_of cell) MAX_SHIFT_BYTES (shift_of-take cell) names name read (Err fault) is walk) refl

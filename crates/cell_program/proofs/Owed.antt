@@ -19,7 +19,7 @@ use Rattle.cell_program.specs.CellEnds.{cell_end}
 use Rattle.cell_program.specs.ShiftEnds.{shift_end}
 use Rattle.cell_program.specs.Commands.{Task, Nothing, Comes, FileFailed, FileRefused, FileRead, OwesSolo}
 use Rattle.cell_program.specs.Ends.{MayCome, IsOwed, MemoryWanted, IsDelivered, Ends}
-use Rattle.cell_program.specs.Reading.{ByFault, ByMemory, EndsEarly, Unread, Refused}
+use Rattle.cell_program.specs.Reading.{ByFault, ByMemory, EndsEarly, GivenBy, Unread, Refused}
 use Rattle.cell_program.specs.Runs.{IsSoloRun, IsSoloRecord, lines_of_run}
 use Rattle.cell_program.specs.Texts.{done, usage, usage_text, early_outcome}
 use Rattle.cell_program.specs.Told.{Told, IsMadeOfFile}
@@ -63,7 +63,7 @@ ends_usage told task none line status is delivered =
 
 module _ (names : Option Names) (faults faults_after : ℕ) (cell_name shift_name : List ℕ) where
   -- the cell was not read
-  pub ends_at_cell : (early : Early) → EndsEarly names cell_name cell_of cell_end faults faults_after early
+  pub ends_at_cell : (early : Early) → EndsEarly names cell_name (GivenBy cell_of) cell_end faults faults_after early
       → MayCome (OwesSolo names faults faults_after cell_name shift_name) (early_outcome early)
   unfolding OwesSolo
   ends_at_cell early (Unread (ByFault is rose)) = IsOwed (FileFailed (ap early_outcome is) rose)
@@ -72,7 +72,7 @@ module _ (names : Option Names) (faults faults_after : ℕ) (cell_name shift_nam
 
   module _ (cell : Cell) (made : IsMadeOfFile names cell_name cell_of (Ok cell)) where
     -- the cell was read, and the shift was not
-    pub ends_at_shift : (early : Early) → EndsEarly names shift_name (shift_of cell) shift_end faults faults_after early
+    pub ends_at_shift : (early : Early) → EndsEarly names shift_name (GivenBy (shift_of cell)) shift_end faults faults_after early
         → MayCome (OwesSolo names faults faults_after cell_name shift_name) (early_outcome early)
     unfolding OwesSolo
     ends_at_shift early (Unread (ByFault is rose)) = IsOwed (FileRead cell made (FileFailed (ap early_outcome is) rose))

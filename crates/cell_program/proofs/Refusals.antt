@@ -12,6 +12,7 @@ use Rattle.cell_program.specs.CellEnds.{cell_end}
 use Rattle.cell_program.specs.ShiftEnds.{shift_end}
 use Rattle.cell_program.specs.Commands.{Task, Nothing, Solo, Comes, AfterFile, OwesSolo, FileFailed, FileRefused, FileRead, HoldsBadCell, HoldsBadShift, IsAnswered, IsDone, TakesAll}
 use Rattle.cell_program.specs.Ends.{IsOwed, MemoryWanted, Whole, SinkFailed, Ends}
+use Rattle.cell_program.specs.Reading.{GivenBy}
 use Rattle.cell_program.specs.Texts.{Outcome, early_outcome}
 use Rattle.cell_program.specs.Told.{Told, IsMadeOfFile}
 use Rattle.cell_program.specs.declared.early.Early.{Early}
@@ -46,7 +47,7 @@ module _ (names : Option Names) (faults faults_after : ℕ) (cell shift : List �
       let same = value_held {V = Result Cell CellFault} cell_of names cell (Err fault) (Ok c) bad made in absurd (cc)
 
   shift_refused : (c : Cell) (fault : ShiftFault) → IsSomeAnd names (λ ns. IsSomeAnd (ns shift) (λ bytes. shift_of c bytes ≡ Err fault))
-      → AfterFile names faults faults_after shift (shift_of c) shift_end (λ s. IsDone c s outcome) outcome
+      → AfterFile names faults faults_after shift (GivenBy (shift_of c)) shift_end (λ s. IsDone c s outcome) outcome
       → IsEnd outcome (shift_end fault)
   shift_refused c fault bad (FileFailed is rose) = inr (inr (status_of is))
   shift_refused c fault bad (FileRefused found made is) =

@@ -13,9 +13,10 @@ use Rattle.shift_file.specs.declared.faults.ShiftFault.{ShiftFault}
 use Rattle.cell_program.specs.CellEnds.{cell_end}
 use Rattle.cell_program.specs.ShiftEnds.{shift_end}
 use Rattle.cell_program.specs.Ends.{MayCome}
+use Rattle.cell_program.specs.Reading.{GivenBy}
 use Rattle.cell_program.specs.Runs.{IsSoloRecord}
 use Rattle.cell_program.specs.Texts.{Outcome, done, usage, early_status, early_text, early_outcome}
-use Rattle.cell_program.specs.Told.{Told, IsMadeOfFile}
+use Rattle.cell_program.specs.Told.{Told, HoldsOf, IsMadeOfFile, TellsOf}
 use Rattle.cell_program.specs.declared.early.Early.{Early}
 use Rattle.cell_program.specs.declared.early.Early.TheVariants.{ReadFault}
 
@@ -41,16 +42,16 @@ AreThere names (name ∷ rest) = IsThere names name × AreThere names rest
 
 -- ---- what is owed
 
--- a file is read in its turn: the reading failed, or what is made of the file is a fault, at which the program ends, or a
--- value, of which this follows
-pub data AfterFile {V E : Type 0} (names : Option Names) (faults faults_after : ℕ) (name : List ℕ) (make : List ℕ → Result V E)
-    (end : E → Early) (follows : V → Type 0) (outcome : Outcome) : Type 0 where
+-- a file is read in its turn: the reading failed, or what its bytes read as is a fault, at which the program ends, or a value, of
+-- which this follows
+pub data AfterFile {V E : Type 0} (names : Option Names) (faults faults_after : ℕ) (name : List ℕ)
+    (reads : List ℕ → Result V E → Type 0) (end : E → Early) (follows : V → Type 0) (outcome : Outcome) : Type 0 where
   FileFailed : outcome ≡ early_outcome ReadFault → Rose faults faults_after
-      → AfterFile names faults faults_after name make end follows outcome
-  FileRefused : (fault : E) → IsMadeOfFile names name make (Err fault) → outcome ≡ early_outcome (end fault)
-      → AfterFile names faults faults_after name make end follows outcome
-  FileRead : (value : V) → IsMadeOfFile names name make (Ok value) → follows value
-      → AfterFile names faults faults_after name make end follows outcome
+      → AfterFile names faults faults_after name reads end follows outcome
+  FileRefused : (fault : E) → HoldsOf names name (λ bytes. reads bytes (Err fault)) → outcome ≡ early_outcome (end fault)
+      → AfterFile names faults faults_after name reads end follows outcome
+  FileRead : (value : V) → HoldsOf names name (λ bytes. reads bytes (Ok value)) → follows value
+      → AfterFile names faults faults_after name reads end follows outcome
 
 -- the record of a shift is printed
 abbrev pub IsDone : Cell → Shift → Outcome → Type 0
@@ -59,8 +60,8 @@ IsDone cell shift outcome = (lines : List (List ℕ)) × IsSoloRecord cell shift
 -- what `solo` owes: the cell is read, then the shift, and then the shift runs
 unfoldable pub OwesSolo : Option Names → ℕ → ℕ → List ℕ → List ℕ → Outcome → Type 0
 OwesSolo names faults faults_after cell_name shift_name outcome =
-    AfterFile names faults faults_after cell_name cell_of cell_end
-    (λ cell. AfterFile names faults faults_after shift_name (shift_of cell) shift_end
+    AfterFile names faults faults_after cell_name (GivenBy cell_of) cell_end
+    (λ cell. AfterFile names faults faults_after shift_name (GivenBy (shift_of cell)) shift_end
     (λ shift. IsDone cell shift outcome)
     outcome)
     outcome
@@ -112,14 +113,14 @@ TakesAll told = Rose told.sink.faults told.sink.faults_after → ⊥
 -- the files tell, and hold bytes under the cell's name that this is the fault of
 abbrev pub HoldsBadCell : Told → Task → CellFault → Type 0
 HoldsBadCell told Nothing fault = ⊥
-HoldsBadCell told (Solo cell shift) fault = IsSomeAnd told.names (λ names. IsSomeAnd (names cell) (λ bytes. cell_of bytes ≡ Err fault))
+HoldsBadCell told (Solo cell shift) fault = TellsOf told.names cell (λ bytes. cell_of bytes ≡ Err fault)
 
 -- the same of the shift, for the cell that is held
 abbrev pub HoldsBadShift : Told → Task → ShiftFault → Type 0
 HoldsBadShift told Nothing fault = ⊥
 HoldsBadShift told (Solo cell shift) fault =
-    (c : Cell) × IsSomeAnd told.names (λ names. IsSomeAnd (names cell) (λ bytes. cell_of bytes ≡ Ok c))
-    × IsSomeAnd told.names (λ names. IsSomeAnd (names shift) (λ bytes. shift_of c bytes ≡ Err fault))
+    (c : Cell) × TellsOf told.names cell (λ bytes. cell_of bytes ≡ Ok c)
+    × TellsOf told.names shift (λ bytes. shift_of c bytes ≡ Err fault)
 
 -- the status and the line are those of this end, or memory was wanting
 abbrev pub IsAnswered : Told → Early → ℕ → Type 0

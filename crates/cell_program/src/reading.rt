@@ -6,7 +6,7 @@ ghost use Rattle.cell_file.specs.Walk.{cell_of};
 ghost use Rattle.shift_file.specs.Walk.{shift_of};
 ghost use Rattle.cell_program.specs.CellEnds.{cell_end};
 ghost use Rattle.cell_program.specs.ShiftEnds.{shift_end};
-ghost use Rattle.cell_program.specs.Reading.{EndsEarly, IsUnread};
+ghost use Rattle.cell_program.specs.Reading.{EndsEarly, GivenBy, IsUnread};
 ghost use Rattle.cell_program.specs.Told.{IsMadeOfFile};
 ghost use Rattle.cell_program.specs.declared.early.Early.TheVariants.{ReadFault};
 
@@ -46,7 +46,7 @@ pub fn read_cell_file<F: Files>(alloc: Global, files: &mut F, name: &str) -> Res
     ensures same { F.holds files.new ≡ F.holds files.old }
     ensures stays_sound { F.is_sound files.old → F.is_sound files.new }
     ensures early { IfErr result
-        (EndsEarly (F.holds files.old) name.now cell_of cell_end (F.faults files.old) (F.faults files.new)) }
+        (EndsEarly (F.holds files.old) name.now (GivenBy cell_of) cell_end (F.faults files.old) (F.faults files.new)) }
     ensures sound { F.is_sound files.old → IsThere (F.holds files.old) name.now
         → IsErrOf result ReadFault → ⊥ }
 {
@@ -70,7 +70,7 @@ pub fn read_shift_file<F: Files>(
     ensures fits { IfOk result (ShiftFits cell.now) }
     ensures kept { OnOk result (F.faults files.new ≡ F.faults files.old) }
     ensures early { IfErr result
-        (EndsEarly (F.holds files.old) name.now (shift_of cell.now) shift_end (F.faults files.old) (F.faults files.new)) }
+        (EndsEarly (F.holds files.old) name.now (GivenBy (shift_of cell.now)) shift_end (F.faults files.old) (F.faults files.new)) }
     ensures sound { F.is_sound files.old → IsThere (F.holds files.old) name.now
         → IsErrOf result ReadFault → ⊥ }
 {
