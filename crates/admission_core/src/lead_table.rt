@@ -1,44 +1,44 @@
-//! A cell with the table of the stages that lead to each resource.
+//! A cell with its stages by number and their masks.
 ghost use Rattle.std.specs.Prelude.{◌≡◌, ◌<◌, length, IfOk, IfSome, option_map};
 ghost use Rattle.cell_base.specs.Stages.{stage, IsStage, stage_of, is_last, successor};
-ghost use Rattle.cell_base.specs.Neighborhoods.{leads};
+ghost use Rattle.cell_base.specs.Neighborhoods.{leads, mask_of, masks_of};
 ghost use Rattle.cell_base.specs.Outcomes.{arrival};
 ghost use Rattle.cell_base.specs.Fits.{CellFits};
 
-use crate::sweep;
-use cell_base::{Cell, JobId, List, NoMemory, Part, ResId, TypeId};
+use cell_base::{Cell, JobId, NoMemory, Part, ResId, TypeId};
+use route_table::StageTable;
 use std::alloc::Global;
 use std::marker::Model;
+use upstream_sets::Upstream;
 
-/// A cell that fits, with the table of the stages that lead to its resources. Contracts see it as the cell.
+/// A cell that fits, with its stages by number and their masks. Contracts see it as the cell.
 #[derive(Drop)]
 pub struct LeadTable {
-    cell: Cell,
-    /// By resource, type and place.
-    leads: List<List<List<bool>>>,
+    stages: StageTable,
+    upstream: Upstream,
 }
 
 impl Model for LeadTable {
     ghost use Rattle.std.specs.Prelude.{◌≡◌};
     ghost use Rattle.cell_base.specs.declared.cells.Cell.{Cell};
-    ghost use Rattle.cell_base.specs.Fits.{CellFits};
-    ghost use Rattle.admission_core.specs.Leading.{leading_table};
+    ghost use Rattle.cell_base.specs.Neighborhoods.{masks_of};
 
     ghost Value = { Cell };
 
-    ghost view = { λ s. s.cell };
+    ghost view = { λ s. s.stages };
 
-    ghost invariant = { λ s. CellFits s.cell × (s.leads ≡ leading_table s.cell) };
+    ghost invariant = { λ s. s.upstream ≡ masks_of s.stages };
 }
 
 impl LeadTable {
-    /// The cell with its table.
-    pub fn new(alloc: Global, cell: Cell) -> Result<LeadTable, NoMemory>
-        requires { CellFits cell }
-        ensures { IfOk result (λ table. table ≡ cell) }
+    /// The table of a cell.
+    pub fn new(alloc: Global, cell: &Cell) -> Result<LeadTable, NoMemory>
+        requires { CellFits cell.now }
+        ensures { IfOk result (λ table. table ≡ cell.now) }
     {
-        let leads = sweep::table(alloc, &cell)?;
-        Ok(LeadTable { cell, leads })
+        let stages = StageTable::new(alloc, cell)?;
+        let upstream = Upstream::new(alloc, &stages)?;
+        Ok(LeadTable { stages, upstream })
     }
 
     /// The cell.
@@ -46,7 +46,32 @@ impl LeadTable {
         ensures value { result.now ≡ self.now }
         ensures fits { CellFits self.now }
     {
-        &self.cell
+        self.stages.cell()
+    }
+
+    /// The stages of the cell.
+    pub fn stages(&self) -> &StageTable
+        ensures { result.now ≡ self.now }
+    {
+        &self.stages
+    }
+
+    /// The masks of the stages.
+    pub fn upstream(&self) -> &Upstream
+        ensures { result.now ≡ masks_of self.now }
+    {
+        &self.upstream
+    }
+
+    /// The mask of a part's stage.
+    fn mask(&self, part: Part) -> u64
+        requires { IsStage self.now (stage_of part) }
+        ensures mask { result ≡ mask_of self.now (stage_of part) }
+        ensures fits { CellFits self.now }
+    {
+        let stage = self.stages.number(part.kind, part.place);
+        let _cell = self.stages.cell();
+        self.upstream.mask(stage)
     }
 
     /// Whether a part's stage leads to a resource.
@@ -55,11 +80,7 @@ impl LeadTable {
         requires stage { IsStage self.now (stage_of part) }
         ensures { result ≡ leads self.now (stage_of part) r.0 }
     {
-        *self
-            .leads
-            .get(r.0 as u64)
-            .get(part.kind.0 as u64)
-            .get(part.place as u64)
+        self.mask(part) >> r.0 & 1 == 1
     }
 
     /// Whether a part stands at a last stage.
@@ -67,7 +88,7 @@ impl LeadTable {
         requires { IsStage self.now (stage_of part) }
         ensures { result ≡ is_last self.now (stage_of part) }
     {
-        self.cell.is_last(part.kind, part.place)
+        self.cell().is_last(part.kind, part.place)
     }
 
     /// The place to which a part goes by a branch.
@@ -76,7 +97,7 @@ impl LeadTable {
         ensures successor { option_map (stage part.kind.0) result ≡ successor self.now (stage_of part) branch }
         ensures within { IfSome result (λ place. IsStage self.now (stage part.kind.0 place)) }
     {
-        self.cell.successor(part.kind, part.place, branch)
+        self.cell().successor(part.kind, part.place, branch)
     }
 
     /// A part that arrives at a place.
@@ -84,7 +105,7 @@ impl LeadTable {
         requires { IsStage self.now (stage kind.0 place) }
         ensures { result ≡ arrival self.now job kind place }
     {
-        arrival(&self.cell, job, kind, place)
+        arrival(self.cell(), job, kind, place)
     }
 
     /// A part that arrives at the first place of its route.
@@ -93,7 +114,7 @@ impl LeadTable {
         ensures value { result ≡ arrival self.now job kind 0 }
         ensures stage { IsStage self.now (stage_of result) }
     {
-        arrival(&self.cell, job, kind, 0)
+        arrival(self.cell(), job, kind, 0)
     }
 }
 

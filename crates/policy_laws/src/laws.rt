@@ -1,8 +1,19 @@
 //! The laws of the policy for a cell, each the contract of a function that does nothing.
 ghost use Rattle.cell_base.specs.Fits.{CellFits};
-ghost use Rattle.policy_laws.specs.Laws.{SweepLaw, UpLaw, DownLaw, MoveLaw, UnloadLaw, ProcessLaw, AdmissionLaw, RefusalLaw, SaturationLaw, UnitsLaw, PlanLaw};
+ghost use Rattle.policy_laws.specs.Laws.{NumberingLaw, MaskLaw, SweepLaw, UpLaw, DownLaw, MoveLaw, UnloadLaw, ProcessLaw, AdmissionLaw, RefusalLaw, SaturationLaw, UnitsLaw, PlanLaw};
 
 use cell_base::Cell;
+
+/// Each stage has one number, and each number below their count is that of one stage.
+pub fn numbering_law(cell: &Cell)
+    ensures { NumberingLaw cell.now }
+{}
+
+/// Bit `r` of the mask of a stage is set exactly where the stage leads to resource `r`.
+pub fn mask_law(cell: &Cell)
+    requires { CellFits cell.now }
+    ensures { MaskLaw cell.now }
+{}
 
 /// What a stage leads to is known from its successors.
 pub fn sweep_law(cell: &Cell)

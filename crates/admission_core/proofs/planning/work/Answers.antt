@@ -1,5 +1,5 @@
 -- Each part adds its own work, at most twice the places of the longest route.
-use Rattle.std.proofs.Common.{◌≡◌, ℕ, ◌≤◌, ◌*◌, ◌+◌, length, take_all, sum_by, refl, ap, ap₂, sym, arith, ◌∙◌}
+use Rattle.std.proofs.Common.{ℕ, ◌+◌, take_all, sum_by, refl, ap, ap₂, sym, arith, ◌∙◌}
 use Rattle.std.proofs.lemmas.List.Sums.{sum_by_more}
 use Rattle.cell_base.specs.Plans.{work_of}
 use Rattle.admission_core.proofs.planning.work.Goals as goal

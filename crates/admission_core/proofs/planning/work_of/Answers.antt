@@ -1,9 +1,9 @@
 -- Each step of the walk adds what the next stage needs.
-use Rattle.std.proofs.Common.{◌≡◌, ◌≤◌, cond, ℕ, Bool, ap, sym, arith, ◌∙◌}
-use Rattle.cell_base.specs.Stages.{Stage, stage, works_at}
+use Rattle.std.proofs.Common.{◌≡◌, ◌≤◌, cond, ℕ, ap, sym, arith, ◌∙◌}
+use Rattle.cell_base.specs.Stages.{stage}
 use Rattle.cell_base.specs.Plans.{work_at}
-use Rattle.policy_laws.proofs.Work.{work_behind, work_behind-next}
-use Rattle.admission_core.proofs.Rows.{length-route_of}
+use Rattle.policy_laws.proofs.Work.{work_behind-next}
+use Rattle.policy_laws.proofs.Limits.{length-route_of}
 use Rattle.admission_core.proofs.planning.work_of.Goals as goal
 use Rattle.admission_core.proofs.planning.work_of.Goals.{then-works_at, else-works_at}
 

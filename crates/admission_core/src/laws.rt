@@ -1,0 +1,27 @@
+//! What the policy never refuses, each the contract of a function that does nothing.
+ghost use Rattle.std.specs.Prelude.{◌≡◌, ◌≢◌, ℕ, ◌≤◌};
+ghost use Rattle.cell_base.specs.declared.cells.ResId.{ResId};
+ghost use Rattle.cell_base.specs.declared.requests.Part.{Part};
+ghost use Rattle.cell_base.specs.declared.requests.Request.TheVariants.{Move, Unload};
+ghost use Rattle.cell_base.specs.declared.requests.Refusal.TheVariants.{Saturated};
+ghost use Rattle.cell_base.specs.declared.requests.Reply.TheVariants.{Granted, Refused};
+ghost use Rattle.cell_base.specs.Stages.{Stage, stage_of, order_at};
+ghost use Rattle.cell_base.specs.Outcomes.{reply_to};
+ghost use Rattle.policy_laws.specs.Laws.{MayMove};
+
+use crate::Core;
+use cell_base::JobId;
+
+/// A move of a done part by a branch that its stage has, to a resource of no lesser order, is granted.
+pub fn move_to_no_lesser_order_is_granted(core: &Core, job: JobId, branch: u16)
+    ensures { (part : Part) (to : Stage) → MayMove core.now.cell core.now.parts job branch part to
+        → order_at core.now.cell (stage_of part) ≤ order_at core.now.cell to
+        → reply_to core.now.cell core.now.parts (Move job branch) ≡ Granted }
+{
+    let _cell = core.cell();
+}
+
+/// An unload is never refused for a full neighborhood.
+pub fn unload_is_never_saturated(core: &Core, job: JobId)
+    ensures { (at : ResId) (held units : ℕ) → reply_to core.now.cell core.now.parts (Unload job) ≢ Refused (Saturated at held units) }
+{}
