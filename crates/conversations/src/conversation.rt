@@ -41,13 +41,10 @@ impl Conversation {
             self.behind.push(String::new(self.alloc))?;
             return Ok(());
         }
-        let text = match self.behind.last_mut() {
-            Some(behind) => behind,
-            None => &mut self.printed,
-        };
-        text.push_str(line)?;
-        text.push_str("\n")?;
-        Ok(())
+        match self.behind.last_mut() {
+            Some(behind) => add_line(behind, line),
+            None => add_line(&mut self.printed, line),
+        }
     }
 
     /// Ends with this exit status.
@@ -104,6 +101,12 @@ impl Conversation {
         let text = text.as_str();
         Ok(format!(in self.alloc; "{text}= {status}\n")?)
     }
+}
+
+fn add_line(text: &mut String, line: &str) -> Result<()> {
+    text.push_str(line)?;
+    text.push_str("\n")?;
+    Ok(())
 }
 
 // What comes behind a piece, where it first stands at the beginning of a line.
