@@ -7,14 +7,15 @@ use Rattle.std.proofs.lemmas.List.{length-map, get_or-map}
 use Rattle.std.proofs.lemmas.List.Sums.{sum_by_push}
 use Rattle.std.proofs.lemmas.Nat.Bits.{bit_at_cat_low, bit_at_cat_high, bit_at_above, same_from_bits}
 use Rattle.cell_base.specs.declared.cells.Cell.{Cell}
-use Rattle.cell_base.specs.Stages.{Stage, stage, stages}
-use Rattle.cell_base.specs.Numbers.{IsNumber, stage_numbered}
+use Rattle.cell_base.specs.Stages.{Stage, stage, IsStage, stages}
+use Rattle.cell_base.specs.Numbers.{IsNumber, number_of, stage_numbered}
 use Rattle.cell_base.specs.Masks.{has_bit}
 use Rattle.cell_base.specs.Neighborhoods.{leads, mask_of, masks_of}
 use Rattle.cell_base.specs.Fits.{CellFits}
 use Rattle.cell_base.proofs.Bits.{bit_at-number}
 use Rattle.policy_laws.specs.Laws.{MaskLaw}
 use Rattle.policy_laws.proofs.Growing.{numbers_more}
+use Rattle.policy_laws.proofs.Numbering.{numbering_law}
 use Rattle.policy_laws.proofs.Leading.{leads-resource}
 
 -- the bits below n that pass a test
@@ -76,6 +77,14 @@ length-masks_of cell = length-map (stages cell) (mask_of cell)
 
 pub mask_at_number : (cell : Cell) (n : ℕ) → IsNumber cell n → get_or (masks_of cell) n 0 ≡ mask_of cell (stage_numbered cell n)
 mask_at_number cell n within = get_or-map (mask_of cell) (stages cell) n (stage 0 0) 0 within
+
+pub stage_has_mask : (cell : Cell) (s : Stage) → IsStage cell s → number_of cell s < length (masks_of cell)
+stage_has_mask cell s standing = omega (arith, (numbering_law cell).numbers s standing, length-masks_of cell)
+
+pub mask_at_stage : (cell : Cell) (s : Stage) → IsStage cell s → get_or (masks_of cell) (number_of cell s) 0 ≡ mask_of cell s
+mask_at_stage cell s standing =
+    mask_at_number cell (number_of cell s) ((numbering_law cell).numbers s standing)
+    ∙ ap (mask_of cell) ((numbering_law cell).numbered s standing)
 
 module _ (cell : Cell) (fits : CellFits cell) where
   pub mask_law : MaskLaw cell
