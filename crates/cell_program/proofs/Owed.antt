@@ -9,7 +9,6 @@ use Rattle.cell_base.specs.declared.shifts.Shift.{Shift}
 use Rattle.cell_base.specs.Fits.{CellFits, ShiftFits}
 use Rattle.cell_base.specs.Histories.{after}
 use Rattle.cell_base.specs.Plans.{plan_of}
-use Rattle.outside_io.specs.Causes.{Rose}
 use Rattle.cell_file.specs.Walk.{cell_of}
 use Rattle.shift_file.specs.Walk.{shift_of}
 use Rattle.cell_program.proofs.BlockTexts.{Outcome, done, usage, usage_text, early_outcome, verdict_outcome}
