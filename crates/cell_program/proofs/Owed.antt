@@ -11,7 +11,7 @@ use Rattle.cell_base.specs.Histories.{after}
 use Rattle.cell_base.specs.Plans.{plan_of}
 use Rattle.cell_file.specs.Walk.{cell_of}
 use Rattle.shift_file.specs.Walk.{shift_of}
-use Rattle.cell_program.proofs.BlockTexts.{Outcome, done, usage, usage_text, early_outcome, verdict_outcome}
+use Rattle.cell_program.proofs.BlockTexts.{planned_text}
 use Rattle.cell_program.proofs.Fitted.{rounds_drain, rounds_unhalted}
 use Rattle.cell_program.specs.Blocks.{planned_block}
 use Rattle.cell_program.specs.CellEnds.{cell_end}

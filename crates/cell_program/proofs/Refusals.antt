@@ -95,7 +95,6 @@ shift_decides told Nothing outcome fault bad comes = absurd bad
 shift_decides told (Solo cell shift) outcome fault bad (MemoryWanted is) = inl is
 shift_decides told (Solo cell shift) outcome fault bad (IsOwed owed) =
     shift_owed told.names told.file_faults told.file_faults_after cell shift outcome bad.0 fault bad.1 bad.2 owed
-
 shift_decides told (Check cell record_file) outcome fault bad comes = absurd bad
 shift_decides told (Show cell) outcome fault bad comes = absurd bad
 

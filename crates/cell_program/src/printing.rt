@@ -11,8 +11,8 @@ ghost use Rattle.cell_program.specs.Blocks.{Lines, entry_line, step_line, histor
 use cell_base::{Cell, Entry};
 use drain_planner::Drainer;
 use outside_io::{Failed, Sink};
-use refusal_reason::first_line;
 use record_text::{Line, head_line, line_of, plan_line, step_line};
+use refusal_reason::first_line;
 
 /// Puts one line.
 pub fn print_line<K: Sink>(out: &mut K, line: &Line) -> Result<(), Failed>

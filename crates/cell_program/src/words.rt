@@ -11,10 +11,7 @@ pub enum Command<'a> {
     /// A shift on the empty cell, on one thread.
     Solo { cell: &'a str, shift: &'a str },
     /// Whether a record is right.
-    Check {
-        cell: &'a str,
-        record_file: &'a str,
-    },
+    Check { cell: &'a str, record_file: &'a str },
     /// A cell's neighborhoods.
     Show { cell: &'a str },
 }
