@@ -1,9 +1,12 @@
 -- What the status of an end tells, by cases of how its outcome came about.
-use Rattle.std.proofs.Common.{◌≡◌, ◌⊎◌, inl, inr, ℕ, ◌+◌, [], ◌∷◌, ◌++◌, length, take, sym, ◌∙◌, ap, subst, refl, arith}
+use Rattle.std.proofs.Common.{◌≡◌, ◌⊎◌, inl, inr, ℕ, ◌+◌, List, Ok, Err, [], ◌∷◌, ◌++◌, length, take, sym, ◌∙◌, ap, subst, refl, arith}
 use Rattle.std.proofs.Math.Seq.{take-append-add}
 use Rattle.outside_io.specs.Causes.{Rose}
 use Rattle.outside_io.specs.Puts.{TookAll, TookSome}
 use Rattle.outside_io.specs.PutLaws.{some_is_prefix}
+use Rattle.cell_base.specs.declared.cells.Cell.{Cell}
+use Rattle.cell_file.specs.Walk.{cell_of}
+use Rattle.shift_file.specs.Walk.{shift_of}
 use Rattle.cell_file.specs.declared.faults.CellFault.{CellFault}
 use Rattle.cell_file.specs.declared.faults.CellFault.TheVariants.{NotToml, WrongKey, WrongKind, BadName, BadNumber, Repeated, UnknownName, TooMany, Empty, MixedOrders, TooManyUnits, Memory}
 use Rattle.shift_file.specs.declared.faults.ShiftFault.{ShiftFault}
@@ -23,7 +26,7 @@ use Rattle.shift_checker.specs.declared.verdict.Verdict.{Verdict}
 use Rattle.shift_checker.specs.declared.verdict.Verdict.TheVariants.{Yes, No}
 use Rattle.cell_program.specs.Ends.{IsOwed, MemoryWanted, Whole, SinkFailed, Ends, PutsLines}
 use Rattle.cell_program.specs.Texts.{Outcome, done, early_outcome, verdict_outcome}
-use Rattle.cell_program.specs.Told.{Told}
+use Rattle.cell_program.specs.Told.{Told, HoldsOf, IsMadeOfFile}
 
 -- what each status of an outcome tells
 record Tells (told : Told) (task : Task) (outcome : Outcome) : Type 0 where
