@@ -1,0 +1,4 @@
+-- Lemmas, grouped by subject.
+pub mod Fields
+pub mod ReadBack
+mod Rows

@@ -1,0 +1,84 @@
+//! A record read as a grant. The table of a record's bytes stands at the head of `encoder`.
+//!
+//! The numbers are read at their offsets, and the bytes are then compared with the record of the grant that they
+//! make: so nothing but its one record is read as a grant.
+ghost use Rattle.std.specs.Prelude.{◌≡◌, ◌≢◌, ◌≤◌, IfSome, IfNone};
+ghost use Rattle.cell_base.specs.declared.shifts.Grant.{Grant};
+ghost use Rattle.entry_codec.specs.Records.{record_of, request_has_record, HasRecord, IsInRange};
+ghost use Rattle.entry_codec.specs.Decoding as spec;
+ghost use Rattle.entry_codec.specs.Decoding.{grant_of};
+
+use crate::encoder::record_for;
+use cell_base::{Grant, JobId, MAX_BRANCHES, Request, ResId, TypeId};
+
+/// The grant whose record the bytes are; none where they are no record.
+#[tactic(auto, unfolding(crate::specs::Decoding::grant_of))]
+pub fn decode(bytes: &[u8; 16]) -> Option<Grant>
+    ensures grant { result ≡ grant_of bytes.now }
+    ensures has_record { IfSome result HasRecord }
+    ensures record { IfSome result (λ grant. bytes.now ≡ record_of grant) }
+    ensures no_record { IfNone result ((grant : Grant) → IsInRange grant → HasRecord grant
+        → bytes.now ≢ record_of grant) }
+{
+    let request = request_in(bytes)?;
+    let grant = Grant {
+        shift: number_4(bytes, 4),
+        session: number_2(bytes, 2),
+        request,
+    };
+    if has_record(&grant.request) && record_for(grant) == *bytes {
+        Some(grant)
+    } else {
+        None
+    }
+}
+
+// The request whose numbers stand in the bytes.
+fn request_in(bytes: &[u8; 16]) -> Option<Request>
+    ensures { result ≡ spec.request_in bytes.now }
+{
+    let job = JobId(number_4(bytes, 8));
+    let low = number_2(bytes, 14);
+    match bytes[0] {
+        1 => Some(Request::Load {
+            job,
+            kind: TypeId(low),
+        }),
+        2 => Some(Request::Process {
+            machine: ResId(low),
+        }),
+        3 => Some(Request::Move { job, branch: low }),
+        4 => Some(Request::Unload { job }),
+        5 => Some(Request::Place {
+            job,
+            kind: TypeId(number_2(bytes, 12)),
+            place: low,
+            done: bytes[1] == 1,
+        }),
+        _ => None,
+    }
+}
+
+// Whether grants of the request have a record.
+fn has_record(request: &Request) -> bool
+    ensures { result ≡ request_has_record request.now }
+{
+    match *request {
+        Request::Move { branch, .. } => u64::from(branch) < MAX_BRANCHES,
+        _ => true,
+    }
+}
+
+fn number_2(bytes: &[u8; 16], at: usize) -> u16
+    requires { at ≤ 14 }
+    ensures { result ≡ spec.number_2 bytes.now at }
+{
+    u16::from_be_bytes([bytes[at], bytes[at + 1]])
+}
+
+fn number_4(bytes: &[u8; 16], at: usize) -> u32
+    requires { at ≤ 12 }
+    ensures { result ≡ spec.number_4 bytes.now at }
+{
+    u32::from_be_bytes([bytes[at], bytes[at + 1], bytes[at + 2], bytes[at + 3]])
+}
