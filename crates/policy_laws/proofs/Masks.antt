@@ -2,6 +2,7 @@
 use Rattle.std.proofs.Common.{◌≡◌, ℕ, zero, suc, ◌+◌, ◌-◌, ◌*◌, ◌^◌, ◌<◌, ◌≤◌, ◌==◌, Bool, true, false, cond, List, length, get_or, ap, refl, sym, subst, ◌∙◌, ⊎_elim, pow-suc, arith}
 use Rattle.std.specs.List.{sum_by, range_with_len}
 use Rattle.std.specs.Int.{bit_at}
+use Rattle.std.proofs.Math.Pow.{pow_mono}
 use Rattle.std.proofs.lemmas.Bool.{cases_lt}
 use Rattle.std.proofs.lemmas.List.{length-map, get_or-map}
 use Rattle.std.proofs.lemmas.List.Sums.{sum_by_push}
@@ -99,6 +100,15 @@ module _ (cell : Cell) (fits : CellFits cell) where
 
       above : length cell.resources ≤ r → has_bit (mask_of cell s) r ≡ leads cell s r
       above past = has_bit-above (length cell.resources) (mask_of cell s) r bits.small past ∙ nowhere (leads cell s r) refl past
+
+  -- it fits 64 bits
+  pub mask_of-small : (s : Stage) → mask_of cell s < 2 ^ 64
+  mask_of-small s =
+      omega (arith, (are_bits (leads cell s) (length cell.resources)).small, pow_mono {i = length cell.resources} {j = 64} fits.resource_count.1)
+
+  -- what a part at the stage counts
+  pub bit_at-mask_of : (s : Stage) (r : ℕ) → bit_at (mask_of cell s) r ≡ cond (leads cell s r) 1 0
+  bit_at-mask_of s r = bit_at-number (mask_of cell s) r ∙ ap (λ b. cond b 1 0) (mask_law s r)
 
   -- a number with these bits is the mask
   pub mask_from_bits : (s : Stage) (mask : ℕ) → ((r : ℕ) → has_bit mask r ≡ leads cell s r) → mask ≡ mask_of cell s

@@ -16,8 +16,8 @@ mask-requires c =
       stage_has_mask cell s (subst (λ cell. IsStage cell s) (sym c.self.view_is) c.requires),
     )
 
-pub returns-clause-mask : goal.returns-clause-mask
-returns-clause-mask c =
+pub returns : goal.returns
+returns c =
     let cell = c.self.inside.stages in
     let s = stage_of c.args.part in
     c.mask.ensures
