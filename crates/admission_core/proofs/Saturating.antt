@@ -84,7 +84,7 @@ module _ (cell : Cell) (fits : CellFits cell) (held : Counted) (parts : List Par
   only_none : (t s : Stage) (r : ℕ) → has_bit (bits_only_of (mask_of cell t) (mask_of cell s)) r ≡ false → share cell r t ≤ share cell r s
   only_none t s r e =
       let none : bit_at (bits_only_of (mask_of cell t) (mask_of cell s)) r ≡ 0 =
-          bit_at-number (bits_only_of (mask_of cell t) (mask_of cell s)) r ∙ ap (λ b. cond {A = ℕ} b 1 0) e in
+      bit_at-number (bits_only_of (mask_of cell t) (mask_of cell s)) r ∙ ap (λ b. cond {A = ℕ} b 1 0) e in
       omega (arith, none, only_sum t s r)
 
   pub only_is_of : (t s : Stage) → IsMaskOf held (bits_only_of (mask_of cell t) (mask_of cell s))
@@ -112,8 +112,12 @@ module _ (cell : Cell) (fits : CellFits cell) (held : Counted) (parts : List Par
 
     pub mask_held : AreHeld held (mask_of cell (stage_of part))
     mask_held r e =
-        omega (arith, are.each r (leads-resource cell fits r (stage_of part) (sym (mask_law cell fits (stage_of part) r) ∙ e)), counted_once r,
-        bit_one (stage_of part) r e)
+        omega (
+          arith,
+          are.each r (leads-resource cell fits r (stage_of part) (sym (mask_law cell fits (stage_of part) r) ∙ e)),
+          counted_once r,
+          bit_one (stage_of part) r e,
+        )
 
     pub only_held : AreHeld held (bits_only_of (mask_of cell (stage_of part)) (mask_of cell (stage_of next)))
     only_held r e = mask_held r

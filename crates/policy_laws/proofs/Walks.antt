@@ -48,4 +48,3 @@ module _ (cell : Cell) (fits : CellFits cell) where
   pub work_from-next : (s t : Stage) → IsStage cell s → successor cell s 0 ≡ Some t
       → work_from cell s true ≡ work_from cell t true + work_at cell t
   work_from-next s t standing e = omega (arith, work_behind-next cell fits s t standing e)
-

@@ -66,16 +66,26 @@ returns-clause-tallied c =
     let parts = parts_of items in
     let tallied = c.requires.sound.tallied in
     let now : parts_of c.arrive.new.self.items ≡ parts ++ c.args.part ∷ [] =
-        ap (λ (items : List Standing). parts_of items) c.arrive.ensures.items ∙ parts_of-push items c.args.part c.resource_at.result in
+    ap (λ (items : List Standing). parts_of items) c.arrive.ensures.items ∙ parts_of-push items c.args.part c.resource_at.result in
     record {
       on = subst (AreOn cell) (sym c.arrive.ensures.items)
           (AreOn-push cell items c.args.part c.resource_at.result tallied.on c.resource_at.ensures.value);
       resources = c.arrive.ensures.resources ∙ tallied.resources;
-      enough = omega (arith, tallied.enough, c.arrive.ensures.spare, ap length c.arrive.ensures.items,
-          length_push items (record { part = c.args.part; on = c.resource_at.result }));
+      enough = omega (
+        arith,
+        tallied.enough,
+        c.arrive.ensures.spare,
+        ap length c.arrive.ensures.items,
+        length_push items (record { part = c.args.part; on = c.resource_at.result }),
+      );
       counts = subst (λ (parts : List Part). AreCounts cell parts c.enter.new.self) (sym now)
           (counts_entered cell c.requires.sound.fits parts c.args.tally.now.counts c.enter.new.self tallied.counts c.enter.ensures.length
           c.enter.ensures.capacities c.args.part c.mask.result c.mask.ensures c.enter.ensures.counts);
-      work = omega (arith, tallied.work, c.work_of.ensures, work_entered cell c.requires.sound.fits parts c.args.part,
-          ap (λ (parts : List Part). work cell parts) now);
+      work = omega (
+        arith,
+        tallied.work,
+        c.work_of.ensures,
+        work_entered cell c.requires.sound.fits parts c.args.part,
+        ap (λ (parts : List Part). work cell parts) now,
+      );
     }

@@ -21,15 +21,15 @@ loop-r-preserved c k d early within =
     let none : ResId = record { 0 = 0 } in
     let r : ResId = get_or c.args.ranks.now c.loop-r.r-index none in
     let nobody : find (λ part. place_of table part == r.0) parts ≡ None =
-        on_found table r c.args.tally.now.parts.items c.requires.sound.tallied.on ∙ sym c.first_on.ensures
-        ∙ none_left c.first_on.result c.in_default.not-Some in
+    on_found table r c.args.tally.now.parts.items c.requires.sound.tallied.on ∙ sym c.first_on.ensures
+    ∙ none_left c.first_on.result c.in_default.not-Some in
     ⊎_elim
     (λ (h : k < c.loop-r.r-index). c.loop-r.invariant k d h within)
     (λ (h : c.loop-r.r-index ≤ k).
-      let at : k ≡ c.loop-r.r-index = omega arith in
-      ap (λ (q : ResId). find (λ part. place_of table part == q.0) parts)
-      (get_or_default c.args.ranks.now k d none within ∙ ap (λ k. get_or c.args.ranks.now k none) at)
-      ∙ nobody)
+    let at : k ≡ c.loop-r.r-index = omega arith in
+    ap (λ (q : ResId). find (λ part. place_of table part == q.0) parts)
+    (get_or_default c.args.ranks.now k d none within ∙ ap (λ k. get_or c.args.ranks.now k none) at)
+    ∙ nobody)
     (cases_lt k c.loop-r.r-index)
 
 pub step_of-requires : goal.step_of-requires

@@ -32,9 +32,9 @@ returns-in-Some c =
     let parts = parts_of c.args.tally.now.parts.items in
     let r = c.in-Some.at.0 in
     let full : first_full c.args.tally.now.counts c.args.mask ≡ Some r =
-        some_resource (first_full c.args.tally.now.counts c.args.mask) c.in-Some.at (sym c.in-Some.is ∙ c.first_full.ensures) in
+    some_resource (first_full c.args.tally.now.counts c.args.mask) c.in-Some.at (sym c.in-Some.is ∙ c.first_full.ensures) in
     let within : r < length cell.resources =
-        omega (arith, full_within c.args.tally.now.counts c.args.mask r full, c.requires.sound.tallied.counts.complete) in
+    omega (arith, full_within c.args.tally.now.counts c.args.mask r full, c.requires.sound.tallied.counts.complete) in
     ap₂ (λ held units. Refused (Saturated c.in-Some.at held units)) (c.count.ensures.count ∙ c.requires.sound.tallied.counts.each r within)
     (c.capacity_of.ensures ∙ ap (λ cell. capacity_of cell r) c.cell.ensures.value)
     ∙ ap (reply_at cell parts) (sym full)

@@ -13,8 +13,8 @@ use Rattle.admission_core.proofs.replies.reply_to_entry.Goals as goal
 pub returns-in-Some : goal.returns-in-Some
 returns-in-Some c =
     let known =
-        part_known c.args.table.now (parts_of c.args.tally.now.parts.items) c.args.part.job c.in-Some.field-0 c.requires.sound.admitted
-        (sym c.get.ensures.part ∙ c.in-Some.is) in
+    part_known c.args.table.now (parts_of c.args.tally.now.parts.items) c.args.part.job c.in-Some.field-0 c.requires.sound.admitted
+    (sym c.get.ensures.part ∙ c.in-Some.is) in
     rw known.loaded refl
 
 pub reply_at-requires-clause-mask : goal.reply_at-requires-clause-mask
