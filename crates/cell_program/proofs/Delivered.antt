@@ -1,5 +1,5 @@
 -- Lines that a sink takes in turn, and fails to take one of.
-use Rattle.std.proofs.Common.{◌≡◌, ℕ, ◌+◌, ◌<◌, ◌≤◌, arith, List, [], ◌∷◌, ◌++◌, length, map, take, drop, get_or, Option, subst, sym, ap, ◌∙◌, add-one, append_assoc, append-nil, drop-cons, refl}
+use Rattle.std.proofs.Common.{◌≡◌, ℕ, ◌+◌, ◌<◌, ◌≤◌, arith, List, [], ◌∷◌, ◌++◌, length, map, drop, get_or, Option, subst, sym, ap, ◌∙◌, add-one, append_assoc, append-nil, drop-cons, refl}
 use Rattle.std.proofs.lemmas.List.{map-append}
 use Rattle.outside_io.specs.Puts.{SinkTold, sink_told, TookAll, TookSome}
 use Rattle.outside_io.specs.PutLaws.{took_none, took_more, failed_before, failed_behind}

@@ -1,5 +1,5 @@
 -- What an end of a command tells, by its status.
-use Rattle.std.specs.Prelude.{◌≡◌, ◌⊎◌, ℕ, List, [], ◌∷◌, Option, Some, None, IsSomeAnd, Ok, Err, ⊤}
+use Rattle.std.specs.Prelude.{◌≡◌, ◌⊎◌, ℕ, List, [], ◌∷◌, IsSomeAnd, Ok, Err}
 use Rattle.outside_io.specs.Causes.{Rose}
 use Rattle.outside_io.specs.Puts.{TookAll}
 use Rattle.cell_base.specs.declared.cells.Cell.{Cell}
