@@ -1,15 +1,14 @@
 -- The first full neighborhood of a mask is the first that would hold too many parts.
-use Rattle.std.proofs.Common.{◌≡◌, ℕ, ◌+◌, ◌^◌, ◌<◌, ◌≤◌, ap₂, refl, Bool, true, false, cond, ◌&&◌, nat_lt, nat_le, max, List, [], ◌∷◌, ◌++◌, length, All, Contains, Option, find, get_or, ap, sym, ◌∙◌, ⊎_elim, arith}
+use Rattle.std.proofs.Common.{◌≡◌, ℕ, ◌+◌, ◌<◌, ◌≤◌, ap₂, refl, Bool, true, false, cond, ◌&&◌, nat_lt, nat_le, max, List, [], ◌∷◌, ◌++◌, length, Contains, find, get_or, ap, sym, ◌∙◌, ⊎_elim, arith}
 use Rattle.std.specs.List.{range_with_len}
 use Rattle.std.specs.Int.{bit_at}
-use Rattle.std.proofs.lemmas.Bool.{cases_lt, lt-ltb, le-ltb, le-leb, lt-leb, eqb-true, eq-eqb, both_ways}
-use Rattle.std.proofs.lemmas.Nat.Bits.{bit_at-lt}
+use Rattle.std.proofs.lemmas.Bool.{cases_lt, lt-ltb, le-ltb, le-leb, lt-leb}
 use Rattle.cell_base.specs.declared.cells.Cell.{Cell}
 use Rattle.cell_base.specs.declared.requests.Part.{Part}
 use Rattle.cell_base.specs.Masks.{has_bit, bits_only_of}
 use Rattle.cell_base.specs.Stages.{Stage, stage_of, capacity_of}
-use Rattle.cell_base.specs.Neighborhoods.{leads, mask_of, count}
-use Rattle.cell_base.specs.Policy.{IsAdmitted, HaveDistinctJobs, first_over}
+use Rattle.cell_base.specs.Neighborhoods.{mask_of, count}
+use Rattle.cell_base.specs.Policy.{HaveDistinctJobs, first_over}
 use Rattle.cell_base.specs.Outcomes.{without}
 use Rattle.cell_base.specs.Fits.{CellFits}
 use Rattle.cell_base.proofs.Admission.{all_numbers}
@@ -84,7 +83,7 @@ module _ (cell : Cell) (fits : CellFits cell) (held : Counted) (parts : List Par
   only_none : (t s : Stage) (r : ℕ) → has_bit (bits_only_of (mask_of cell t) (mask_of cell s)) r ≡ false → share cell r t ≤ share cell r s
   only_none t s r e =
       let none : bit_at (bits_only_of (mask_of cell t) (mask_of cell s)) r ≡ 0 =
-          bit_at-number (bits_only_of (mask_of cell t) (mask_of cell s)) r ∙ ap (λ b. cond {A = ℕ} b 1 0) e in
+      bit_at-number (bits_only_of (mask_of cell t) (mask_of cell s)) r ∙ ap (λ b. cond {A = ℕ} b 1 0) e in
       omega (arith, none, only_sum t s r)
 
   pub only_is_of : (t s : Stage) → IsMaskOf held (bits_only_of (mask_of cell t) (mask_of cell s))
@@ -112,8 +111,12 @@ module _ (cell : Cell) (fits : CellFits cell) (held : Counted) (parts : List Par
 
     pub mask_held : AreHeld held (mask_of cell (stage_of part))
     mask_held r e =
-        omega (arith, are.each r (leads-resource cell fits r (stage_of part) (sym (mask_law cell fits (stage_of part) r) ∙ e)), counted_once r,
-        bit_one (stage_of part) r e)
+        omega (
+          arith,
+          are.each r (leads-resource cell fits r (stage_of part) (sym (mask_law cell fits (stage_of part) r) ∙ e)),
+          counted_once r,
+          bit_one (stage_of part) r e,
+        )
 
     pub only_held : AreHeld held (bits_only_of (mask_of cell (stage_of part)) (mask_of cell (stage_of next)))
     only_held r e = mask_held r

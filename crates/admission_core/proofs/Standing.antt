@@ -1,15 +1,15 @@
 -- Parts with the resources on which they stand: what is found among them, and the one that is finished.
-use Rattle.std.proofs.Common.{◌≡◌, ◌≢◌, ℕ, ◌==◌, Bool, true, false, not, ◌&&◌, cond, List, [], ◌∷◌, ◌++◌, length, map, arith, All, Contains, Option, Some, None, find, ap, ap₂, refl, sym, ◌∙◌, subst}
+use Rattle.std.proofs.Common.{◌≡◌, ◌≢◌, ◌==◌, Bool, true, false, not, ◌&&◌, cond, List, [], ◌∷◌, ◌++◌, map, arith, All, Some, find, ap, ap₂, refl, sym, ◌∙◌, subst}
 use Rattle.std.specs.Option.{option_map}
 use Rattle.std.proofs.lemmas.Option.{none-some, same_Some}
 use Rattle.std.proofs.lemmas.List.{length-map, get_or-map, map-append}
-use Rattle.std.proofs.lemmas.List.Elements.{All-cons, All-head, All-tail, All-weaker, All-contains, All-push, All-filter, All-map}
+use Rattle.std.proofs.lemmas.List.Elements.{All-head, All-tail, All-weaker, All-contains, All-push, All-filter, All-map}
 use Rattle.cell_base.specs.declared.cells.Cell.{Cell}
 use Rattle.cell_base.specs.declared.cells.ResId.{ResId}
 use Rattle.cell_base.specs.declared.requests.JobId.{JobId}
 use Rattle.cell_base.specs.declared.requests.Part.{Part}
 use Rattle.cell_base.specs.Stages.{stage_of, resource_at}
-use Rattle.cell_base.specs.Policy.{is_of_job, HaveDistinctJobs}
+use Rattle.cell_base.specs.Policy.{HaveDistinctJobs}
 use Rattle.cell_base.specs.Outcomes.{is_waiting_on, finish_first}
 use Rattle.cell_base.specs.Plans.{place_of}
 use Rattle.policy_laws.proofs.Lists.{find_agree, find-Contains}
@@ -63,7 +63,7 @@ module _ (cell : Cell) where
   finished_found on (item ∷ items) found are distinct e =
       at (is_waiting on item) (waits_same on item (All-head (λ (item : Standing). item.on.0 ≡ resource_at cell (stage_of item.part)) item items are)) e
       (λ f. finished_found on items found (All-tail (λ (item : Standing). item.on.0 ≡ resource_at cell (stage_of item.part)) item items are)
-        (distinct_behind item.part (parts_of items) distinct) f)
+      (distinct_behind item.part (parts_of items) distinct) f)
     where
       others : All (λ (other : Part). item.part.job ≢ other.job) (parts_of items)
       others = others_behind item.part (parts_of items) distinct
@@ -79,7 +79,7 @@ module _ (cell : Cell) where
           (ap (λ (xs : List Standing). (record item.part { done = true }) ∷ parts_of xs) (finished_others items item.part.job others)))
       at false waits f later =
           let other : IsOther found.part.job item.part =
-              λ same. All-contains (λ (x : Standing). item.part.job ≢ x.part.job) items found (All-unmap (λ (other : Part). item.part.job ≢ other.job) (λ (x : Standing). x.part) items others) (find-Contains (is_waiting on) items found f) (sym same) in
+          λ same. All-contains (λ (x : Standing). item.part.job ≢ x.part.job) items found (All-unmap (λ (other : Part). item.part.job ≢ other.job) (λ (x : Standing). x.part) items others) (find-Contains (is_waiting on) items found f) (sym same) in
           rw waits
           (ap₂ (λ (x : Standing) (ps : List Part). x.part ∷ ps) (finish_no found.part.job item (is_of_job-other found.part.job item.part other)) (later f))
 

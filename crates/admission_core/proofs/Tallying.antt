@@ -1,6 +1,5 @@
 -- The numbers that run along with the parts, after each change.
 use Rattle.std.proofs.Common.{◌≡◌, ℕ, ◌+◌, ◌*◌, ◌<◌, ◌≤◌, Bool, true, false, cond, List, [], ◌∷◌, ◌++◌, length, All, Contains, find, get_or, Some, ap, sym, ◌∙◌, arith}
-use Rattle.std.specs.List.{sum_by}
 use Rattle.std.specs.Int.{bit_at}
 use Rattle.std.proofs.lemmas.List.Elements.{All-weaker}
 use Rattle.std.proofs.lemmas.List.Sums.{sum_by_push, sum_by-le}
@@ -15,7 +14,7 @@ use Rattle.cell_base.specs.Plans.{work_of, work}
 use Rattle.cell_base.specs.Fits.{CellFits}
 use Rattle.policy_laws.proofs.Masks.{bit_at-mask_of}
 use Rattle.policy_laws.proofs.Parts.{sum_by-without, sum_by-finish_first}
-use Rattle.policy_laws.proofs.States.{share, count_push, count-without, count-finish_first}
+use Rattle.policy_laws.proofs.States.{count_push, count-without, count-finish_first}
 use Rattle.policy_laws.proofs.Work.{work_of-finished}
 use Rattle.policy_laws.proofs.Walks.{work_from-few}
 use Rattle.neighborhood_counts.specs.Counts.{Counted}
@@ -42,16 +41,30 @@ module _ (cell : Cell) (fits : CellFits cell) (parts : List Part) where
       pub counts_left : (mask : ℕ) → mask ≡ mask_of cell (stage_of part)
           → ((r : ℕ) → get_or next.counts r 0 + bit_at mask r ≡ get_or held.counts r 0) → AreCounts cell (without parts part.job) next
       counts_left mask is less = counts_with (without parts part.job) (λ r h.
-          omega (arith, less r, are.each r h, ap (λ m. bit_at m r) is, bit_at-mask_of cell fits (stage_of part) r,
-          count-without cell parts part r distinct stands))
+          omega (
+            arith,
+            less r,
+            are.each r h,
+            ap (λ m. bit_at m r) is,
+            bit_at-mask_of cell fits (stage_of part) r,
+            count-without cell parts part r distinct stands,
+          ))
 
       pub counts_moved : (new : Part) (from to : ℕ) → from ≡ mask_of cell (stage_of part) → to ≡ mask_of cell (stage_of new)
           → ((r : ℕ) → get_or next.counts r 0 + bit_at from r ≡ get_or held.counts r 0 + bit_at to r)
           → AreCounts cell (without parts part.job ++ new ∷ []) next
       counts_moved new from to is goes shifted = counts_with (without parts part.job ++ new ∷ []) (λ r h.
-          omega (arith, shifted r, are.each r h, ap (λ m. bit_at m r) is, ap (λ m. bit_at m r) goes,
-          bit_at-mask_of cell fits (stage_of part) r, bit_at-mask_of cell fits (stage_of new) r,
-          count-without cell parts part r distinct stands, count_push cell (without parts part.job) new r))
+          omega (
+            arith,
+            shifted r,
+            are.each r h,
+            ap (λ m. bit_at m r) is,
+            ap (λ m. bit_at m r) goes,
+            bit_at-mask_of cell fits (stage_of part) r,
+            bit_at-mask_of cell fits (stage_of new) r,
+            count-without cell parts part r distinct stands,
+            count_push cell (without parts part.job) new r,
+          ))
 
   pub counts_finished : (held : Counted) (test : Part → Bool) → AreCounts cell parts held → AreCounts cell (finish_first test parts) held
   counts_finished held test are = record {
@@ -83,5 +96,8 @@ module _ (cell : Cell) (fits : CellFits cell) (parts : List Part) where
 
   pub work-le : All (λ part. IsStage cell (stage_of part)) parts → length parts ≤ MAX_UNITS → work cell parts ≤ MAX_UNITS * 129
   work-le standing few =
-      omega (arith, sum_by-le (work_of cell) 129 parts
-      (All-weaker (λ part. IsStage cell (stage_of part)) (λ part. work_of cell part ≤ 129) work_of-le parts standing))
+      omega (
+        arith,
+        sum_by-le (work_of cell) 129 parts
+            (All-weaker (λ part. IsStage cell (stage_of part)) (λ part. work_of cell part ≤ 129) work_of-le parts standing),
+      )

@@ -98,7 +98,9 @@ fn put_on(table: &LeadTable, tally: &mut Tally, part: Part, next: Part)
     ensures tallied { IsTallied table.now tally.new }
 {
     tally.counts.shift(table.mask(part), table.mask(next));
-    tally.parts.advance(part.job, next.place, next.done, table.resource_at(next));
+    tally
+        .parts
+        .advance(part.job, next.place, next.done, table.resource_at(next));
     tally.work = tally.work - table.work_of(part) + table.work_of(next);
 }
 

@@ -1,5 +1,5 @@
 -- No part is counted, and there is room for as many as there are units.
-use Rattle.std.proofs.Common.{◌≡◌, ℕ, ◌<◌, ◌≤◌, List, [], length, map, All, get_or, take, Option, Some, None, slice_get, refl, ap, subst, sym, ◌∙◌, arith}
+use Rattle.std.proofs.Common.{◌≡◌, ℕ, ◌<◌, List, [], length, map, get_or, ap, subst, sym, ◌∙◌, arith}
 use Rattle.std.specs.Option.{option_map_or}
 use Rattle.std.proofs.lemmas.List.{length-map, get_or-map, take_all}
 use Rattle.std.proofs.lemmas.List.Elements.{All-nil}
@@ -24,10 +24,10 @@ pub returns-clause-tallied : goal.returns-clause-tallied
 returns-clause-tallied c =
     let cell = c.args.cell.now in
     let all : c.loop-resource.capacities ≡ map (λ (r : Resource). r.capacity) cell.resources =
-        c.loop-resource.invariant ∙ ap (map (λ (r : Resource). r.capacity)) (take_all c.loop-resource.resource-index cell.resources
-        (omega (arith, ap length c.as_slice-resource-items.ensures))) in
+    c.loop-resource.invariant ∙ ap (map (λ (r : Resource). r.capacity)) (take_all c.loop-resource.resource-index cell.resources
+    (omega (arith, ap length c.as_slice-resource-items.ensures))) in
     let complete : length c.in_ok-counts.counts.counts ≡ length cell.resources =
-        c.in_ok-counts.ensures.length ∙ ap length all ∙ length-map cell.resources (λ (r : Resource). r.capacity) in
+    c.in_ok-counts.ensures.length ∙ ap length all ∙ length-map cell.resources (λ (r : Resource). r.capacity) in
     let none = c.in_ok-parts.ensures.empty in
     record {
       on = subst (AreOn cell) (sym none) (All-nil (λ (item : Standing). item.on.0 ≡ resource_at cell (stage_of item.part)));

@@ -1,10 +1,9 @@
 -- A part that is granted to enter has room, and every number goes along with it.
-use Rattle.std.proofs.Common.{◌≡◌, ℕ, ◌+◌, ◌<◌, ◌≤◌, None, List, [], ◌∷◌, ◌++◌, length, ap, subst, sym, ◌∙◌, arith}
+use Rattle.std.proofs.Common.{◌≡◌, List, [], ◌∷◌, ◌++◌, length, ap, subst, sym, ◌∙◌, arith}
 use Rattle.std.proofs.lemmas.List.{length-map, length_push}
 use Rattle.cell_base.specs.declared.requests.Part.{Part}
 use Rattle.cell_base.specs.Stages.{stage_of}
 use Rattle.cell_base.specs.Plans.{work}
-use Rattle.cell_base.specs.Fits.{units_of}
 use Rattle.neighborhood_counts.specs.Counts.{IsMaskOf, first_full}
 use Rattle.part_table.specs.declared.standing.Standing.{Standing}
 use Rattle.part_table.specs.Parts.{parts_of}
@@ -66,16 +65,26 @@ returns-clause-tallied c =
     let parts = parts_of items in
     let tallied = c.requires.sound.tallied in
     let now : parts_of c.arrive.new.self.items ≡ parts ++ c.args.part ∷ [] =
-        ap (λ (items : List Standing). parts_of items) c.arrive.ensures.items ∙ parts_of-push items c.args.part c.resource_at.result in
+    ap (λ (items : List Standing). parts_of items) c.arrive.ensures.items ∙ parts_of-push items c.args.part c.resource_at.result in
     record {
       on = subst (AreOn cell) (sym c.arrive.ensures.items)
           (AreOn-push cell items c.args.part c.resource_at.result tallied.on c.resource_at.ensures.value);
       resources = c.arrive.ensures.resources ∙ tallied.resources;
-      enough = omega (arith, tallied.enough, c.arrive.ensures.spare, ap length c.arrive.ensures.items,
-          length_push items (record { part = c.args.part; on = c.resource_at.result }));
+      enough = omega (
+        arith,
+        tallied.enough,
+        c.arrive.ensures.spare,
+        ap length c.arrive.ensures.items,
+        length_push items (record { part = c.args.part; on = c.resource_at.result }),
+      );
       counts = subst (λ (parts : List Part). AreCounts cell parts c.enter.new.self) (sym now)
           (counts_entered cell c.requires.sound.fits parts c.args.tally.now.counts c.enter.new.self tallied.counts c.enter.ensures.length
           c.enter.ensures.capacities c.args.part c.mask.result c.mask.ensures c.enter.ensures.counts);
-      work = omega (arith, tallied.work, c.work_of.ensures, work_entered cell c.requires.sound.fits parts c.args.part,
-          ap (λ (parts : List Part). work cell parts) now);
+      work = omega (
+        arith,
+        tallied.work,
+        c.work_of.ensures,
+        work_entered cell c.requires.sound.fits parts c.args.part,
+        ap (λ (parts : List Part). work cell parts) now,
+      );
     }

@@ -1,12 +1,11 @@
 -- The first part that waits is done, and needs one step less.
-use Rattle.std.proofs.Common.{◌≡◌, ◌+◌, ◌-◌, ◌≤◌, true, false, not, ◌&&◌, ◌==◌, Some, None, find, List, length, ap, subst, sym, ◌∙◌, arith}
+use Rattle.std.proofs.Common.{◌≡◌, ◌+◌, false, not, ◌==◌, Some, find, List, length, ap, subst, sym, ◌∙◌, arith}
 use Rattle.std.specs.Option.{option_map}
 use Rattle.std.proofs.lemmas.Bool.{and_parts, not-true}
 use Rattle.std.proofs.lemmas.List.{length-map}
-use Rattle.cell_base.specs.declared.requests.JobId.{JobId}
 use Rattle.cell_base.specs.declared.requests.Part.{Part}
 use Rattle.cell_base.specs.Stages.{stage_of, resource_at}
-use Rattle.cell_base.specs.Policy.{is_of_job, is_loaded}
+use Rattle.cell_base.specs.Policy.{is_of_job}
 use Rattle.cell_base.specs.Outcomes.{is_waiting_on, finish_first}
 use Rattle.cell_base.specs.Plans.{work}
 use Rattle.policy_laws.proofs.Lists.{find-Contains, find_passes, list_any-Contains}
@@ -26,7 +25,7 @@ finish-requires c =
     let items = c.args.tally.now.parts.items in
     let some = some_waiting (find (is_waiting c.args.machine) items) c.in-Some.job (sym c.in-Some.is ∙ c.first_waiting.ensures) in
     let waits : find (is_waiting_on cell c.args.machine.0) (parts_of items) ≡ Some some.0.part =
-        waiting_found cell c.args.machine items c.requires.sound.tallied.on ∙ ap (option_map (λ (item : Standing). item.part)) some.1 in
+    waiting_found cell c.args.machine items c.requires.sound.tallied.on ∙ ap (option_map (λ (item : Standing). item.part)) some.1 in
     list_any-Contains (is_of_job c.in-Some.job) (parts_of items) some.0.part
     (find-Contains (is_waiting_on cell c.args.machine.0) (parts_of items) some.0.part waits) (is_of_job-same c.in-Some.job some.0.part (sym some.2))
 
@@ -48,10 +47,10 @@ less c =
     let tallied = c.requires.sound.tallied in
     let some = some_waiting (find (is_waiting c.args.machine) items) c.in-Some.job (sym c.in-Some.is ∙ c.first_waiting.ensures) in
     let waits : find (is_waiting_on cell c.args.machine.0) (parts_of items) ≡ Some some.0.part =
-        waiting_found cell c.args.machine items tallied.on ∙ ap (option_map (λ (item : Standing). item.part)) some.1 in
+    waiting_found cell c.args.machine items tallied.on ∙ ap (option_map (λ (item : Standing). item.part)) some.1 in
     let undone : some.0.part.done ≡ false =
-        not-true _ (and_parts (not some.0.part.done) (resource_at cell (stage_of some.0.part) == c.args.machine.0)
-        (find_passes (is_waiting_on cell c.args.machine.0) (parts_of items) some.0.part waits)).0 in
+    not-true _ (and_parts (not some.0.part.done) (resource_at cell (stage_of some.0.part) == c.args.machine.0)
+    (find_passes (is_waiting_on cell c.args.machine.0) (parts_of items) some.0.part waits)).0 in
     ap (λ parts. work cell parts + 1) (now c)
     ∙ work_finished cell c.requires.sound.fits (parts_of items) (is_waiting_on cell c.args.machine.0) some.0.part waits undone
     ∙ sym tallied.work
@@ -63,7 +62,7 @@ overflow_sub-tally c =
     let sound = c.requires.sound in
     let some = some_waiting (find (is_waiting c.args.machine) items) c.in-Some.job (sym c.in-Some.is ∙ c.first_waiting.ensures) in
     let waits : find (is_waiting_on cell c.args.machine.0) (parts_of items) ≡ Some some.0.part =
-        waiting_found cell c.args.machine items sound.tallied.on ∙ ap (option_map (λ (item : Standing). item.part)) some.1 in
+    waiting_found cell c.args.machine items sound.tallied.on ∙ ap (option_map (λ (item : Standing). item.part)) some.1 in
     omega (
       arith,
       sound.tallied.work,
@@ -94,7 +93,7 @@ returns-in_default-clause-parts c =
     let cell = c.args.table.now in
     let items = c.args.tally.now.parts.items in
     let none = no_waiting (find (is_waiting c.args.machine) items)
-        (sym (none_left c.first_waiting.result c.in_default.not-Some) ∙ c.first_waiting.ensures) in
+    (sym (none_left c.first_waiting.result c.in_default.not-Some) ∙ c.first_waiting.ensures) in
     sym
     (finish_first-none (is_waiting_on cell c.args.machine.0) (parts_of items)
     (waiting_found cell c.args.machine items c.requires.sound.tallied.on ∙ ap (option_map (λ (item : Standing). item.part)) none))

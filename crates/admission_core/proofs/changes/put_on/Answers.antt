@@ -1,5 +1,5 @@
 -- A part that goes on is counted at its next stage in the place of its present one.
-use Rattle.std.proofs.Common.{◌≡◌, ◌+◌, ◌-◌, ◌≤◌, None, List, [], ◌∷◌, ◌++◌, length, ap, ap₂, subst, sym, ◌∙◌, arith}
+use Rattle.std.proofs.Common.{◌≡◌, List, [], ◌∷◌, ◌++◌, length, ap, ap₂, subst, sym, ◌∙◌, arith}
 use Rattle.std.proofs.lemmas.List.{length_push}
 use Rattle.cell_base.specs.declared.requests.Part.{Part}
 use Rattle.cell_base.specs.Masks.{bits_only_of}
@@ -122,15 +122,25 @@ returns-clause-tallied c =
           (AreOn-push cell (without_job items part.job) c.args.next c.resource_at.result (AreOn-without cell items part.job tallied.on)
           c.resource_at.ensures.value);
       resources = c.advance.ensures.resources ∙ tallied.resources;
-      enough = omega (arith, tallied.enough, c.advance.ensures.spare, ap length (moved c),
-          length_push (without_job items part.job) (record { part = c.args.next; on = c.resource_at.result }),
-          length_departed items part.job distinct here.loaded);
+      enough = omega (
+        arith,
+        tallied.enough,
+        c.advance.ensures.spare,
+        ap length (moved c),
+        length_push (without_job items part.job) (record { part = c.args.next; on = c.resource_at.result }),
+        length_departed items part.job distinct here.loaded,
+      );
       counts = subst (λ (parts : List Part). AreCounts cell parts c.shift.new.self) (sym (now c))
           (counts_moved cell sound.fits parts c.args.tally.now.counts c.shift.new.self tallied.counts c.shift.ensures.length
           c.shift.ensures.capacities part distinct here.stands c.args.next c.mask.result c.mask-2.result c.mask.ensures c.mask-2.ensures
           c.shift.ensures.counts);
-      work = omega (arith, tallied.work, c.work_of.ensures, c.work_of-2.ensures,
-          work_without cell sound.fits parts part distinct here.stands,
-          work_entered cell sound.fits (without parts part.job) c.args.next,
-          ap (λ (parts : List Part). work cell parts) (now c));
+      work = omega (
+        arith,
+        tallied.work,
+        c.work_of.ensures,
+        c.work_of-2.ensures,
+        work_without cell sound.fits parts part distinct here.stands,
+        work_entered cell sound.fits (without parts part.job) c.args.next,
+        ap (λ (parts : List Part). work cell parts) (now c),
+      );
     }

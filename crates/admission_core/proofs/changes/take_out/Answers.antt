@@ -1,5 +1,5 @@
 -- A part that leaves takes its numbers with it.
-use Rattle.std.proofs.Common.{◌≡◌, ◌+◌, ◌≤◌, List, length, ap, subst, sym, ◌∙◌, arith}
+use Rattle.std.proofs.Common.{◌≡◌, List, length, ap, subst, sym, ◌∙◌, arith}
 use Rattle.cell_base.specs.declared.requests.Part.{Part}
 use Rattle.cell_base.specs.Stages.{stage_of}
 use Rattle.cell_base.specs.Outcomes.{without}
@@ -68,15 +68,25 @@ returns-clause-tallied c =
     let distinct = sound.admitted.state.distinct in
     let here = part_known cell parts part.job part sound.admitted c.requires.found in
     let now : parts_of c.depart.new.self.items ≡ without parts part.job =
-        ap (λ (items : List Standing). parts_of items) c.depart.ensures.items ∙ parts_of-without items part.job in
+    ap (λ (items : List Standing). parts_of items) c.depart.ensures.items ∙ parts_of-without items part.job in
     record {
       on = subst (AreOn cell) (sym c.depart.ensures.items) (AreOn-without cell items part.job tallied.on);
       resources = c.depart.ensures.resources ∙ tallied.resources;
-      enough = omega (arith, tallied.enough, c.depart.ensures.spare, ap length c.depart.ensures.items,
-          length_departed items part.job distinct here.loaded);
+      enough = omega (
+        arith,
+        tallied.enough,
+        c.depart.ensures.spare,
+        ap length c.depart.ensures.items,
+        length_departed items part.job distinct here.loaded,
+      );
       counts = subst (λ (parts : List Part). AreCounts cell parts c.leave.new.self) (sym now)
           (counts_left cell sound.fits parts c.args.tally.now.counts c.leave.new.self tallied.counts c.leave.ensures.length
           c.leave.ensures.capacities part distinct here.stands c.mask.result c.mask.ensures c.leave.ensures.counts);
-      work = omega (arith, tallied.work, c.work_of.ensures, work_without cell sound.fits parts part distinct here.stands,
-          ap (λ (parts : List Part). work cell parts) now);
+      work = omega (
+        arith,
+        tallied.work,
+        c.work_of.ensures,
+        work_without cell sound.fits parts part distinct here.stands,
+        ap (λ (parts : List Part). work cell parts) now,
+      );
     }

@@ -1,10 +1,9 @@
 -- The first part on the first resource that is occupied is the next one.
-use Rattle.std.proofs.Common.{◌≡◌, ◌==◌, ℕ, ◌<◌, length, get_or, find, Some, None, ap, sym, ◌∙◌, ⊎_elim, ◌≤◌, arith}
+use Rattle.std.proofs.Common.{◌≡◌, ◌==◌, ◌<◌, get_or, find, Some, None, ap, sym, ◌∙◌, ⊎_elim, ◌≤◌, arith}
 use Rattle.std.specs.Option.{option_map}
 use Rattle.std.proofs.lemmas.Bool.{cases_lt}
 use Rattle.std.proofs.lemmas.List.{get_or_default}
 use Rattle.cell_base.specs.declared.cells.ResId.{ResId}
-use Rattle.cell_base.specs.declared.requests.Part.{Part}
 use Rattle.cell_base.specs.Stages.{IsStage, stage_of}
 use Rattle.cell_base.specs.Plans.{place_of, step_of}
 use Rattle.policy_laws.proofs.Lists.{All-found}
@@ -21,15 +20,15 @@ loop-r-preserved c k d early within =
     let none : ResId = record { 0 = 0 } in
     let r : ResId = get_or c.args.ranks.now c.loop-r.r-index none in
     let nobody : find (λ part. place_of table part == r.0) parts ≡ None =
-        on_found table r c.args.tally.now.parts.items c.requires.sound.tallied.on ∙ sym c.first_on.ensures
-        ∙ none_left c.first_on.result c.in_default.not-Some in
+    on_found table r c.args.tally.now.parts.items c.requires.sound.tallied.on ∙ sym c.first_on.ensures
+    ∙ none_left c.first_on.result c.in_default.not-Some in
     ⊎_elim
     (λ (h : k < c.loop-r.r-index). c.loop-r.invariant k d h within)
     (λ (h : c.loop-r.r-index ≤ k).
-      let at : k ≡ c.loop-r.r-index = omega arith in
-      ap (λ (q : ResId). find (λ part. place_of table part == q.0) parts)
-      (get_or_default c.args.ranks.now k d none within ∙ ap (λ k. get_or c.args.ranks.now k none) at)
-      ∙ nobody)
+    let at : k ≡ c.loop-r.r-index = omega arith in
+    ap (λ (q : ResId). find (λ part. place_of table part == q.0) parts)
+    (get_or_default c.args.ranks.now k d none within ∙ ap (λ k. get_or c.args.ranks.now k none) at)
+    ∙ nobody)
     (cases_lt k c.loop-r.r-index)
 
 pub step_of-requires : goal.step_of-requires

@@ -1,10 +1,9 @@
 -- A full neighborhood is that of a resource, with the count and the capacity of the cell.
-use Rattle.std.proofs.Common.{◌≡◌, ◌<◌, length, Some, ap, ap₂, sym, ◌∙◌, subst, arith}
+use Rattle.std.proofs.Common.{◌≡◌, ◌<◌, length, Some, ap, ap₂, sym, ◌∙◌, arith}
 use Rattle.cell_base.specs.declared.cells.Cell.{Cell}
 use Rattle.cell_base.specs.declared.requests.Refusal.TheVariants.{Saturated}
 use Rattle.cell_base.specs.declared.requests.Reply.TheVariants.{Refused}
 use Rattle.cell_base.specs.Stages.{capacity_of}
-use Rattle.cell_base.specs.Neighborhoods.{count}
 use Rattle.neighborhood_counts.specs.Counts.{first_full}
 use Rattle.part_table.specs.Parts.{parts_of}
 use Rattle.admission_core.specs.Replies.{reply_at}
@@ -32,9 +31,9 @@ returns-in-Some c =
     let parts = parts_of c.args.tally.now.parts.items in
     let r = c.in-Some.at.0 in
     let full : first_full c.args.tally.now.counts c.args.mask ≡ Some r =
-        some_resource (first_full c.args.tally.now.counts c.args.mask) c.in-Some.at (sym c.in-Some.is ∙ c.first_full.ensures) in
+    some_resource (first_full c.args.tally.now.counts c.args.mask) c.in-Some.at (sym c.in-Some.is ∙ c.first_full.ensures) in
     let within : r < length cell.resources =
-        omega (arith, full_within c.args.tally.now.counts c.args.mask r full, c.requires.sound.tallied.counts.complete) in
+    omega (arith, full_within c.args.tally.now.counts c.args.mask r full, c.requires.sound.tallied.counts.complete) in
     ap₂ (λ held units. Refused (Saturated c.in-Some.at held units)) (c.count.ensures.count ∙ c.requires.sound.tallied.counts.each r within)
     (c.capacity_of.ensures ∙ ap (λ cell. capacity_of cell r) c.cell.ensures.value)
     ∙ ap (reply_at cell parts) (sym full)

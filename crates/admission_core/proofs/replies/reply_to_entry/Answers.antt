@@ -1,8 +1,7 @@
 -- A job that is not there, and the neighborhoods of the new part's mask.
-use Rattle.std.proofs.Common.{◌≡◌, true, false, refl, None, Some, ◌++◌, ◌∷◌, [], ap, sym, ◌∙◌, subst}
+use Rattle.std.proofs.Common.{◌≡◌, false, refl, ◌++◌, ◌∷◌, [], ap, sym, ◌∙◌, subst}
 use Rattle.cell_base.specs.Policy.{is_loaded}
 use Rattle.cell_base.specs.Stages.{stage_of}
-use Rattle.cell_base.specs.Outcomes.{part_of, admit}
 use Rattle.neighborhood_counts.specs.Counts.{IsMaskOf, first_full}
 use Rattle.part_table.specs.Parts.{parts_of}
 use Rattle.admission_core.specs.Replies.{reply_at}
@@ -13,8 +12,8 @@ use Rattle.admission_core.proofs.replies.reply_to_entry.Goals as goal
 pub returns-in-Some : goal.returns-in-Some
 returns-in-Some c =
     let known =
-        part_known c.args.table.now (parts_of c.args.tally.now.parts.items) c.args.part.job c.in-Some.field-0 c.requires.sound.admitted
-        (sym c.get.ensures.part ∙ c.in-Some.is) in
+    part_known c.args.table.now (parts_of c.args.tally.now.parts.items) c.args.part.job c.in-Some.field-0 c.requires.sound.admitted
+    (sym c.get.ensures.part ∙ c.in-Some.is) in
     rw known.loaded refl
 
 pub reply_at-requires-clause-mask : goal.reply_at-requires-clause-mask
