@@ -50,8 +50,7 @@ module _ (cell : Cell) (fits : CellFits cell) where
   resource_is_line r within =
       whole
       (codes "resource" ∷ resource_name cell r ∷ codes "capacity" ∷ decimal (capacity_of cell r) ∷ codes "order" ∷ decimal (order_of cell r)
-      ∷ [])
-      (
+      ∷ []) (
         key (codes "resource") refl,
         (
           plain_name _ (resource_named cell fits r within),
@@ -64,8 +63,7 @@ module _ (cell : Cell) (fits : CellFits cell) where
 
   stage_is_line : (s : Stage) → IsStage cell s → IsLine (stage_line cell s)
   stage_is_line s standing =
-      whole (codes "stage" ∷ type_name cell s.kind ∷ decimal s.place ∷ [])
-      (
+      whole (codes "stage" ∷ type_name cell s.kind ∷ decimal s.place ∷ []) (
         key (codes "stage") refl,
         (
           plain_name _ (type_named cell fits s.kind (kind_within cell s standing)),

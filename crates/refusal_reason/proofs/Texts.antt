@@ -91,9 +91,9 @@ module _ (text line rest : List ℕ) (is : IsLine line) (made : text ≡ line ++
       ⊎_elim
       (λ (h : at < length is.words). absurd (both_ways _ (none_before at h) first.1))
       (λ (h : length is.words ≤ at). ⊎_elim
-        (λ (g : length is.words < at). absurd (both_ways _ (first.2 (length is.words) g) newline_here))
-        (λ (g : at ≤ length is.words). omega arith)
-        (cases_lt (length is.words) at))
+      (λ (g : length is.words < at). absurd (both_ways _ (first.2 (length is.words) g) newline_here))
+      (λ (g : at ≤ length is.words). omega arith)
+      (cases_lt (length is.words) at))
       (cases_lt at (length is.words))
 
   pub newline_somewhere : position is_newline text ≡ None → ⊥

@@ -35,13 +35,13 @@ returns c =
     let lines : List ℕ = concat (stage_lines cell (neighborhood cell r)) in
     on_ok_weaker c.push_stages.result
     (λ (e : c.push_stages.new.text ≡ c.try_append.new.self ++ concat (lines_of c.table.result.now c.as_slice.result.now)).
-      e
-      ∙ ap (λ (text : List ℕ). text ++ concat (lines_of c.table.result.now c.as_slice.result.now))
-      (c.in_ok-try_append.ensures.ok ∙ ap (λ (bytes : List ℕ). c.args.text.now ++ bytes) (c.bytes.ensures.value ∙ c.resource_line.ensures
-      ∙ ap (λ cell. resource_line cell r) c.cell.ensures.cell))
-      ∙ ap (λ cell. (c.args.text.now ++ line) ++ concat (lines_of cell c.as_slice.result.now)) c.table.ensures
-      ∙ ap (λ (stages : List StageNo). (c.args.text.now ++ line) ++ concat (lines_of cell stages))
-      (c.as_slice.ensures ∙ c.in_ok-members.ensures cell c.cell.ensures.fits c.upstream.ensures)
-      ∙ ap (λ lines. (c.args.text.now ++ line) ++ concat lines) (members_lines cell r)
-      ∙ append_assoc c.args.text.now line lines)
+    e
+    ∙ ap (λ (text : List ℕ). text ++ concat (lines_of c.table.result.now c.as_slice.result.now))
+    (c.in_ok-try_append.ensures.ok ∙ ap (λ (bytes : List ℕ). c.args.text.now ++ bytes) (c.bytes.ensures.value ∙ c.resource_line.ensures
+    ∙ ap (λ cell. resource_line cell r) c.cell.ensures.cell))
+    ∙ ap (λ cell. (c.args.text.now ++ line) ++ concat (lines_of cell c.as_slice.result.now)) c.table.ensures
+    ∙ ap (λ (stages : List StageNo). (c.args.text.now ++ line) ++ concat (lines_of cell stages))
+    (c.as_slice.ensures ∙ c.in_ok-members.ensures cell c.cell.ensures.fits c.upstream.ensures)
+    ∙ ap (λ lines. (c.args.text.now ++ line) ++ concat lines) (members_lines cell r)
+    ∙ append_assoc c.args.text.now line lines)
     c.push_stages.ensures
