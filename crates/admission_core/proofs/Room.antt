@@ -8,7 +8,6 @@ use Rattle.cell_base.specs.Stages.{IsStage, stage_of}
 use Rattle.cell_base.specs.Policy.{first_over, IsAdmitted}
 use Rattle.cell_base.specs.Outcomes.{without}
 use Rattle.cell_base.specs.Fits.{CellFits, units_of}
-use Rattle.admission_core.specs.CoreState.{IsSound}
 use Rattle.policy_laws.proofs.Parts.{without-others}
 use Rattle.policy_laws.proofs.States.{IsState-push, IsState-without, within-first_over}
 use Rattle.policy_laws.proofs.Units.{units_law}
@@ -34,5 +33,5 @@ room_for cell fits parts part admitted at none =
       units_law cell fits (without parts part.job ++ part ∷ []) (arrives-admitted cell parts part admitted at none),
     )
 
-pub few_parts : (cell : Cell) (parts : List Part) (room : ℕ) → IsSound cell parts room → length parts ≤ MAX_UNITS
-few_parts cell parts room sound = omega (arith, units_law cell sound.fits parts sound.admitted, sound.fits.units)
+pub few_parts : (cell : Cell) → CellFits cell → (parts : List Part) → IsAdmitted cell parts → length parts ≤ MAX_UNITS
+few_parts cell fits parts admitted = omega (arith, units_law cell fits parts admitted, fits.units)

@@ -1,33 +1,31 @@
 //! The changes of granted requests.
-ghost use Rattle.std.specs.Prelude.{◌≡◌, ◌≤◌};
-ghost use Rattle.std.specs.Vec.{vec_capacity};
+ghost use Rattle.std.specs.Prelude.{◌≡◌, ◌++◌, ◌∷◌, [], Some, None};
+ghost use Rattle.cell_base.specs.declared.requests.Request.TheVariants.{Process};
 ghost use Rattle.cell_base.specs.declared.requests.Reply.TheVariants.{Granted};
 ghost use Rattle.cell_base.specs.Stages.{IsStage, stage_of};
-ghost use Rattle.cell_base.specs.Outcomes.{part_of, outcome_of_entry, outcome_of_move, reply_to, state_after};
-ghost use Rattle.cell_base.specs.Fits.{RequestFits, units_of};
-ghost use Rattle.admission_core.specs.CoreState.{IsSound};
+ghost use Rattle.cell_base.specs.Policy.{first_over};
+ghost use Rattle.cell_base.specs.Outcomes.{part_of, without, finish_first, is_waiting_on, outcome_of_entry, outcome_of_move, reply_to, state_after};
+ghost use Rattle.cell_base.specs.Fits.{RequestFits};
+ghost use Rattle.part_table.specs.Parts.{parts_of};
+ghost use Rattle.admission_core.specs.CoreState.{IsSound, IsTallied};
 
 use crate::lead_table::LeadTable;
-use crate::parts::{finish_first_on, part_of, take_out};
-use cell_base::{JobId, Part, Request};
+use crate::tally::Tally;
+use cell_base::{JobId, Part, Request, ResId};
 
 /// The change of a granted request.
-pub fn apply(table: &LeadTable, parts: &mut Vec<Part>, request: &Request)
-    requires sound { IsSound table.now parts.old.items (vec_capacity parts.old) }
+pub fn apply(table: &LeadTable, tally: &mut Tally, request: &Request)
+    requires sound { IsSound table.now tally.old }
     requires request { RequestFits table.now request.now }
-    requires granted { reply_to table.now parts.old.items request.now ≡ Granted }
-    ensures parts { parts.new.items ≡ state_after table.now parts.old.items request.now }
-    ensures room { units_of table.now.resources ≤ vec_capacity parts.new }
+    requires granted { reply_to table.now (parts_of tally.old.parts.items) request.now ≡ Granted }
+    ensures parts { parts_of tally.new.parts.items ≡ state_after table.now (parts_of tally.old.parts.items) request.now }
+    ensures tallied { IsTallied table.now tally.new }
 {
     match *request {
-        Request::Load { job, kind } => enter(table, parts, table.entry(job, kind)),
-        Request::Process { machine } => finish_first_on(
-            table.cell(),
-            parts.as_mut_slice(),
-            machine,
-        ),
-        Request::Move { job, branch } => go_on(table, parts, job, branch),
-        Request::Unload { job } => take_out(parts, job),
+        Request::Load { job, kind } => enter(table, tally, table.entry(job, kind)),
+        Request::Process { machine } => finish_first_on(table, tally, machine),
+        Request::Move { job, branch } => go_on(table, tally, job, branch),
+        Request::Unload { job } => leave(table, tally, job),
         Request::Place {
             job,
             kind,
@@ -35,7 +33,7 @@ pub fn apply(table: &LeadTable, parts: &mut Vec<Part>, request: &Request)
             done,
         } => enter(
             table,
-            parts,
+            tally,
             Part {
                 job,
                 kind,
@@ -47,27 +45,84 @@ pub fn apply(table: &LeadTable, parts: &mut Vec<Part>, request: &Request)
 }
 
 /// A part that is granted to enter.
-fn enter(table: &LeadTable, parts: &mut Vec<Part>, part: Part)
-    requires sound { IsSound table.now parts.old.items (vec_capacity parts.old) }
+fn enter(table: &LeadTable, tally: &mut Tally, part: Part)
+    requires sound { IsSound table.now tally.old }
     requires stage { IsStage table.now (stage_of part) }
-    requires granted { (outcome_of_entry table.now parts.old.items part).0 ≡ Granted }
-    ensures parts { parts.new.items ≡ (outcome_of_entry table.now parts.old.items part).1 }
-    ensures room { units_of table.now.resources ≤ vec_capacity parts.new }
+    requires granted { (outcome_of_entry table.now (parts_of tally.old.parts.items) part).0 ≡ Granted }
+    ensures parts { parts_of tally.new.parts.items ≡ (outcome_of_entry table.now (parts_of tally.old.parts.items) part).1 }
+    ensures tallied { IsTallied table.now tally.new }
 {
-    parts.push_reserved(part);
+    tally.counts.enter(table.mask(part));
+    tally.parts.arrive(part, table.resource_at(part));
+    tally.work += table.work_of(part);
+}
+
+/// The work on the first part that waits on the machine.
+fn finish_first_on(table: &LeadTable, tally: &mut Tally, machine: ResId)
+    requires sound { IsSound table.now tally.old }
+    requires machine { RequestFits table.now (Process machine) }
+    ensures parts { parts_of tally.new.parts.items ≡ finish_first (is_waiting_on table.now machine.0) (parts_of tally.old.parts.items) }
+    ensures tallied { IsTallied table.now tally.new }
+{
+    let _cell = table.cell();
+    if let Some(job) = tally.parts.first_waiting(machine) {
+        tally.parts.finish(job);
+        tally.work -= 1;
+    }
 }
 
 /// A part that is granted to go on.
-fn go_on(table: &LeadTable, parts: &mut Vec<Part>, job: JobId, branch: u16)
-    requires sound { IsSound table.now parts.old.items (vec_capacity parts.old) }
-    requires granted { (outcome_of_move table.now parts.old.items (part_of parts.old.items job) branch).0 ≡ Granted }
-    ensures parts { parts.new.items ≡ (outcome_of_move table.now parts.old.items (part_of parts.old.items job) branch).1 }
-    ensures room { units_of table.now.resources ≤ vec_capacity parts.new }
+fn go_on(table: &LeadTable, tally: &mut Tally, job: JobId, branch: u16)
+    requires sound { IsSound table.now tally.old }
+    requires granted { (outcome_of_move table.now (parts_of tally.old.parts.items) (part_of (parts_of tally.old.parts.items) job) branch).0 ≡ Granted }
+    ensures parts { parts_of tally.new.parts.items
+        ≡ (outcome_of_move table.now (parts_of tally.old.parts.items) (part_of (parts_of tally.old.parts.items) job) branch).1 }
+    ensures tallied { IsTallied table.now tally.new }
 {
-    if let Some(part) = part_of(parts, job) {
+    if let Some(part) = tally.parts.get(job) {
         if let Some(place) = table.next_place(part, branch) {
-            take_out(parts, part.job);
-            parts.push_reserved(table.arrival(part.job, part.kind, place));
+            let next = table.arrival(part.job, part.kind, place);
+            put_on(table, tally, part, next);
         }
     }
+}
+
+/// A part goes on to its next stage.
+fn put_on(table: &LeadTable, tally: &mut Tally, part: Part, next: Part)
+    requires sound { IsSound table.now tally.old }
+    requires found { part_of (parts_of tally.old.parts.items) part.job ≡ Some part }
+    requires same { next ≡ record part { place = next.place; done = next.done } }
+    requires stage { IsStage table.now (stage_of next) }
+    requires room { first_over table.now (without (parts_of tally.old.parts.items) part.job ++ next ∷ []) ≡ None }
+    ensures parts { parts_of tally.new.parts.items ≡ without (parts_of tally.old.parts.items) part.job ++ next ∷ [] }
+    ensures tallied { IsTallied table.now tally.new }
+{
+    tally.counts.shift(table.mask(part), table.mask(next));
+    tally
+        .parts
+        .advance(part.job, next.place, next.done, table.resource_at(next));
+    tally.work = tally.work - table.work_of(part) + table.work_of(next);
+}
+
+/// The part of a job leaves the cell.
+fn leave(table: &LeadTable, tally: &mut Tally, job: JobId)
+    requires sound { IsSound table.now tally.old }
+    ensures parts { parts_of tally.new.parts.items ≡ without (parts_of tally.old.parts.items) job }
+    ensures tallied { IsTallied table.now tally.new }
+{
+    if let Some(part) = tally.parts.get(job) {
+        take_out(table, tally, part);
+    }
+}
+
+/// A part leaves the cell.
+fn take_out(table: &LeadTable, tally: &mut Tally, part: Part)
+    requires sound { IsSound table.now tally.old }
+    requires found { part_of (parts_of tally.old.parts.items) part.job ≡ Some part }
+    ensures parts { parts_of tally.new.parts.items ≡ without (parts_of tally.old.parts.items) part.job }
+    ensures tallied { IsTallied table.now tally.new }
+{
+    tally.counts.leave(table.mask(part));
+    tally.parts.depart(part.job);
+    tally.work -= table.work_of(part);
 }

@@ -1,8 +1,9 @@
 //! A cell with its stages by number and their masks.
 ghost use Rattle.std.specs.Prelude.{◌≡◌, ◌<◌, length, IfOk, IfSome, option_map};
-ghost use Rattle.cell_base.specs.Stages.{stage, IsStage, stage_of, is_last, successor};
-ghost use Rattle.cell_base.specs.Neighborhoods.{leads, mask_of, masks_of};
+ghost use Rattle.cell_base.specs.Stages.{stage, IsStage, stage_of, is_last, resource_at, successor};
+ghost use Rattle.cell_base.specs.Neighborhoods.{mask_of, masks_of};
 ghost use Rattle.cell_base.specs.Outcomes.{arrival};
+ghost use Rattle.cell_base.specs.Plans.{work_of};
 ghost use Rattle.cell_base.specs.Fits.{CellFits};
 
 use cell_base::{Cell, JobId, NoMemory, Part, ResId, TypeId};
@@ -64,23 +65,30 @@ impl LeadTable {
     }
 
     /// The mask of a part's stage.
-    fn mask(&self, part: Part) -> u64
+    pub fn mask(&self, part: Part) -> u64
         requires { IsStage self.now (stage_of part) }
-        ensures mask { result ≡ mask_of self.now (stage_of part) }
-        ensures fits { CellFits self.now }
+        ensures { result ≡ mask_of self.now (stage_of part) }
     {
         let stage = self.stages.number(part.kind, part.place);
-        let _cell = self.stages.cell();
         self.upstream.mask(stage)
     }
 
-    /// Whether a part's stage leads to a resource.
-    pub fn leads(&self, part: Part, r: ResId) -> bool
-        requires resource { r.0 < length self.now.resources }
-        requires stage { IsStage self.now (stage_of part) }
-        ensures { result ≡ leads self.now (stage_of part) r.0 }
+    /// The resource of a part's stage.
+    pub fn resource_at(&self, part: Part) -> ResId
+        requires { IsStage self.now (stage_of part) }
+        ensures value { result.0 ≡ resource_at self.now (stage_of part) }
+        ensures within { result.0 < length self.now.resources }
     {
-        self.mask(part) >> r.0 & 1 == 1
+        self.stages.cell().resource_at(part.kind, part.place)
+    }
+
+    /// The steps that a part needs until it is out.
+    pub fn work_of(&self, part: Part) -> u64
+        requires { IsStage self.now (stage_of part) }
+        ensures { result ≡ work_of self.now part }
+    {
+        let stage = self.stages.number(part.kind, part.place);
+        u64::from(self.stages.remaining(stage, part.done))
     }
 
     /// Whether a part stands at a last stage.

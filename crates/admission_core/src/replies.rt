@@ -1,37 +1,33 @@
 //! Replies to requests.
-ghost use Rattle.std.specs.Prelude.{◌≡◌, ◌≤◌, ◌++◌, ◌∷◌, [], length, All, List, Some};
-ghost use Rattle.cell_base.specs.declared.limits.TheConstants.{MAX_UNITS};
+ghost use Rattle.std.specs.Prelude.{◌≡◌, List, Some};
 ghost use Rattle.cell_base.specs.declared.requests.Part.{Part};
+ghost use Rattle.cell_base.specs.declared.requests.Request.TheVariants.{Process};
 ghost use Rattle.cell_base.specs.Stages.{IsStage, stage_of};
-ghost use Rattle.cell_base.specs.Outcomes.{without, admit, outcome_of_entry, outcome_of_move, outcome_of_unload, reply_to};
+ghost use Rattle.cell_base.specs.Outcomes.{part_of, outcome_of_process, outcome_of_entry, outcome_of_move, outcome_of_unload, reply_to};
 ghost use Rattle.cell_base.specs.Fits.{RequestFits};
+ghost use Rattle.neighborhood_counts.specs.Counts.{IsMaskOf, first_full};
+ghost use Rattle.part_table.specs.Parts.{parts_of};
+ghost use Rattle.admission_core.specs.CoreState.{IsSound};
+ghost use Rattle.admission_core.specs.Replies.{reply_at};
 
 use crate::lead_table::LeadTable;
-use crate::parts::{any_waiting_on, is_loaded, part_of};
-use crate::recount::{count, first_over};
-use cell_base::{Part, Refusal, Reply, Request};
+use crate::tally::Tally;
+use cell_base::{Part, Refusal, Reply, Request, ResId};
 
 /// The reply to a request.
-pub fn reply_to(table: &LeadTable, parts: &[Part], request: &Request) -> Reply
-    requires few { length parts.now ≤ MAX_UNITS }
-    requires standing { All (λ part. IsStage table.now (stage_of part)) parts.now }
+pub fn reply_to(table: &LeadTable, tally: &Tally, request: &Request) -> Reply
+    requires sound { IsSound table.now tally.now }
     requires request { RequestFits table.now request.now }
-    ensures { result ≡ reply_to table.now parts.now request.now }
+    ensures { result ≡ reply_to table.now (parts_of tally.now.parts.items) request.now }
 {
     match *request {
-        Request::Load { job, kind } => reply_to_entry(table, parts, table.entry(job, kind)),
-        Request::Process { machine } => {
-            if any_waiting_on(table.cell(), parts, machine) {
-                Reply::Granted
-            } else {
-                Reply::Refused(Refusal::Idle)
-            }
-        }
-        Request::Move { job, branch } => match part_of(parts, job) {
+        Request::Load { job, kind } => reply_to_entry(table, tally, table.entry(job, kind)),
+        Request::Process { machine } => reply_to_process(table, tally, machine),
+        Request::Move { job, branch } => match tally.parts.get(job) {
             None => Reply::Refused(Refusal::NoSuchJob),
-            Some(part) => reply_to_move(table, parts, part, branch),
+            Some(part) => reply_to_move(table, tally, part, branch),
         },
-        Request::Unload { job } => match part_of(parts, job) {
+        Request::Unload { job } => match tally.parts.get(job) {
             None => Reply::Refused(Refusal::NoSuchJob),
             Some(part) => reply_to_unload(table, part),
         },
@@ -42,7 +38,7 @@ pub fn reply_to(table: &LeadTable, parts: &[Part], request: &Request) -> Reply
             done,
         } => reply_to_entry(
             table,
-            parts,
+            tally,
             Part {
                 job,
                 kind,
@@ -54,25 +50,34 @@ pub fn reply_to(table: &LeadTable, parts: &[Part], request: &Request) -> Reply
 }
 
 /// The reply to a part that comes new into the cell.
-fn reply_to_entry(table: &LeadTable, parts: &[Part], part: Part) -> Reply
-    requires few { length parts.now ≤ MAX_UNITS }
-    requires standing { All (λ part. IsStage table.now (stage_of part)) parts.now }
+fn reply_to_entry(table: &LeadTable, tally: &Tally, part: Part) -> Reply
+    requires sound { IsSound table.now tally.now }
     requires stage { IsStage table.now (stage_of part) }
-    ensures { result ≡ (outcome_of_entry table.now parts.now part).0 }
+    ensures { result ≡ (outcome_of_entry table.now (parts_of tally.now.parts.items) part).0 }
 {
-    if is_loaded(parts, part.job) {
-        Reply::Refused(Refusal::JobLoaded)
-    } else {
-        reply_to_arrival(table, parts, part)
+    match tally.parts.get(part.job) {
+        Some(_) => Reply::Refused(Refusal::JobLoaded),
+        None => reply_at(table, tally, table.mask(part)),
+    }
+}
+
+/// The reply to the work on a resource.
+fn reply_to_process(table: &LeadTable, tally: &Tally, machine: ResId) -> Reply
+    requires sound { IsSound table.now tally.now }
+    requires machine { RequestFits table.now (Process machine) }
+    ensures { result ≡ (outcome_of_process table.now (parts_of tally.now.parts.items) machine.0).0 }
+{
+    match tally.parts.first_waiting(machine) {
+        Some(_) => Reply::Granted,
+        None => Reply::Refused(Refusal::Idle),
     }
 }
 
 /// The reply to the move of a part.
-fn reply_to_move(table: &LeadTable, parts: &[Part], part: Part, branch: u16) -> Reply
-    requires few { length parts.now ≤ MAX_UNITS }
-    requires standing { All (λ part. IsStage table.now (stage_of part)) parts.now }
-    requires stage { IsStage table.now (stage_of part) }
-    ensures { result ≡ (outcome_of_move table.now parts.now (Some part) branch).0 }
+fn reply_to_move(table: &LeadTable, tally: &Tally, part: Part, branch: u16) -> Reply
+    requires sound { IsSound table.now tally.now }
+    requires found { part_of (parts_of tally.now.parts.items) part.job ≡ Some part }
+    ensures { result ≡ (outcome_of_move table.now (parts_of tally.now.parts.items) (Some part) branch).0 }
 {
     if !part.done {
         Reply::Refused(Refusal::NotProcessed)
@@ -81,11 +86,10 @@ fn reply_to_move(table: &LeadTable, parts: &[Part], part: Part, branch: u16) -> 
     } else {
         match table.next_place(part, branch) {
             None => Reply::Refused(Refusal::NoBranch),
-            Some(place) => reply_to_arrival(
-                table,
-                parts,
-                table.arrival(part.job, part.kind, place),
-            ),
+            Some(place) => {
+                let next = table.arrival(part.job, part.kind, place);
+                reply_at(table, tally, table.mask(next) & !table.mask(part))
+            }
         }
     }
 }
@@ -104,18 +108,17 @@ fn reply_to_unload(table: &LeadTable, part: Part) -> Reply
     }
 }
 
-/// The reply where the part would come in the place of its job's present one.
-fn reply_to_arrival(table: &LeadTable, parts: &[Part], part: Part) -> Reply
-    requires few { length parts.now ≤ MAX_UNITS }
-    requires standing { All (λ part. IsStage table.now (stage_of part)) parts.now }
-    requires stage { IsStage table.now (stage_of part) }
-    ensures { result ≡ (admit table.now parts.now (without parts.now part.job ++ part ∷ [])).0 }
+/// The reply where a part would come to the neighborhoods of a mask.
+fn reply_at(table: &LeadTable, tally: &Tally, mask: u64) -> Reply
+    requires sound { IsSound table.now tally.now }
+    requires mask { IsMaskOf tally.now.counts mask }
+    ensures { result ≡ reply_at table.now (parts_of tally.now.parts.items) (first_full tally.now.counts mask) }
 {
-    match first_over(table, parts, part) {
+    match tally.counts.first_full(mask) {
         None => Reply::Granted,
         Some(at) => Reply::Refused(Refusal::Saturated {
             at,
-            count: count(table, parts, at) as u32,
+            count: tally.counts.count(at),
             capacity: table.cell().capacity_of(at),
         }),
     }

@@ -1,5 +1,5 @@
 -- The lines of a block, one behind the other, are its text.
-use Rattle.std.proofs.Common.{◌≡◌, false, ℕ, List, [], ◌∷◌, ◌++◌, length, map, refl, sym, ap, ◌∙◌, if◌then◌else◌, cond}
+use Rattle.std.proofs.Common.{◌≡◌, false, ℕ, List, [], ◌∷◌, ◌++◌, length, map, refl, ap, ◌∙◌}
 use Rattle.std.specs.List.{concat, flat_map}
 use Rattle.std.proofs.lemmas.List.Folds.{concat-append}
 use Rattle.cell_base.specs.declared.cells.Cell.{Cell}
@@ -9,7 +9,7 @@ use Rattle.cell_base.specs.declared.shifts.Entry.{Entry}
 use Rattle.cell_base.specs.Histories.{after}
 use Rattle.cell_base.specs.Scripts.{holds_halt}
 use Rattle.record_text.specs.Lines.{line_of, left_words}
-use Rattle.record_text.specs.Records.{text_of_entries, text_of_plan, text_of_record}
+use Rattle.record_text.specs.Records.{text_of_record}
 use Rattle.cell_program.specs.Blocks.{entry_line, step_line, history_lines, plan_lines, planned_block}
 
 concat-map : {X : Type 0} (f : X → List ℕ) (xs : List X) → concat (map f xs) ≡ flat_map f xs

@@ -127,8 +127,7 @@ module _ (cell : Cell) where
           → IsWholeTrace (script_of shift entry.session) shift.patience (begin_at 0) (entries_of entry.session history)
           × Contains (entries_of entry.session history) entry
       traced entry contains =
-          let session : ℕ = entry.session in
-          (
+          let session : ℕ = entry.session in (
             rounds.whole session (All-contains (λ (e : Entry). IsSession shift e.session) history entry rounds.sessions contains),
             Contains-filter (λ (e : Entry). e.session == session) history entry contains (eq-eqb session session refl),
           )

@@ -6,6 +6,10 @@ use Rattle.cell_base.specs.declared.shifts.Entry.{Entry}
 use Rattle.record_text.specs.Lines.{line_of, head_words, entry_words, left_words, plan_words}
 use Rattle.step_text.specs.Steps.{request_words}
 
+-- lines, each with its newline
+abbrev pub Lines : Type 0
+Lines = List (List ℕ)
+
 -- the line of an entry
 abbrev pub entry_line : Cell → Entry → List ℕ
 entry_line cell entry = line_of (entry_words cell entry)
@@ -15,14 +19,14 @@ abbrev pub step_line : Cell → Request → List ℕ
 step_line cell step = line_of (request_words cell step)
 
 -- the head of a shift behind this many grants, and a line for each entry
-abbrev pub history_lines : Cell → ℕ → ℕ → List Entry → List (List ℕ)
+abbrev pub history_lines : Cell → ℕ → ℕ → List Entry → Lines
 history_lines cell shift grants history = line_of (head_words shift grants) ∷ map (entry_line cell) history
 
 -- how many steps a plan has, and a line for each
-abbrev pub plan_lines : Cell → List Request → List (List ℕ)
+abbrev pub plan_lines : Cell → List Request → Lines
 plan_lines cell plan = line_of (plan_words (length plan)) ∷ map (step_line cell) plan
 
 -- a block with a plan: the history, the number of parts that it leaves, and the plan for these
-unfoldable pub planned_block : Cell → ℕ → ℕ → List Entry → ℕ → List Request → List (List ℕ)
+unfoldable pub planned_block : Cell → ℕ → ℕ → List Entry → ℕ → List Request → Lines
 planned_block cell shift grants history left plan =
     history_lines cell shift grants history ++ line_of (left_words left) ∷ plan_lines cell plan

@@ -1,21 +1,22 @@
--- What each command owes, its tests in their order, and what its end tells.
-use Rattle.std.specs.Prelude.{◌≡◌, ◌⊎◌, ℕ, List, [], ◌∷◌, Option, IsSomeAnd, codes, if◌then◌else◌, Result, Ok, Err, ⊤}
+-- What each command owes, its tests in their order.
+use Rattle.std.specs.Prelude.{◌≡◌, ℕ, List, [], ◌∷◌, Option, Some, None, codes, if◌then◌else◌, Result, Ok, Err, ⊤}
 use Rattle.std.specs.Str.{bytes_eq}
 use Rattle.outside_io.specs.Causes.{Rose}
 use Rattle.outside_io.specs.Files.{Names, IsThere}
-use Rattle.outside_io.specs.Puts.{TookAll}
 use Rattle.cell_base.specs.declared.cells.Cell.{Cell}
 use Rattle.cell_base.specs.declared.shifts.Shift.{Shift}
 use Rattle.cell_file.specs.Walk.{cell_of}
-use Rattle.cell_file.specs.declared.faults.CellFault.{CellFault}
 use Rattle.shift_file.specs.Walk.{shift_of}
-use Rattle.shift_file.specs.declared.faults.ShiftFault.{ShiftFault}
+use Rattle.refusal_reason.specs.Shown.{show_lines}
+use Rattle.shift_checker.specs.Judging.{judge}
 use Rattle.cell_program.specs.CellEnds.{cell_end}
 use Rattle.cell_program.specs.ShiftEnds.{shift_end}
+use Rattle.cell_program.specs.RecordEnds.{record_end, record_read}
 use Rattle.cell_program.specs.Ends.{MayCome}
+use Rattle.cell_program.specs.Reading.{GivenBy}
 use Rattle.cell_program.specs.Runs.{IsSoloRecord}
-use Rattle.cell_program.specs.Texts.{Outcome, done, usage, early_status, early_text, early_outcome}
-use Rattle.cell_program.specs.Told.{Told, IsMadeOfFile}
+use Rattle.cell_program.specs.Texts.{Outcome, done, usage, early_outcome, verdict_outcome}
+use Rattle.cell_program.specs.Told.{Told, HoldsOf}
 use Rattle.cell_program.specs.declared.early.Early.{Early}
 use Rattle.cell_program.specs.declared.early.Early.TheVariants.{ReadFault}
 
@@ -23,16 +24,35 @@ use Rattle.cell_program.specs.declared.early.Early.TheVariants.{ReadFault}
 pub data Task : Type 0 where
   Nothing : Task
   Solo : (cell shift : List ℕ) → Task
+  Check : (cell record_file : List ℕ) → Task
+  Show : (cell : List ℕ) → Task
+
+-- a command of a cell and another file
+abbrev pub task_of_two : List ℕ → List ℕ → List ℕ → Task
+task_of_two verb cell other =
+    if bytes_eq verb (codes "solo") then Solo cell other
+    else (if bytes_eq verb (codes "check") then Check cell other
+    else Nothing)
 
 -- the command that the words are: their number and the first of them decide
 abbrev pub task_of : List (List ℕ) → Task
-task_of (verb ∷ cell ∷ shift ∷ []) = if bytes_eq verb (codes "solo") then Solo cell shift else Nothing
+task_of (verb ∷ cell ∷ []) = if bytes_eq verb (codes "show") then Show cell else Nothing
+task_of (verb ∷ cell ∷ other ∷ []) = task_of_two verb cell other
 task_of words = Nothing
+
+-- the file of the cell, which each command reads first
+abbrev pub cell_in : Task → Option (List ℕ)
+cell_in Nothing = None
+cell_in (Solo cell shift) = Some cell
+cell_in (Check cell record_file) = Some cell
+cell_in (Show cell) = Some cell
 
 -- the names of the files that a command reads
 abbrev pub files_of : Task → List (List ℕ)
 files_of Nothing = []
 files_of (Solo cell shift) = cell ∷ shift ∷ []
+files_of (Check cell record_file) = cell ∷ record_file ∷ []
+files_of (Show cell) = cell ∷ []
 
 -- each of these is there
 abbrev pub AreThere : Option Names → List (List ℕ) → Type 0
@@ -41,16 +61,16 @@ AreThere names (name ∷ rest) = IsThere names name × AreThere names rest
 
 -- ---- what is owed
 
--- a file is read in its turn: the reading failed, or what is made of the file is a fault, at which the program ends, or a
--- value, of which this follows
-pub data AfterFile {V E : Type 0} (names : Option Names) (faults faults_after : ℕ) (name : List ℕ) (make : List ℕ → Result V E)
-    (end : E → Early) (follows : V → Type 0) (outcome : Outcome) : Type 0 where
+-- a file is read in its turn: the reading failed, or what its bytes read as is a fault, at which the program ends, or a value, of
+-- which this follows
+pub data AfterFile {V E : Type 0} (names : Option Names) (faults faults_after : ℕ) (name : List ℕ)
+    (reads : List ℕ → Result V E → Type 0) (end : E → Early) (follows : V → Type 0) (outcome : Outcome) : Type 0 where
   FileFailed : outcome ≡ early_outcome ReadFault → Rose faults faults_after
-      → AfterFile names faults faults_after name make end follows outcome
-  FileRefused : (fault : E) → IsMadeOfFile names name make (Err fault) → outcome ≡ early_outcome (end fault)
-      → AfterFile names faults faults_after name make end follows outcome
-  FileRead : (value : V) → IsMadeOfFile names name make (Ok value) → follows value
-      → AfterFile names faults faults_after name make end follows outcome
+      → AfterFile names faults faults_after name reads end follows outcome
+  FileRefused : (fault : E) → HoldsOf names name (λ bytes. reads bytes (Err fault)) → outcome ≡ early_outcome (end fault)
+      → AfterFile names faults faults_after name reads end follows outcome
+  FileRead : (value : V) → HoldsOf names name (λ bytes. reads bytes (Ok value)) → follows value
+      → AfterFile names faults faults_after name reads end follows outcome
 
 -- the record of a shift is printed
 abbrev pub IsDone : Cell → Shift → Outcome → Type 0
@@ -59,69 +79,30 @@ IsDone cell shift outcome = (lines : List (List ℕ)) × IsSoloRecord cell shift
 -- what `solo` owes: the cell is read, then the shift, and then the shift runs
 unfoldable pub OwesSolo : Option Names → ℕ → ℕ → List ℕ → List ℕ → Outcome → Type 0
 OwesSolo names faults faults_after cell_name shift_name outcome =
-    AfterFile names faults faults_after cell_name cell_of cell_end
-    (λ cell. AfterFile names faults faults_after shift_name (shift_of cell) shift_end
+    AfterFile names faults faults_after cell_name (GivenBy cell_of) cell_end
+    (λ cell. AfterFile names faults faults_after shift_name (GivenBy (shift_of cell)) shift_end
     (λ shift. IsDone cell shift outcome)
     outcome)
     outcome
+
+-- what `check` owes: the cell is read, then the record, and then the record is judged
+unfoldable pub OwesCheck : Option Names → ℕ → ℕ → List ℕ → List ℕ → Outcome → Type 0
+OwesCheck names faults faults_after cell_name record_file outcome =
+    AfterFile names faults faults_after cell_name (GivenBy cell_of) cell_end
+    (λ cell. AfterFile names faults faults_after record_file (record_read cell) record_end
+    (λ blocks. outcome ≡ verdict_outcome (judge cell blocks))
+    outcome)
+    outcome
+
+-- what `show` owes: the cell is read, and then its neighborhoods are printed
+unfoldable pub OwesShow : Option Names → ℕ → ℕ → List ℕ → Outcome → Type 0
+OwesShow names faults faults_after cell_name outcome =
+    AfterFile names faults faults_after cell_name (GivenBy cell_of) cell_end (λ cell. outcome ≡ done (show_lines cell)) outcome
 
 -- the outcome that may come of a command; words that are none take no memory
 abbrev pub Comes : Told → Task → Outcome → Type 0
 Comes told Nothing outcome = outcome ≡ usage
 Comes told (Solo cell shift) outcome = MayCome (OwesSolo told.names told.file_faults told.file_faults_after cell shift) outcome
-
--- ---- what an end tells
-
--- the cell's bytes were read, and are refused
-abbrev pub IsCellRefused : Told → Task → Type 0
-IsCellRefused told Nothing = ⊥
-IsCellRefused told (Solo cell shift) = (fault : CellFault) × IsMadeOfFile told.names cell cell_of (Err fault)
-
--- the cell's bytes were read and stand for a cell, and the shift's bytes were read, and are refused
-abbrev pub IsShiftRefused : Told → Task → Type 0
-IsShiftRefused told Nothing = ⊥
-IsShiftRefused told (Solo cell shift) =
-    (c : Cell) × IsMadeOfFile told.names cell cell_of (Ok c)
-    × ((fault : ShiftFault) × IsMadeOfFile told.names shift (shift_of c) (Err fault))
-
--- both files stand for a cell and a shift, and the sink took the lines of the record of that shift
-abbrev pub IsPrinted : Told → Task → Type 0
-IsPrinted told Nothing = ⊥
-IsPrinted told (Solo cell shift) =
-    (c : Cell) × IsMadeOfFile told.names cell cell_of (Ok c) × ((s : Shift) × IsMadeOfFile told.names shift (shift_of c) (Ok s)
-    × ((lines : List (List ℕ)) × IsSoloRecord c s lines × TookAll told.sink lines))
-
--- nothing that the command reads is refused
-abbrev pub IsAccepted : Told → Task → Type 0
-IsAccepted told Nothing = ⊥
-IsAccepted told (Solo cell shift) =
-    ((fault : CellFault) → IsMadeOfFile told.names cell cell_of (Err fault) → ⊥)
-    × ((c : Cell) → IsMadeOfFile told.names cell cell_of (Ok c) → (fault : ShiftFault)
-    → IsMadeOfFile told.names shift (shift_of c) (Err fault) → ⊥)
-
--- ---- what an end owes where nothing outside fails
-
--- no read failed, or the files are sound and hold what the command names
-abbrev pub ReadsAll : Told → Type 0 → Task → Type 0
-ReadsAll told sound task = (Rose told.file_faults told.file_faults_after → ⊥) ⊎ (sound × AreThere told.names (files_of task))
-
--- the sink did not fail
-abbrev pub TakesAll : Told → Type 0
-TakesAll told = Rose told.sink.faults told.sink.faults_after → ⊥
-
--- the files tell, and hold bytes under the cell's name that this is the fault of
-abbrev pub HoldsBadCell : Told → Task → CellFault → Type 0
-HoldsBadCell told Nothing fault = ⊥
-HoldsBadCell told (Solo cell shift) fault = IsSomeAnd told.names (λ names. IsSomeAnd (names cell) (λ bytes. cell_of bytes ≡ Err fault))
-
--- the same of the shift, for the cell that is held
-abbrev pub HoldsBadShift : Told → Task → ShiftFault → Type 0
-HoldsBadShift told Nothing fault = ⊥
-HoldsBadShift told (Solo cell shift) fault =
-    (c : Cell) × IsSomeAnd told.names (λ names. IsSomeAnd (names cell) (λ bytes. cell_of bytes ≡ Ok c))
-    × IsSomeAnd told.names (λ names. IsSomeAnd (names shift) (λ bytes. shift_of c bytes ≡ Err fault))
-
--- the status and the line are those of this end, or memory was wanting
-abbrev pub IsAnswered : Told → Early → ℕ → Type 0
-IsAnswered told early status =
-    (status ≡ 9) ⊎ ((status ≡ early_status early) × TookAll told.sink (early_text early ∷ []))
+Comes told (Check cell record_file) outcome =
+    MayCome (OwesCheck told.names told.file_faults told.file_faults_after cell record_file) outcome
+Comes told (Show cell) outcome = MayCome (OwesShow told.names told.file_faults told.file_faults_after cell) outcome

@@ -4,8 +4,10 @@ pub mod Commands
 pub mod Ends
 pub mod OutSink
 pub mod Reading
+pub mod RecordEnds
 pub mod Runs
 pub mod ShiftEnds
+pub mod Telling
 pub mod Texts
 pub mod Told
 pub mod Words

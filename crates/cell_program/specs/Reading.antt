@@ -4,7 +4,7 @@ use Rattle.outside_io.specs.Causes.{Rose}
 use Rattle.outside_io.specs.Files.{Names}
 use Rattle.outside_io.specs.declared.fault.FileFail.{FileFail}
 use Rattle.outside_io.specs.declared.fault.FileFail.TheVariants.{Failed, Memory as Starved}
-use Rattle.cell_program.specs.Told.{IsMadeOfFile}
+use Rattle.cell_program.specs.Told.{HoldsOf}
 use Rattle.cell_program.specs.declared.early.Early.{Early}
 use Rattle.cell_program.specs.declared.early.Early.TheVariants.{ReadFault, Memory}
 
@@ -18,9 +18,13 @@ pub data IsUnread (faults faults_after : ℕ) (early : Early) : Type 0 where
   ByFault : early ≡ ReadFault → Rose faults faults_after → IsUnread faults faults_after early
   ByMemory : early ≡ Memory → IsUnread faults faults_after early
 
--- the file was not read or its value not made, or what is made of the file is a fault
-pub data EndsEarly {V E : Type 0} (names : Option Names) (name : List ℕ) (make : List ℕ → Result V E) (end : E → Early)
+-- what reading some bytes gives: that of this function
+abbrev pub GivenBy : {V : Type 0} → (List ℕ → V) → List ℕ → V → Type 0
+GivenBy make bytes value = value ≡ make bytes
+
+-- the file was not read or its value not made, or what the bytes of the file read as is a fault
+pub data EndsEarly {V E : Type 0} (names : Option Names) (name : List ℕ) (reads : List ℕ → Result V E → Type 0) (end : E → Early)
     (faults faults_after : ℕ) (early : Early) : Type 0 where
-  Unread : IsUnread faults faults_after early → EndsEarly names name make end faults faults_after early
-  Refused : (fault : E) → IsMadeOfFile names name make (Err fault) → early ≡ end fault
-      → EndsEarly names name make end faults faults_after early
+  Unread : IsUnread faults faults_after early → EndsEarly names name reads end faults faults_after early
+  Refused : (fault : E) → HoldsOf names name (λ bytes. reads bytes (Err fault)) → early ≡ end fault
+      → EndsEarly names name reads end faults faults_after early

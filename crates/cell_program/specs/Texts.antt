@@ -8,8 +8,12 @@ use Rattle.cell_base.specs.declared.places.Section.TheVariants.{Top, OfResource,
 use Rattle.cell_base.specs.declared.places.Field.{Field}
 use Rattle.cell_base.specs.declared.places.Field.TheVariants.{Whole, Version, Resources, JobTypes, Name, Capacity, Order, Route, Next, Number, Patience, Sessions, Steps, Job, Kind, Path, Machine, Turns}
 use Rattle.record_text.specs.Lines.{line_of}
+use Rattle.shift_checker.specs.declared.verdict.Verdict.{Verdict}
+use Rattle.shift_checker.specs.declared.verdict.Verdict.TheVariants.{Yes, No}
+use Rattle.shift_checker.specs.declared.verdict.Why.{Why}
+use Rattle.shift_checker.specs.declared.verdict.Why.TheVariants.{After, Reply, Left, Step, Parts}
 use Rattle.cell_program.specs.declared.early.Early.{Early}
-use Rattle.cell_program.specs.declared.early.Early.TheVariants.{ReadFault, CellRefused, ShiftRefused, Memory}
+use Rattle.cell_program.specs.declared.early.Early.TheVariants.{ReadFault, CellRefused, ShiftRefused, RecordRefused, Memory}
 use Rattle.cell_program.specs.declared.findings.Finding.{Finding}
 
 -- a status, and the lines that are printed with it, each with its newline
@@ -93,7 +97,7 @@ at number place = record { number = number; place = Some place; count = None }
 
 -- the built commands with their words
 abbrev pub usage_text : List ℕ
-usage_text = codes "usage: solo CELL SHIFT" ++ 10 ∷ []
+usage_text = codes "usage: solo CELL SHIFT, check CELL RECORD, show CELL" ++ 10 ∷ []
 
 -- words that are no built command
 abbrev pub usage : Outcome
@@ -104,6 +108,7 @@ abbrev pub early_status : Early → ℕ
 early_status ReadFault = 3
 early_status (CellRefused finding) = 4
 early_status (ShiftRefused finding) = 5
+early_status (RecordRefused line) = 5
 early_status Memory = 9
 
 -- the line of an early end
@@ -111,8 +116,33 @@ abbrev pub early_text : Early → List ℕ
 early_text ReadFault = codes "read fault" ++ 10 ∷ []
 early_text (CellRefused finding) = refusal_text (codes "cell") finding
 early_text (ShiftRefused finding) = refusal_text (codes "shift") finding
+early_text (RecordRefused line) = line_of (codes "record" ∷ codes "refused" ∷ decimal line ∷ [])
 early_text Memory = codes "want of memory" ++ 10 ∷ []
 
 -- both
 abbrev pub early_outcome : Early → Outcome
 early_outcome early = record { status = early_status early; lines = early_text early ∷ [] }
+
+-- ---- verdicts
+
+-- why a line of a record fails
+abbrev pub why_word : Why → List ℕ
+why_word After = codes "after"
+why_word Reply = codes "reply"
+why_word Left = codes "left"
+why_word Step = codes "step"
+why_word Parts = codes "parts"
+
+-- the line of a verdict
+abbrev pub verdict_text : Verdict → List ℕ
+verdict_text Yes = codes "yes" ++ 10 ∷ []
+verdict_text (No line why) = line_of (codes "no" ∷ decimal line ∷ why_word why ∷ [])
+
+-- the status of a verdict
+abbrev pub verdict_status : Verdict → ℕ
+verdict_status Yes = 0
+verdict_status (No line why) = 1
+
+-- both
+abbrev pub verdict_outcome : Verdict → Outcome
+verdict_outcome verdict = record { status = verdict_status verdict; lines = verdict_text verdict ∷ [] }

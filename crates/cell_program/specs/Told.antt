@@ -20,7 +20,15 @@ told_by holds file_faults taken was_put sink_faults files files_after out out_af
   sink = sink_told taken was_put sink_faults out out_after;
 }
 
+-- where the files tell, this holds of the bytes of a name
+abbrev pub HoldsOf : Option Names → List ℕ → (List ℕ → Type 0) → Type 0
+HoldsOf None name P = ⊤
+HoldsOf (Some names) name P = IsSomeAnd (names name) P
+
+-- the files tell, and this holds of the bytes of a name
+abbrev pub TellsOf : Option Names → List ℕ → (List ℕ → Type 0) → Type 0
+TellsOf names name P = IsSomeAnd names (λ held. IsSomeAnd (held name) P)
+
 -- a value was made of a file by this function: where the files tell, of what the name holds
 abbrev pub IsMadeOfFile : {V : Type 0} → Option Names → List ℕ → (List ℕ → V) → V → Type 0
-IsMadeOfFile None name make value = ⊤
-IsMadeOfFile (Some names) name make value = IsSomeAnd (names name) (λ bytes. value ≡ make bytes)
+IsMadeOfFile names name make value = HoldsOf names name (λ bytes. value ≡ make bytes)

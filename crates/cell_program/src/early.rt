@@ -17,6 +17,8 @@ pub enum Early {
     CellRefused(Finding),
     /// The shift file's bytes are refused.
     ShiftRefused(Finding),
+    /// The record file's bytes are refused, at this line.
+    RecordRefused(u32),
     /// Want of memory.
     Memory,
 }
@@ -29,7 +31,7 @@ impl Early {
         match self {
             Early::ReadFault => 3,
             Early::CellRefused(_) => 4,
-            Early::ShiftRefused(_) => 5,
+            Early::ShiftRefused(_) | Early::RecordRefused(_) => 5,
             Early::Memory => 9,
         }
     }

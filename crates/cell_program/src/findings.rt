@@ -1,12 +1,14 @@
 //! What a refusal of a file tells: a number for the fault, and its place and its count where it has them.
 ghost use Rattle.std.specs.Prelude.{◌≡◌};
 ghost use Rattle.cell_program.specs.CellEnds.{cell_end};
+ghost use Rattle.cell_program.specs.RecordEnds.{record_end};
 ghost use Rattle.cell_program.specs.ShiftEnds.{shift_end};
 ghost use Rattle.cell_program.specs.Texts.{plain, at};
 
 use crate::early::Early;
 use cell_base::Place;
 use cell_file::CellFault;
+use record_text::RecordFault;
 use shift_file::ShiftFault;
 
 /// A fault as its line shows it. Faults are numbered from 1 for each kind of file.
@@ -97,5 +99,16 @@ impl From<ShiftFault> for Early {
             ShiftFault::Memory => return Early::Memory,
         };
         Early::ShiftRefused(finding)
+    }
+}
+
+impl From<RecordFault> for Early {
+    ghost from_gives = { λ fault early. early ≡ record_end fault };
+
+    fn from(fault: RecordFault) -> Early {
+        match fault {
+            RecordFault::Bad { line } => Early::RecordRefused(line),
+            RecordFault::Memory => Early::Memory,
+        }
     }
 }

@@ -16,10 +16,12 @@
 mod dir_files;
 mod early;
 mod findings;
+mod judging;
 mod lines;
 mod out_sink;
 mod printing;
 mod reading;
+mod showing;
 mod solo;
 mod top;
 mod words;

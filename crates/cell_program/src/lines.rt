@@ -2,18 +2,21 @@
 ghost use Rattle.std.specs.Prelude.{◌≡◌, ◌+◌, ◌≤◌, ◌++◌, [], length, IfSome};
 ghost use Rattle.std.specs.Option.{option_map, option_map_or};
 ghost use Rattle.record_text.specs.Spaced.{spaced};
-ghost use Rattle.cell_program.specs.Texts.{section_word, item_words, field_word, field_words, number_words, place_words, finding_words, refusal_text, usage_text, early_text};
+ghost use Rattle.cell_program.specs.Texts.{section_word, item_words, field_word, field_words, number_words, place_words, finding_words, refusal_text, usage_text, early_text, verdict_text, why_word};
+ghost use Rattle.cell_program.specs.declared.early.Early.TheVariants.{RecordRefused};
+ghost use Rattle.shift_checker.specs.declared.verdict.Verdict.TheVariants.{No};
 
 use crate::early::Early;
 use crate::findings::Finding;
 use cell_base::{Field, Place, Section};
 use record_text::Line;
+use shift_checker::{Verdict, Why};
 
 /// The built commands with their words.
 pub fn usage_line() -> Line
     ensures { result ≡ usage_text }
 {
-    Line::of_word(b"usage: solo CELL SHIFT").end()
+    Line::of_word(b"usage: solo CELL SHIFT, check CELL RECORD, show CELL").end()
 }
 
 impl Early {
@@ -25,6 +28,7 @@ impl Early {
             Early::ReadFault => Line::of_word(b"read fault").end(),
             Early::CellRefused(finding) => refusal_line(b"cell", finding),
             Early::ShiftRefused(finding) => refusal_line(b"shift", finding),
+            Early::RecordRefused(line) => record_line(*line),
             Early::Memory => Line::of_word(b"want of memory").end(),
         }
     }
@@ -39,6 +43,48 @@ fn refusal_line(file: &[u8], finding: &Finding) -> Line
     line.word(b"refused");
     add_finding(&mut line, finding);
     line.end()
+}
+
+// The line of a refused record.
+fn record_line(number: u32) -> Line
+    ensures { result ≡ early_text (RecordRefused number) }
+{
+    let mut line = Line::of_word(b"record");
+    line.word(b"refused");
+    line.number(number);
+    line.end()
+}
+
+/// The line of a verdict.
+pub fn verdict_line(verdict: &Verdict) -> Line
+    ensures { result ≡ verdict_text verdict.now }
+{
+    match verdict {
+        Verdict::Yes => Line::of_word(b"yes").end(),
+        Verdict::No { line, why } => no_line(*line, *why),
+    }
+}
+
+fn no_line(number: u32, why: Why) -> Line
+    ensures { result ≡ verdict_text (No number why) }
+{
+    let mut line = Line::of_word(b"no");
+    line.number(number);
+    line.word(why_word(why));
+    line.end()
+}
+
+fn why_word(why: Why) -> &'static [u8]
+    ensures word { result.now ≡ why_word why }
+    ensures len { length result.now ≤ 5 }
+{
+    match why {
+        Why::After => b"after",
+        Why::Reply => b"reply",
+        Why::Left => b"left",
+        Why::Step => b"step",
+        Why::Parts => b"parts",
+    }
 }
 
 fn add_finding(line: &mut Line, finding: &Finding)

@@ -1,16 +1,18 @@
 //! Lines on their way to the sink, each one `put`.
 ghost use Rattle.std.specs.Prelude.{◌≡◌, [], ◌∷◌, map, OnOk, OnErr};
-ghost use Rattle.std.specs.List.{All};
+ghost use Rattle.std.specs.List.{All, concat};
 ghost use Rattle.outside_io.specs.Causes.{HasCause};
 ghost use Rattle.outside_io.specs.Puts.{TookAll, TookSome, sink_told};
 ghost use Rattle.cell_base.specs.Plans.{plan_of};
+ghost use Rattle.refusal_reason.specs.Shown.{IsLine};
 ghost use Rattle.record_text.specs.Fitting.{EntryFits};
-ghost use Rattle.cell_program.specs.Blocks.{entry_line, step_line, history_lines, plan_lines};
+ghost use Rattle.cell_program.specs.Blocks.{Lines, entry_line, step_line, history_lines, plan_lines};
 
 use cell_base::{Cell, Entry};
 use drain_planner::Drainer;
 use outside_io::{Failed, Sink};
 use record_text::{Line, head_line, line_of, plan_line, step_line};
+use refusal_reason::first_line;
 
 /// Puts one line.
 pub fn print_line<K: Sink>(out: &mut K, line: &Line) -> Result<(), Failed>
@@ -19,6 +21,25 @@ pub fn print_line<K: Sink>(out: &mut K, line: &Line) -> Result<(), Failed>
     ensures cause { HasCause (K.faults out.old) (K.faults out.new) result }
 {
     out.put(line.bytes())
+}
+
+/// Puts each line of a text, up to the first that the sink doesn't take.
+pub fn print_text<K: Sink>(out: &mut K, text: &[u8]) -> Result<(), Failed>
+    ensures whole { (lines : Lines) → All IsLine lines → text.now ≡ concat lines
+        → OnOk result (TookAll (sink_told K.taken K.was_put K.faults out.old out.new) lines) }
+    ensures part { (lines : Lines) → All IsLine lines → text.now ≡ concat lines
+        → OnErr result (TookSome (sink_told K.taken K.was_put K.faults out.old out.new) lines) }
+    ensures cause { HasCause (K.faults out.old) (K.faults out.new) result }
+{
+    let mut rest = text;
+    while !rest.is_empty() {
+        let (line, behind) = first_line(rest);
+        if let Err(failed) = out.put(line) {
+            return Err(failed);
+        }
+        rest = behind;
+    }
+    Ok(())
 }
 
 /// Puts the head of a block and the line of each entry, up to the first that the sink doesn't take.

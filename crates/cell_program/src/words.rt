@@ -10,6 +10,10 @@ pub enum Command<'a> {
     Nothing,
     /// A shift on the empty cell, on one thread.
     Solo { cell: &'a str, shift: &'a str },
+    /// Whether a record is right.
+    Check { cell: &'a str, record_file: &'a str },
+    /// A cell's neighborhoods.
+    Show { cell: &'a str },
 }
 
 /// The command that the words are.
@@ -20,6 +24,13 @@ pub fn command_of(words: &[String]) -> Command<'_>
         [verb, cell, shift] if verb.as_str() == "solo" => Command::Solo {
             cell: cell.as_str(),
             shift: shift.as_str(),
+        },
+        [verb, cell, record_file] if verb.as_str() == "check" => Command::Check {
+            cell: cell.as_str(),
+            record_file: record_file.as_str(),
+        },
+        [verb, cell] if verb.as_str() == "show" => Command::Show {
+            cell: cell.as_str(),
         },
         _ => Command::Nothing,
     }

@@ -41,13 +41,10 @@ impl Conversation {
             self.behind.push(String::new(self.alloc))?;
             return Ok(());
         }
-        let text = match self.behind.last_mut() {
-            Some(behind) => behind,
-            None => &mut self.printed,
-        };
-        text.push_str(line)?;
-        text.push_str("\n")?;
-        Ok(())
+        match self.behind.last_mut() {
+            Some(behind) => add_line(behind, line),
+            None => add_line(&mut self.printed, line),
+        }
     }
 
     /// Ends with this exit status.
@@ -67,6 +64,15 @@ impl Conversation {
     /// The words of the call.
     pub fn words(&self) -> &[String] {
         self.words.as_slice()
+    }
+
+    /// What is to be printed, where no lines are left open.
+    pub fn whole_printed(&self) -> Result<Option<String>> {
+        if !self.behind.is_empty() {
+            return Ok(None);
+        }
+        let printed = String::from_str(self.alloc, self.printed.as_str())?;
+        Ok(Some(printed))
     }
 
     /// Whether a call that ended like this went as written.
@@ -104,6 +110,12 @@ impl Conversation {
         let text = text.as_str();
         Ok(format!(in self.alloc; "{text}= {status}\n")?)
     }
+}
+
+fn add_line(text: &mut String, line: &str) -> Result<()> {
+    text.push_str(line)?;
+    text.push_str("\n")?;
+    Ok(())
 }
 
 // What comes behind a piece, where it first stands at the beginning of a line.

@@ -100,7 +100,7 @@ fn play_puts<R: Threads + Wait + Sync>(
     })
 }
 
-// Plays it with either read failing: that is told, but where the call had ended before this read.
+// Plays it with either read failing: that is told, but where the call had ended before this read or has no such file.
 fn play_reads<R: Threads + Wait + Sync>(
     rt: &R,
     alloc: Global,
@@ -110,7 +110,8 @@ fn play_reads<R: Threads + Wait + Sync>(
 ) -> Result<Played> {
     for read in 1..3u64 {
         let told = call(rt, alloc, folder, conversation.words(), Failing::Read(read))?;
-        let ended_before = whole.status != 0 && told.is(whole.status, whole.text.as_slice());
+        let may_end_before = whole.status > 1 || read >= conversation.words().len() as u64;
+        let ended_before = may_end_before && told.is(whole.status, whole.text.as_slice());
         if !ended_before && !told.is(3, b"read fault\n") {
             let failing = format!(in alloc; " where read {read} fails")?;
             let wanted = String::from_str(alloc, "read fault\n= 3\n")?;

@@ -8,6 +8,7 @@
 //! | `== NAME` | a conversation begins |
 //! | `-- FILE` | the lines that follow are this file, each with its newline |
 //! | `-- FILE like OTHER` | the file is like the other one but for the lines that follow |
+//! | `-- FILE printed` | the file is what the last conversation is to print |
 //! | `-- FILE gone` | the file is taken away |
 //! | `$ WORDS` | the words of the call; what is printed follows |
 //! | `= STATUS` | the exit status: the conversation is whole |
@@ -45,6 +46,8 @@ pub struct Script {
     folder: Folder,
     part: Part,
     draft: Option<Draft>,
+    // What the last conversation is to print, where that is all written.
+    printed: Option<String>,
     next: Conversation,
 }
 
@@ -56,6 +59,7 @@ impl Script {
             folder: Folder::new(alloc),
             part: Part::Remarks,
             draft: None,
+            printed: None,
             next: Conversation::new(alloc, "")?,
         })
     }
@@ -114,6 +118,9 @@ impl Script {
             self.folder.take_away(name);
             return Ok(());
         }
+        if let Some(name) = file.strip_suffix(" printed") {
+            return self.keep_printed(name);
+        }
         let draft = match file.split_once(" like ") {
             None => Draft::new(self.alloc, file)?,
             Some((name, other)) => match self.folder.bytes_of(other) {
@@ -123,6 +130,14 @@ impl Script {
         };
         self.draft = Some(draft);
         Ok(())
+    }
+
+    fn keep_printed(&mut self, name: &str) -> Result<()> {
+        let Some(printed) = &self.printed else {
+            bail!("what was printed is not all written");
+        };
+        let bytes = printed.as_bytes().to_vec(self.alloc)?;
+        self.folder.put(String::from_str(self.alloc, name)?, bytes)
     }
 
     fn keep_draft(&mut self) -> Result<()> {
@@ -139,6 +154,7 @@ impl Script {
             return Ok(None);
         };
         self.next.end(status)?;
+        self.printed = self.next.whole_printed()?;
         self.part = Part::Remarks;
         let empty = Conversation::new(self.alloc, "")?;
         Ok(Some(mem::replace(&mut self.next, empty)))

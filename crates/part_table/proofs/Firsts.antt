@@ -20,14 +20,18 @@ module _ (r : ℕ) (keys : List ℕ) (room h : ℕ) (first : IsFirst r keys room
     pub pushed_first : key ≡ r → length keys ≤ h → IsFirst r (keys ++ key ∷ []) room (length keys)
     pushed_first same none = record {
       here = λ below. at_end ∙ same;
-      least = λ k below is. ⊎_elim (λ earlier. absurd (omega (arith, none, earlier, first.least k earlier (sym (before k earlier) ∙ is)))) (λ late. late) (cases_lt k (length keys));
+      least = λ k below is. ⊎_elim
+          (λ earlier. absurd (omega (arith, none, earlier, first.least k earlier (sym (before k earlier) ∙ is)))) (λ late. late)
+          (cases_lt k (length keys));
       past = λ beyond. absurd (omega (arith, long, beyond));
     }
 
     pub pushed_other : (key ≡ r → h < length keys) → IsFirst r (keys ++ key ∷ []) room h
     pushed_other kept = record {
-      here = λ below. ⊎_elim (λ inside. before h inside ∙ first.here inside) (λ outside. absurd (omega (arith, long, below, more, first.past outside))) (cases_lt h (length keys));
-      least = λ k below is. ⊎_elim (λ earlier. first.least k earlier (sym (before k earlier) ∙ is)) (λ late. last k below late is) (cases_lt k (length keys));
+      here = λ below. ⊎_elim (λ inside. before h inside ∙ first.here inside)
+          (λ outside. absurd (omega (arith, long, below, more, first.past outside))) (cases_lt h (length keys));
+      least = λ k below is. ⊎_elim (λ earlier. first.least k earlier (sym (before k earlier) ∙ is)) (λ late. last k below late is)
+          (cases_lt k (length keys));
       past = λ beyond. first.past (omega (arith, long, beyond));
     }
       where
@@ -59,19 +63,22 @@ module _ (keys first : List ℕ) (room key : ℕ) (are : AreFirst keys first roo
       by : (a b : Bool) → nat_lt key (length first) ≡ a → nat_le (length keys) (get_or first key 0) ≡ b
           → AreFirst (keys ++ key ∷ []) (cond (a && b) (set first key (length keys)) first) room
       by true true lane none = record {
-        each = λ r within. noted_at r (subst (λ n. r < n) (length-set first key (length keys)) within) (ltb-true _ _ lane) (leb-true _ _ none);
+        each = λ r within. noted_at r (subst (λ n. r < n) (length-set first key (length keys)) within) (ltb-true _ _ lane)
+            (leb-true _ _ none);
         few = subst (λ n. n ≤ OFF) (sym (length-set first key (length keys))) are.few;
         within = omega (arith, more, length_push keys key);
         small = are.small;
       }
       by true false lane some = record {
-        each = λ r within. pushed_other r keys room _ (are.each r within) key more (λ e. subst (λ n. get_or first n 0 < length keys) e (leb-false _ _ some));
+        each = λ r within. pushed_other r keys room _ (are.each r within) key more
+            (λ e. subst (λ n. get_or first n 0 < length keys) e (leb-false _ _ some));
         few = are.few;
         within = omega (arith, more, length_push keys key);
         small = are.small;
       }
       by false b lane some = record {
-        each = λ r within. pushed_other r keys room _ (are.each r within) key more (λ e. absurd (omega (arith, e, within, ltb-false _ _ lane)));
+        each = λ r within. pushed_other r keys room _ (are.each r within) key more
+            (λ e. absurd (omega (arith, e, within, ltb-false _ _ lane)));
         few = are.few;
         within = omega (arith, more, length_push keys key);
         small = are.small;

@@ -36,5 +36,6 @@ part_at entries job at entry place here =
 
 pub part_absent : (entries : List Entry) (job : JobId) → IsAbsent entries job → None ≡ part_of (parts_of (staying entries)) job
 part_absent entries job absent =
-    sym (ap (option_map (λ (item : Standing). item.part)) (none_staying (is_job job) entries (λ k other e. passes_not job other (absent k other e))))
+    sym (ap (option_map (λ (item : Standing). item.part))
+    (none_staying (is_job job) entries (λ k other e. passes_not job other (absent k other e))))
     ∙ sym (part_of-find (staying entries) job)

@@ -8,7 +8,7 @@ use Rattle.part_table.specs.declared.standing.Standing.{Standing}
 use Rattle.part_table.specs.declared.standing.Entry.{Entry}
 use Rattle.part_table.specs.declared.heads.TheConstants.{OFF}
 use Rattle.part_table.specs.Heads.{Keyed}
-use Rattle.part_table.specs.Logs.{job_of, IsAbsent, IsLogged, standing_key, waiting_key, key_of_waiting}
+use Rattle.part_table.specs.Logs.{gone_entry, done_entry, job_of, IsAbsent, IsLogged, standing_key, waiting_key, key_of_waiting}
 use Rattle.part_table.proofs.Places.{places_pushed, places_changed}
 
 -- what was read at a place stands there
@@ -23,8 +23,10 @@ module _ {S : Type 0} (entries : List Entry) (room : ℕ) (places : HashMap ℕ 
       → length entries < room
       → ((q : ℕ) → get nat_eq next q ≡ cond (nat_eq item.part.job.0 q) (Some (length entries)) (get nat_eq places q))
       → hash_map_len next ≤ hash_map_len places + 1 → hash_map_len places + spare places ≤ hash_map_len next + spare next
-      → standing-next.keys ≡ standing.keys ++ item.on.0 ∷ [] → standing-next.room ≡ standing.room → standing-next.resources ≡ standing.resources
-      → waiting-next.keys ≡ waiting.keys ++ key_of_waiting item ∷ [] → waiting-next.room ≡ waiting.room → waiting-next.resources ≡ waiting.resources
+      → standing-next.keys ≡ standing.keys ++ item.on.0 ∷ [] → standing-next.room ≡ standing.room
+      → standing-next.resources ≡ standing.resources
+      → waiting-next.keys ≡ waiting.keys ++ key_of_waiting item ∷ [] → waiting-next.room ≡ waiting.room
+      → waiting-next.resources ≡ waiting.resources
       → IsLogged (entries ++ (record { item = item; stays = true }) ∷ []) room next standing-next waiting-next
   logged_pushed item next standing-next waiting-next absent more noted one_more left keys keys_room keys_on waits waits_room waits_on =
       let last : Entry = record { item = item; stays = true } in
@@ -40,10 +42,13 @@ module _ {S : Type 0} (entries : List Entry) (room : ℕ) (places : HashMap ℕ 
         resources = waits_on ∙ log.resources ∙ sym keys_on;
       }
 
-  logged_changed : (i : ℕ) (old next : Entry) (standing-next waiting-next : Keyed) → slice_get entries i ≡ Some old → job_of next ≡ job_of old
+  logged_changed : (i : ℕ) (old next : Entry) (standing-next waiting-next : Keyed) → slice_get entries i ≡ Some old
+      → job_of next ≡ job_of old
       → (next.stays ≡ true → old.stays ≡ true)
-      → standing-next.keys ≡ map standing_key (set entries i next) → standing-next.room ≡ standing.room → standing-next.resources ≡ standing.resources
-      → waiting-next.keys ≡ map waiting_key (set entries i next) → waiting-next.room ≡ waiting.room → waiting-next.resources ≡ waiting.resources
+      → standing-next.keys ≡ map standing_key (set entries i next) → standing-next.room ≡ standing.room
+      → standing-next.resources ≡ standing.resources
+      → waiting-next.keys ≡ map waiting_key (set entries i next) → waiting-next.room ≡ waiting.room
+      → waiting-next.resources ≡ waiting.resources
       → IsLogged (set entries i next) room places standing-next waiting-next
   logged_changed i old next standing-next waiting-next there job stays keys keys_room keys_on waits waits_room waits_on = record {
     within = subst (λ n. n ≤ room) (sym (length-set entries i next)) log.within;
@@ -61,7 +66,7 @@ module _ {S : Type 0} (entries : List Entry) (room : ℕ) (places : HashMap ℕ 
   pub logged_taken : (i : ℕ) (old : Entry) (standing-next waiting-next : Keyed) → slice_get entries i ≡ Some old
       → standing-next.keys ≡ set standing.keys i OFF → standing-next.room ≡ standing.room → standing-next.resources ≡ standing.resources
       → waiting-next.keys ≡ set waiting.keys i OFF → waiting-next.room ≡ waiting.room → waiting-next.resources ≡ waiting.resources
-      → IsLogged (set entries i (record old { stays = false })) room places standing-next waiting-next
+      → IsLogged (set entries i (gone_entry old)) room places standing-next waiting-next
   logged_taken i old standing-next waiting-next there keys keys_room keys_on waits waits_room waits_on =
       let next : Entry = record old { stays = false } in
       logged_changed i old next standing-next waiting-next there refl (λ stays. absurd (cc stays))
@@ -75,9 +80,12 @@ module _ {S : Type 0} (entries : List Entry) (room : ℕ) (places : HashMap ℕ 
   -- an entry whose part is done
   pub logged_finished : (i : ℕ) (old : Entry) (waiting-next : Keyed) → slice_get entries i ≡ Some old
       → waiting-next.keys ≡ set waiting.keys i OFF → waiting-next.room ≡ waiting.room → waiting-next.resources ≡ waiting.resources
-      → IsLogged (set entries i (record old { item = record old.item { part = record old.item.part { done = true } } })) room places standing waiting-next
+      → IsLogged (set entries i (done_entry old)) room places standing waiting-next
   logged_finished i old waiting-next there waits waits_room waits_on =
       let next : Entry = record old { item = record old.item { part = record old.item.part { done = true } } } in
       logged_changed i old next standing waiting-next there refl (λ stays. stays)
-      (log.standing_keys ∙ sym (map-set_same standing_key entries i next old (ap standing_key (sym (get_or_from_slice_get entries i old old there))))) refl refl
-      (waits ∙ ap (λ ks. set ks i OFF) log.waiting_keys ∙ ap (λ k. set (map waiting_key entries) i k) (sym (done_waits_not old.stays 0)) ∙ sym (map-set waiting_key entries i next)) waits_room waits_on
+      (log.standing_keys ∙ sym
+      (map-set_same standing_key entries i next old
+      (ap standing_key (sym (get_or_from_slice_get entries i old old there))))) refl refl
+      (waits ∙ ap (λ ks. set ks i OFF) log.waiting_keys ∙ ap (λ k. set (map waiting_key entries) i k) (sym (done_waits_not old.stays 0))
+      ∙ sym (map-set waiting_key entries i next)) waits_room waits_on

@@ -10,7 +10,8 @@ use Rattle.part_table.specs.Logs.{job_of, IsAbsent, ArePlaces}
 
 module _ {X : Type 0} where
   -- what stands in a list with one more at its end
-  pub get_in_push : (xs : List X) (y x : X) (k : ℕ) → slice_get (xs ++ y ∷ []) k ≡ Some x → (slice_get xs k ≡ Some x) ⊎ ((k ≡ length xs) × (y ≡ x))
+  pub get_in_push : (xs : List X) (y x : X) (k : ℕ) → slice_get (xs ++ y ∷ []) k ≡ Some x
+      → (slice_get xs k ≡ Some x) ⊎ ((k ≡ length xs) × (y ≡ x))
   get_in_push [] y x zero e = inr (refl, same_Some y x e)
   get_in_push [] y x (suc k) e = absurd (none-some x e)
   get_in_push (z ∷ xs) y x zero e = inl e
@@ -27,13 +28,15 @@ module _ {X : Type 0} where
   get_last (z ∷ xs) y = get_last xs y
 
   -- what stands in a list after a write
-  pub get_in_set : (xs : List X) (i k : ℕ) (y x : X) → slice_get (set xs i y) k ≡ Some x → ((k ≡ i) × (y ≡ x)) ⊎ (k ≢ i × (slice_get xs k ≡ Some x))
+  pub get_in_set : (xs : List X) (i k : ℕ) (y x : X) → slice_get (set xs i y) k ≡ Some x
+      → ((k ≡ i) × (y ≡ x)) ⊎ (k ≢ i × (slice_get xs k ≡ Some x))
   get_in_set [] i k y x e = absurd (none-some x e)
   get_in_set (z ∷ xs) zero zero y x e = inl (refl, same_Some y x e)
   get_in_set (z ∷ xs) zero (suc k) y x e = inr (λ same. absurd (omega (arith, same)), e)
   get_in_set (z ∷ xs) (suc i) zero y x e = inr (λ same. absurd (omega (arith, same)), e)
   get_in_set (z ∷ xs) (suc i) (suc k) y x e =
-      ⊎_elim (λ here. inl (omega (arith, here.0), here.1)) (λ other. inr (λ same. other.0 (omega (arith, same)), other.1)) (get_in_set xs i k y x e)
+      ⊎_elim (λ here. inl (omega (arith, here.0), here.1)) (λ other. inr (λ same. other.0 (omega (arith, same)), other.1))
+      (get_in_set xs i k y x e)
 
   pub get_at_set : (xs : List X) (i : ℕ) (y x : X) → slice_get xs i ≡ Some x → slice_get (set xs i y) i ≡ Some y
   get_at_set [] i y x e = absurd (none-some x e)
@@ -53,7 +56,8 @@ module _ {S : Type 0} (entries : List Entry) (places next : HashMap ℕ ℕ S) (
     (noted : (q : ℕ) → get nat_eq next q ≡ cond (nat_eq item.part.job.0 q) (Some (length entries)) (get nat_eq places q)) where
   pub places_pushed : hash_map_len next ≤ hash_map_len places + 1 → ArePlaces (entries ++ (record { item = item; stays = true }) ∷ []) next
   places_pushed one_more = record {
-    placed = λ k entry e stays. ⊎_elim (earlier k entry stays) (at_end k entry) (get_in_push entries (record { item = item; stays = true }) entry k e);
+    placed = λ k entry e stays. ⊎_elim (earlier k entry stays) (at_end k entry)
+        (get_in_push entries (record { item = item; stays = true }) entry k e);
     found = λ job k e. found_by job k (nat_eq item.part.job.0 job) refl (sym (noted job) ∙ e);
     few = omega (arith, one_more, are.few, length_push entries (record { item = item; stays = true }));
   }
@@ -65,7 +69,8 @@ module _ {S : Type 0} (entries : List Entry) (places next : HashMap ℕ ℕ S) (
           (ne_eqb item.part.job.0 (job_of entry) (λ same. absent k entry e stays (sym same)))
           ∙ are.placed k entry e stays
 
-      at_end : (k : ℕ) (entry : Entry) → (k ≡ length entries) × ((let y : Entry = record { item = item; stays = true } in y) ≡ entry) → get nat_eq next (job_of entry) ≡ Some k
+      at_end : (k : ℕ) (entry : Entry) → (k ≡ length entries) × ((let y : Entry = record { item = item; stays = true } in y) ≡ entry)
+          → get nat_eq next (job_of entry) ≡ Some k
       at_end k entry h =
           subst (λ (x : Entry). get nat_eq next (job_of x) ≡ Some k) h.1
           (noted item.part.job.0
@@ -86,7 +91,8 @@ module _ {S : Type 0} (entries : List Entry) (places next : HashMap ℕ ℕ S) (
 
 -- an entry that changes, with its job, and does not stay again
 pub places_changed : {S : Type 0} (entries : List Entry) (places : HashMap ℕ ℕ S) → ArePlaces entries places → (i : ℕ) (old next : Entry)
-    → slice_get entries i ≡ Some old → job_of next ≡ job_of old → (next.stays ≡ true → old.stays ≡ true) → ArePlaces (set entries i next) places
+    → slice_get entries i ≡ Some old → job_of next ≡ job_of old → (next.stays ≡ true → old.stays ≡ true)
+    → ArePlaces (set entries i next) places
 places_changed entries places are i old next there job stays = record {
   placed = λ k entry e here. ⊎_elim (same k entry here) (λ other. are.placed k entry other.1 here) (get_in_set entries i k next entry e);
   found = λ j k e. let was = are.found j k e in found_now j k was.0 was.1 was.2 (cases_eq k i);

@@ -34,14 +34,16 @@ filter-map f p [] = refl
 filter-map f p (x ∷ xs) = at (p (f x)) (filter-map f p xs)
   where
     at : (b : Bool) → filter p (map f xs) ≡ map f (filter (λ x. p (f x)) xs)
-        → cond b (f x ∷ filter p (map f xs)) (filter p (map f xs)) ≡ map f (cond b (x ∷ filter (λ x. p (f x)) xs) (filter (λ x. p (f x)) xs))
+        → cond b (f x ∷ filter p (map f xs)) (filter p (map f xs)) ≡ map f
+        (cond b (x ∷ filter (λ x. p (f x)) xs) (filter (λ x. p (f x)) xs))
     at true later = ap (λ rest. f x ∷ rest) later
     at false later = later
 
 pub parts_of-without : (items : List Standing) (job : JobId) → parts_of (without_job items job) ≡ without (parts_of items) job
 parts_of-without items job = sym (filter-map (λ (item : Standing). item.part) (λ part. not (is_of_job job part)) items)
 
-pub part_of-find : (items : List Standing) (job : JobId) → part_of (parts_of items) job ≡ option_map (λ (item : Standing). item.part) (find (is_job job) items)
+pub part_of-find : (items : List Standing) (job : JobId)
+    → part_of (parts_of items) job ≡ option_map (λ (item : Standing). item.part) (find (is_job job) items)
 part_of-find items job = find-map (λ (item : Standing). item.part) (is_of_job job) items
 
 -- one part more
@@ -51,7 +53,8 @@ distinct_arrived items part on distinct absent =
     rw map-append (distinct-push (parts_of items) part distinct (others_from_not_loaded (parts_of items) part.job absent))
 
 -- one part less
-pub distinct_departed : (items : List Standing) (job : JobId) → HaveDistinctJobs (parts_of items) → HaveDistinctJobs (parts_of (without_job items job))
+pub distinct_departed : (items : List Standing) (job : JobId) → HaveDistinctJobs (parts_of items)
+    → HaveDistinctJobs (parts_of (without_job items job))
 distinct_departed items job distinct = rw (parts_of-without items job) (distinct-without (parts_of items) job distinct)
 
 pub absent_departed : (items : List Standing) (job : JobId) → is_loaded (parts_of (without_job items job)) job ≡ false
@@ -61,15 +64,21 @@ absent_departed items job =
 -- the part of a job that goes on
 pub advanced_is : (items : List Standing) (job : JobId) (place : ℕ) (done : Bool) (on : ResId) (part : Part)
     → part_of (parts_of items) job ≡ Some part
-    → advanced items job place done on ≡ without_job items job ++ (record { part = record part { place = place; done = done }; on = on }) ∷ []
+    → advanced items job place done on ≡
+    without_job items job ++ (record { part = record part { place = place; done = done }; on = on }) ∷ []
 advanced_is items job place done on part e = at (find (is_job job) items) (sym (part_of-find items job) ∙ e)
   where
     at : (found : Option Standing) → option_map (λ (item : Standing). item.part) found ≡ Some part
-        → option_map_or (λ (item : Standing). without_job items job ++ (record { part = record item.part { place = place; done = done }; on = on }) ∷ []) found items
+        → option_map_or (λ (item : Standing). without_job items job ++ (record {
+          part =
+              record item.part { place = place; done = done };
+          on = on;
+        }) ∷ []) found items
         ≡ without_job items job ++ (record { part = record part { place = place; done = done }; on = on }) ∷ []
     at None h = absurd (none-some part h)
     at (Some item) h =
-        ap (λ (p : Part). let last : Standing = record { part = record p { place = place; done = done }; on = on } in without_job items job ++ last ∷ [])
+        ap (λ (p : Part). let last : Standing = record { part = record p { place = place; done = done }; on = on } in
+        without_job items job ++ last ∷ [])
         (same_Some item.part part h)
 
 pub advanced_none : (items : List Standing) (job : JobId) (place : ℕ) (done : Bool) (on : ResId) → part_of (parts_of items) job ≡ None
@@ -77,7 +86,12 @@ pub advanced_none : (items : List Standing) (job : JobId) (place : ℕ) (done : 
 advanced_none items job place done on e = at (find (is_job job) items) (sym (part_of-find items job) ∙ e)
   where
     at : (found : Option Standing) → option_map (λ (item : Standing). item.part) found ≡ None
-        → items ≡ option_map_or (λ (item : Standing). without_job items job ++ (record { part = record item.part { place = place; done = done }; on = on }) ∷ []) found items
+        → items ≡ option_map_or
+        (λ (item : Standing). without_job items job ++ (record {
+          part = record item.part { place = place; done = done };
+          on =
+              on;
+        }) ∷ []) found items
     at None h = refl
     at (Some item) h = absurd (none-some item.part (sym h))
 
@@ -85,7 +99,8 @@ advanced_none items job place done on e = at (find (is_job job) items) (sym (par
 finish-job : (job : JobId) (item : Standing) → (finish job item).part.job ≡ item.part.job
 finish-job job item = at (is_job job item)
   where
-    at : (b : Bool) → (let done : Standing = record item { part = record item.part { done = true } } in (cond b done item).part.job) ≡ item.part.job
+    at : (b : Bool) → (let done : Standing = record item { part = record item.part { done = true } } in (cond b done item).part.job) ≡
+        item.part.job
     at true = refl
     at false = refl
 
@@ -101,12 +116,14 @@ All_finished P (item ∷ items) job all =
     (subst P (sym (finish-job job item)) (All-head (λ (part : Part). P part.job) item.part (parts_of items) all))
     (All_finished P items job (All-tail (λ (part : Part). P part.job) item.part (parts_of items) all))
 
-pub distinct_finished : (items : List Standing) (job : JobId) → HaveDistinctJobs (parts_of items) → HaveDistinctJobs (parts_of (finished items job))
+pub distinct_finished : (items : List Standing) (job : JobId) → HaveDistinctJobs (parts_of items)
+    → HaveDistinctJobs (parts_of (finished items job))
 distinct_finished [] job distinct = distinct
 distinct_finished (item ∷ items) job distinct =
     AllPairs-cons (λ (a b : Part). a.job ≢ b.job) (finish job item).part (parts_of (finished items job))
     (subst (λ (j : JobId). All (λ (other : Part). j ≢ other.job) (parts_of (finished items job))) (sym (finish-job job item))
-    (All_finished (λ (j : JobId). item.part.job ≢ j) items job (pairs_head (λ (a b : Part). a.job ≢ b.job) item.part (parts_of items) distinct)))
+    (All_finished (λ (j : JobId). item.part.job ≢ j) items job
+    (pairs_head (λ (a b : Part). a.job ≢ b.job) item.part (parts_of items) distinct)))
     (distinct_finished items job (pairs_tail (λ (a b : Part). a.job ≢ b.job) item.part (parts_of items) distinct))
 
 pub same_job : (job : JobId) (part : Part) → is_of_job job part ≡ true → part.job ≡ job
@@ -127,5 +144,6 @@ length_departed items job distinct present =
     let without_it : length (without (parts_of items) job) + 1 ≡ length (parts_of items) =
     subst (λ (j : JobId). length (without (parts_of items) j) + 1 ≡ length (parts_of items)) (same_job job found.0 found.2) less_parts in
     let of_items : length (parts_of items) ≡ length items = length-map items (λ (item : Standing). item.part) in
-    let of_rest : length (parts_of (without_job items job)) ≡ length (without_job items job) = length-map (without_job items job) (λ (item : Standing). item.part) in
+    let of_rest : length (parts_of (without_job items job)) ≡ length (without_job items job) =
+    length-map (without_job items job) (λ (item : Standing). item.part) in
     omega (arith, without_it, of_items, of_rest, ap length (parts_of-without items job))

@@ -14,8 +14,14 @@ use Rattle.part_table.specs.declared.standing.Entry.{Entry}
 use Rattle.part_table.specs.declared.heads.TheConstants.{OFF, NOWHERE}
 use Rattle.part_table.specs.Heads.{IsFirst}
 use Rattle.part_table.specs.Parts.{parts_of, is_job, is_on, is_waiting, without_job, finished}
-use Rattle.part_table.specs.Logs.{staying, job_of, IsAbsent, standing_key, waiting_key}
+use Rattle.part_table.specs.Logs.{gone_entry, done_entry, staying, job_of, IsAbsent, standing_key, waiting_key}
 use Rattle.part_table.proofs.Standings.{finish_no}
+
+abbrev pub is_staying : Entry → Bool
+is_staying entry = entry.stays
+
+abbrev pub item_of : Entry → Standing
+item_of entry = entry.item
 
 -- the first that passes a test, among those that stay
 module _ (test : Standing → Bool) where
@@ -27,7 +33,7 @@ module _ (test : Standing → Bool) where
   find_skip y ys e = at y.stays (test y.item) refl e
     where
       at : (a b : Bool) → test y.item ≡ b → (a && b) ≡ false
-          → find test (map (λ (x : Entry). x.item) (cond a (y ∷ filter (λ (x : Entry). x.stays) ys) (filter (λ (x : Entry). x.stays) ys))) ≡ find test (staying ys)
+          → find test (map item_of (cond a (y ∷ filter is_staying ys) (filter is_staying ys))) ≡ find test (staying ys)
       at true true is h = absurd (false≢true (sym h))
       at true false is h = ap (λ b. cond b (Some y.item) (find test (staying ys))) is
       at false b is h = refl
@@ -36,13 +42,14 @@ module _ (test : Standing → Bool) where
   find_take y ys e = at y.stays (test y.item) refl e
     where
       at : (a b : Bool) → test y.item ≡ b → (a && b) ≡ true
-          → find test (map (λ (x : Entry). x.item) (cond a (y ∷ filter (λ (x : Entry). x.stays) ys) (filter (λ (x : Entry). x.stays) ys))) ≡ Some y.item
+          → find test (map item_of (cond a (y ∷ filter is_staying ys) (filter is_staying ys))) ≡ Some y.item
       at true true is h = ap (λ b. cond b (Some y.item) (find test (staying ys))) is
       at true false is h = absurd (false≢true h)
       at false b is h = absurd (false≢true h)
 
   pub first_staying : (entries : List Entry) (at : ℕ) (found : Entry) → slice_get entries at ≡ Some found → passes found ≡ true
-      → ((k : ℕ) (entry : Entry) → k < at → slice_get entries k ≡ Some entry → passes entry ≡ false) → find test (staying entries) ≡ Some found.item
+      → ((k : ℕ) (entry : Entry) → k < at → slice_get entries k ≡ Some entry → passes entry ≡ false)
+      → find test (staying entries) ≡ Some found.item
   first_staying [] at found e here before = absurd (none-some found e)
   first_staying (y ∷ ys) zero found e here before =
       let same = same_Some y found e in
@@ -65,7 +72,8 @@ module _ (test : Standing → Bool) where
         ∙ get_or-map key entries k entry 0 (slice_get_within entries k entry e)
         ∙ ap key (get_or_from_slice_get entries k entry entry e)
 
-    pub found_by_key : (at : ℕ) (found : Entry) → IsFirst r keys NOWHERE at → slice_get entries at ≡ Some found → find test (staying entries) ≡ Some found.item
+    pub found_by_key : (at : ℕ) (found : Entry) → IsFirst r keys NOWHERE at → slice_get entries at ≡ Some found
+        → find test (staying entries) ≡ Some found.item
     found_by_key at found first e = first_staying entries at found e here before
       where
         long : length keys ≡ length entries
@@ -80,7 +88,8 @@ module _ (test : Standing → Bool) where
         before k entry less is =
             let inside = slice_get_within entries k entry is in
             sym (shows entry)
-            ∙ ne_eqb (key entry) r (λ same. absurd (omega (arith, less, first.least k (omega (arith, inside, long)) (key_at k entry is ∙ same))))
+            ∙ ne_eqb (key entry) r
+            (λ same. absurd (omega (arith, less, first.least k (omega (arith, inside, long)) (key_at k entry is ∙ same))))
 
     pub none_by_key : ((k : ℕ) → k < length keys → get_or keys k 0 ≡ r → ⊥) → find test (staying entries) ≡ None
     none_by_key none = none_staying entries fails
@@ -113,29 +122,33 @@ waiting_shows on below entry = at entry.stays entry.item.part.done
     at false done = off_is_no_resource on.0 below
 
 -- none of the entries that stay is of the job, as a fact of the parts
-pub not_loaded_from_absent : (entries : List Entry) (job : JobId) → IsAbsent entries job → is_loaded (parts_of (staying entries)) job ≡ false
+pub not_loaded_from_absent : (entries : List Entry) (job : JobId) → IsAbsent entries job
+    → is_loaded (parts_of (staying entries)) job ≡ false
 not_loaded_from_absent [] job absent = refl
 not_loaded_from_absent (y ∷ ys) job absent =
     at y.stays refl (not_loaded_from_absent ys job (λ k entry e stays same. absent (suc k) entry e stays same))
   where
     at : (a : Bool) → y.stays ≡ a → is_loaded (parts_of (staying ys)) job ≡ false
-        → is_loaded (parts_of (map (λ (x : Entry). x.item) (cond a (y ∷ filter (λ (x : Entry). x.stays) ys) (filter (λ (x : Entry). x.stays) ys)))) job ≡ false
-    at true stays rest = or_from (is_of_job job y.item.part) (is_loaded (parts_of (staying ys)) job) (ne_eqb (job_of y) job.0 (absent 0 y refl stays)) rest
+        → is_loaded (parts_of (map item_of (cond a (y ∷ filter is_staying ys) (filter is_staying ys)))) job ≡ false
+    at true stays rest =
+        or_from (is_of_job job y.item.part) (is_loaded (parts_of (staying ys)) job) (ne_eqb (job_of y) job.0 (absent 0 y refl stays)) rest
     at false stays rest = rest
 
-pub absent_from_not_loaded : (entries : List Entry) (job : JobId) → is_loaded (parts_of (staying entries)) job ≡ false → IsAbsent entries job
+pub absent_from_not_loaded : (entries : List Entry) (job : JobId) → is_loaded (parts_of (staying entries)) job ≡ false
+    → IsAbsent entries job
 absent_from_not_loaded [] job none = λ k entry e stays same. none-some entry e
 absent_from_not_loaded (y ∷ ys) job none = at y.stays refl none (absent_from_not_loaded ys job)
   where
-    head : (k : ℕ) (entry : Entry) → (y.stays ≡ true → job_of y ≡ job.0 → ⊥) → IsAbsent ys job → slice_get (y ∷ ys) k ≡ Some entry → entry.stays ≡ true
+    head : (k : ℕ) (entry : Entry) → (y.stays ≡ true → job_of y ≡ job.0 → ⊥) → IsAbsent ys job → slice_get (y ∷ ys) k ≡ Some entry
+        → entry.stays ≡ true
         → job_of entry ≡ job.0 → ⊥
     head zero entry here behind e stays same =
         let is = same_Some y entry e in
-        here (ap (λ (x : Entry). x.stays) is ∙ stays) (ap job_of is ∙ same)
+        here (ap is_staying is ∙ stays) (ap job_of is ∙ same)
     head (suc k) entry here behind e stays same = behind k entry e stays same
 
     at : (a : Bool) → y.stays ≡ a
-        → is_loaded (parts_of (map (λ (x : Entry). x.item) (cond a (y ∷ filter (λ (x : Entry). x.stays) ys) (filter (λ (x : Entry). x.stays) ys)))) job ≡ false
+        → is_loaded (parts_of (map item_of (cond a (y ∷ filter is_staying ys) (filter is_staying ys)))) job ≡ false
         → (is_loaded (parts_of (staying ys)) job ≡ false → IsAbsent ys job) → IsAbsent (y ∷ ys) job
     at true stays none later k entry e stays_too same =
         let split = or_parts (is_of_job job y.item.part) (is_loaded (parts_of (staying ys)) job) none in
@@ -150,7 +163,7 @@ without_absent (y ∷ ys) job absent =
     at y.stays refl (without_absent ys job (λ k entry e stays same. absent (suc k) entry e stays same))
   where
     at : (a : Bool) → y.stays ≡ a → without_job (staying ys) job ≡ staying ys
-        → (let rest = map (λ (x : Entry). x.item) (cond a (y ∷ filter (λ (x : Entry). x.stays) ys) (filter (λ (x : Entry). x.stays) ys)) in without_job rest job ≡ rest)
+        → (let rest = map item_of (cond a (y ∷ filter is_staying ys) (filter is_staying ys)) in without_job rest job ≡ rest)
     at true stays rest = rw (ne_eqb (job_of y) job.0 (absent 0 y refl stays)) (ap (λ items. y.item ∷ items) rest)
     at false stays rest = rest
 
@@ -160,74 +173,82 @@ finished_absent (y ∷ ys) job absent =
     at y.stays refl (finished_absent ys job (λ k entry e stays same. absent (suc k) entry e stays same))
   where
     at : (a : Bool) → y.stays ≡ a → finished (staying ys) job ≡ staying ys
-        → (let rest = map (λ (x : Entry). x.item) (cond a (y ∷ filter (λ (x : Entry). x.stays) ys) (filter (λ (x : Entry). x.stays) ys)) in finished rest job ≡ rest)
+        → (let rest = map item_of (cond a (y ∷ filter is_staying ys) (filter is_staying ys)) in finished rest job ≡ rest)
     at true stays rest = ap₂ ◌∷◌ (finish_no job y.item (ne_eqb (job_of y) job.0 (absent 0 y refl stays))) rest
     at false stays rest = rest
 
 -- the part of a job leaves
-pub staying_taken : (entries : List Entry) (at : ℕ) (old : Entry) (job : JobId) → slice_get entries at ≡ Some old → old.stays ≡ true → job_of old ≡ job.0
+pub staying_taken : (entries : List Entry) (at : ℕ) (old : Entry) (job : JobId) → slice_get entries at ≡ Some old → old.stays ≡ true
+    → job_of old ≡ job.0
     → ((k : ℕ) (entry : Entry) → slice_get entries k ≡ Some entry → entry.stays ≡ true → job_of entry ≡ job.0 → k ≡ at)
-    → staying (set entries at (record old { stays = false })) ≡ without_job (staying entries) job
+    → staying (set entries at (gone_entry old)) ≡ without_job (staying entries) job
 staying_taken [] at old job e stays is unique = absurd (none-some old e)
 staying_taken (y ∷ ys) zero old job e stays is unique =
     let same = same_Some y old e in
-    let here : y.stays ≡ true = ap (λ (x : Entry). x.stays) same ∙ stays in
+    let here : y.stays ≡ true = ap is_staying same ∙ stays in
     let of_job : is_job job y.item ≡ true = eq-eqb (job_of y) job.0 (ap job_of same ∙ is) in
-    let others = without_absent ys job (λ k entry there stays_too of_it. absurd (omega (arith, unique (suc k) entry there stays_too of_it))) in
+    let others = without_absent ys job
+    (λ k entry there stays_too of_it. absurd (omega (arith, unique (suc k) entry there stays_too of_it))) in
     rw (here, of_job) (sym others)
 staying_taken (y ∷ ys) (suc at) old job e stays is unique =
-    by y.stays refl (staying_taken ys at old job e stays is (λ k entry there stays_too of_it. omega (arith, unique (suc k) entry there stays_too of_it)))
+    by y.stays refl (staying_taken ys at old job e stays is
+    (λ k entry there stays_too of_it. omega (arith, unique (suc k) entry there stays_too of_it)))
   where
-    by : (a : Bool) → y.stays ≡ a → staying (set ys at (record old { stays = false })) ≡ without_job (staying ys) job
-        → map (λ (x : Entry). x.item) (cond a (y ∷ filter (λ (x : Entry). x.stays) (set ys at (record old { stays = false }))) (filter (λ (x : Entry). x.stays) (set ys at (record old { stays = false }))))
-        ≡ without_job (map (λ (x : Entry). x.item) (cond a (y ∷ filter (λ (x : Entry). x.stays) ys) (filter (λ (x : Entry). x.stays) ys))) job
+    by : (a : Bool) → y.stays ≡ a → staying (set ys at (gone_entry old)) ≡ without_job (staying ys) job
+        → map item_of (cond a (y ∷ filter is_staying (set ys at (gone_entry old))) (filter is_staying (set ys at (gone_entry old))))
+        ≡ without_job (map item_of (cond a (y ∷ filter is_staying ys) (filter is_staying ys))) job
     by true here rest =
         let other : is_job job y.item ≡ false = ne_eqb (job_of y) job.0 (λ of_it. absurd (omega (arith, unique 0 y refl here of_it))) in
         rw other (ap (λ items. y.item ∷ items) rest)
     by false gone rest = rest
 
 -- the part of a job is done
-pub staying_finished : (entries : List Entry) (at : ℕ) (old : Entry) (job : JobId) → slice_get entries at ≡ Some old → old.stays ≡ true → job_of old ≡ job.0
+pub staying_finished : (entries : List Entry) (at : ℕ) (old : Entry) (job : JobId) → slice_get entries at ≡ Some old → old.stays ≡ true
+    → job_of old ≡ job.0
     → ((k : ℕ) (entry : Entry) → slice_get entries k ≡ Some entry → entry.stays ≡ true → job_of entry ≡ job.0 → k ≡ at)
-    → staying (set entries at (record old { item = record old.item { part = record old.item.part { done = true } } })) ≡ finished (staying entries) job
+    → staying (set entries at (done_entry old)) ≡ finished (staying entries) job
 staying_finished [] at old job e stays is unique = absurd (none-some old e)
 staying_finished (y ∷ ys) zero old job e stays is unique =
     let same = same_Some y old e in
-    let here : y.stays ≡ true = ap (λ (x : Entry). x.stays) same ∙ stays in
+    let here : y.stays ≡ true = ap is_staying same ∙ stays in
     let of_job : is_job job y.item ≡ true = eq-eqb (job_of y) job.0 (ap job_of same ∙ is) in
-    let others = finished_absent ys job (λ k entry there stays_too of_it. absurd (omega (arith, unique (suc k) entry there stays_too of_it))) in
+    let others = finished_absent ys job
+    (λ k entry there stays_too of_it. absurd (omega (arith, unique (suc k) entry there stays_too of_it))) in
     rw (here, of_job, stays)
     (ap₂ (λ (item : Standing) items. (let done : Standing = record item { part = record item.part { done = true } } in done) ∷ items)
-    (ap (λ (x : Entry). x.item) (sym same)) (sym others))
+    (ap item_of (sym same)) (sym others))
 staying_finished (y ∷ ys) (suc at) old job e stays is unique =
-    by y.stays refl (staying_finished ys at old job e stays is (λ k entry there stays_too of_it. omega (arith, unique (suc k) entry there stays_too of_it)))
+    by y.stays refl (staying_finished ys at old job e stays is
+    (λ k entry there stays_too of_it. omega (arith, unique (suc k) entry there stays_too of_it)))
   where
     by : (a : Bool) → y.stays ≡ a
-        → staying (set ys at (record old { item = record old.item { part = record old.item.part { done = true } } })) ≡ finished (staying ys) job
-        → map (λ (x : Entry). x.item) (cond a (y ∷ filter (λ (x : Entry). x.stays) (set ys at (record old { item = record old.item { part = record old.item.part { done = true } } }))) (filter (λ (x : Entry). x.stays) (set ys at (record old { item = record old.item { part = record old.item.part { done = true } } }))))
-        ≡ finished (map (λ (x : Entry). x.item) (cond a (y ∷ filter (λ (x : Entry). x.stays) ys) (filter (λ (x : Entry). x.stays) ys))) job
+        → staying (set ys at (done_entry old)) ≡ finished (staying ys) job
+        → map item_of (cond a (y ∷ filter is_staying (set ys at (done_entry old))) (filter is_staying (set ys at (done_entry old))))
+        ≡ finished (map item_of (cond a (y ∷ filter is_staying ys) (filter is_staying ys))) job
     by true here rest =
         let other : is_job job y.item ≡ false = ne_eqb (job_of y) job.0 (λ of_it. absurd (omega (arith, unique 0 y refl here of_it))) in
         ap₂ ◌∷◌ (sym (finish_no job y.item other)) rest
     by false gone rest = rest
 
 -- one part more
-pub staying_pushed : (entries : List Entry) (item : Standing) → staying (entries ++ (record { item = item; stays = true }) ∷ []) ≡ staying entries ++ item ∷ []
+pub staying_pushed : (entries : List Entry) (item : Standing)
+    → staying (entries ++ (record { item = item; stays = true }) ∷ []) ≡ staying entries ++ item ∷ []
 staying_pushed [] item = refl
 staying_pushed (y ∷ ys) item = at y.stays (staying_pushed ys item)
   where
     at : (a : Bool) → staying (ys ++ (record { item = item; stays = true }) ∷ []) ≡ staying ys ++ item ∷ []
-        → map (λ (x : Entry). x.item) (cond a (y ∷ filter (λ (x : Entry). x.stays) (ys ++ (record { item = item; stays = true }) ∷ [])) (filter (λ (x : Entry). x.stays) (ys ++ (record { item = item; stays = true }) ∷ [])))
-        ≡ map (λ (x : Entry). x.item) (cond a (y ∷ filter (λ (x : Entry). x.stays) ys) (filter (λ (x : Entry). x.stays) ys)) ++ item ∷ []
+        → map item_of (cond a (y ∷ filter is_staying (ys ++ (record { item = item; stays = true }) ∷ []))
+        (filter is_staying (ys ++ (record { item = item; stays = true }) ∷ [])))
+        ≡ map item_of (cond a (y ∷ filter is_staying ys) (filter is_staying ys)) ++ item ∷ []
     at true rest = ap (λ items. y.item ∷ items) rest
     at false rest = rest
 
 -- the entries that stay, among themselves
-pub staying_kept : (entries : List Entry) → staying (filter (λ (x : Entry). x.stays) entries) ≡ staying entries
+pub staying_kept : (entries : List Entry) → staying (filter is_staying entries) ≡ staying entries
 staying_kept entries =
-    ap (λ es. map (λ (x : Entry). x.item) es) (filter_all (λ (x : Entry). x.stays) (filter (λ (x : Entry). x.stays) entries) (filter_passes (λ (x : Entry). x.stays) entries))
+    ap (λ es. map item_of es) (filter_all is_staying (filter is_staying entries) (filter_passes is_staying entries))
 
-pub parts_of_entries : (entries : List Entry) → map (λ (x : Entry). x.item.part) entries ≡ parts_of (map (λ (x : Entry). x.item) entries)
+pub parts_of_entries : (entries : List Entry) → map (λ (x : Entry). x.item.part) entries ≡ parts_of (map item_of entries)
 parts_of_entries [] = refl
 parts_of_entries (y ∷ ys) = ap (λ parts. y.item.part ∷ parts) (parts_of_entries ys)
 
@@ -237,10 +258,13 @@ pub absent_before : (entries : List Entry) (i : ℕ) (entry : Entry) → i < len
 absent_before entries i entry inside is distinct k other e stays same =
     let short = slice_get_within (take i entries) k other e in
     let earlier : k < i = omega (arith, short, length-take i entries) in
-    let there : get_or entries k other ≡ other = sym (get_or-take i entries k other earlier) ∙ get_or_from_slice_get (take i entries) k other other e in
+    let there : get_or entries k other ≡ other = sym (get_or-take i entries k other earlier)
+    ∙ get_or_from_slice_get (take i entries) k other other e in
     let part = λ (x : Entry). x.item.part in
-    let first : get_or (map part entries) k other.item.part ≡ other.item.part = get_or-map part entries k other other.item.part (omega (arith, earlier, inside)) ∙ ap part there in
-    let second : get_or (map part entries) i other.item.part ≡ entry.item.part = get_or-map part entries i entry other.item.part inside ∙ ap part (sym is) in
+    let first : get_or (map part entries) k other.item.part ≡ other.item.part =
+    get_or-map part entries k other other.item.part (omega (arith, earlier, inside)) ∙ ap part there in
+    let second : get_or (map part entries) i other.item.part ≡ entry.item.part = get_or-map part entries i entry other.item.part inside
+    ∙ ap part (sym is) in
     let jobs : other.item.part.job ≡ entry.item.part.job = λ j. record { 0 = same j } in
     distinct k i other.item.part earlier (subst (λ n. i < n) (sym (length-map entries part)) inside)
     (ap (λ (p : Part). p.job) first ∙ jobs ∙ ap (λ (p : Part). p.job) (sym second))

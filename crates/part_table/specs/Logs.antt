@@ -1,5 +1,5 @@
 -- Entries in the order in which they came, of which some are gone, and what finds them.
-use Rattle.std.specs.Prelude.{◌≡◌, ℕ, ◌+◌, ◌<◌, ◌≤◌, true, if◌then◌else◌, Some, List, length, map, slice_get, nat_eq}
+use Rattle.std.specs.Prelude.{false, ◌≡◌, ℕ, ◌+◌, ◌<◌, ◌≤◌, true, if◌then◌else◌, Some, List, length, map, slice_get, nat_eq}
 use Rattle.std.specs.List.{filter}
 use Rattle.std.specs.HashMap.{HashMap, get, hash_map_len, spare}
 use Rattle.cell_base.specs.declared.requests.JobId.{JobId}
@@ -15,6 +15,14 @@ pub record Logged : Type 0 where
   pub entries : List Entry
   pub room : ℕ
   pub resources : ℕ
+
+-- the entry whose part does not stand there any more, and the one whose part is done
+abbrev pub gone_entry : Entry → Entry
+gone_entry entry = record entry { stays = false }
+
+-- the same, done
+abbrev pub done_entry : Entry → Entry
+done_entry entry = record entry { item = record entry.item { part = record entry.item.part { done = true } } }
 
 -- the parts of the entries that are not gone
 abbrev pub staying : List Entry → List Standing

@@ -37,7 +37,11 @@ without_job items job = filter (λ item. not (is_job job item)) items
 -- the part of the job at another place and on its resource, behind all others
 abbrev pub advanced : List Standing → JobId → ℕ → Bool → ResId → List Standing
 advanced items job place done on =
-    option_map_or (λ (item : Standing). without_job items job ++ (record { part = record item.part { place = place; done = done }; on = on }) ∷ [])
+    option_map_or (λ (item : Standing). without_job items job ++ (record {
+      part = record item.part { place = place; done = done };
+      on =
+          on;
+    }) ∷ [])
     (find (is_job job) items) items
 
 -- the part of the job is done, and keeps its place in the list

@@ -4,7 +4,7 @@ ghost use Rattle.std.specs.List.{filter, find};
 ghost use Rattle.std.specs.HashMap.{get, hash_map_len, spare};
 ghost use Rattle.part_table.specs.declared.standing.Entry.{Entry};
 ghost use Rattle.part_table.specs.declared.heads.TheConstants.{NOWHERE};
-ghost use Rattle.part_table.specs.Logs.{IsAbsent, IsPlaceOf, key_of_waiting, staying, IsLogged};
+ghost use Rattle.part_table.specs.Logs.{gone_entry, done_entry, IsAbsent, IsPlaceOf, key_of_waiting, staying, IsLogged};
 ghost use Rattle.part_table.specs.Parts.{parts_of, is_on, is_waiting};
 ghost use Rattle.cell_base.specs.Policy.{HaveDistinctJobs};
 
@@ -148,7 +148,8 @@ impl Log {
     /// The part of an entry does not stand there any more.
     pub fn take_out(&mut self, at: u32)
         requires { at < length self.old.entries }
-        ensures entries { (entry : Entry) → slice_get self.old.entries at ≡ Some entry → self.new.entries ≡ slice_set self.old.entries at (record entry { stays = false }) }
+        ensures entries { (entry : Entry) → slice_get self.old.entries at ≡ Some entry
+            → self.new.entries ≡ slice_set self.old.entries at (gone_entry entry) }
         ensures room { self.new.room ≡ self.old.room }
         ensures resources { self.new.resources ≡ self.old.resources }
     {
@@ -163,7 +164,7 @@ impl Log {
     pub fn finish(&mut self, at: u32)
         requires { at < length self.old.entries }
         ensures entries { (entry : Entry) → slice_get self.old.entries at ≡ Some entry
-            → self.new.entries ≡ slice_set self.old.entries at (record entry { item = record entry.item { part = record entry.item.part { done = true } } }) }
+            → self.new.entries ≡ slice_set self.old.entries at (done_entry entry) }
         ensures room { self.new.room ≡ self.old.room }
         ensures resources { self.new.resources ≡ self.old.resources }
     {

@@ -2,19 +2,21 @@
 use Rattle.std.proofs.Common.{◌≡◌, ℕ, zero, suc, ◌+◌, ◌-◌, ◌*◌, ◌^◌, ◌<◌, ◌≤◌, ◌==◌, Bool, true, false, cond, List, length, get_or, ap, refl, sym, subst, ◌∙◌, ⊎_elim, pow-suc, arith}
 use Rattle.std.specs.List.{sum_by, range_with_len}
 use Rattle.std.specs.Int.{bit_at}
+use Rattle.std.proofs.Math.Pow.{pow_mono}
 use Rattle.std.proofs.lemmas.Bool.{cases_lt}
 use Rattle.std.proofs.lemmas.List.{length-map, get_or-map}
 use Rattle.std.proofs.lemmas.List.Sums.{sum_by_push}
 use Rattle.std.proofs.lemmas.Nat.Bits.{bit_at_cat_low, bit_at_cat_high, bit_at_above, same_from_bits}
 use Rattle.cell_base.specs.declared.cells.Cell.{Cell}
-use Rattle.cell_base.specs.Stages.{Stage, stage, stages}
-use Rattle.cell_base.specs.Numbers.{IsNumber, stage_numbered}
+use Rattle.cell_base.specs.Stages.{Stage, stage, IsStage, stages}
+use Rattle.cell_base.specs.Numbers.{IsNumber, number_of, stage_numbered}
 use Rattle.cell_base.specs.Masks.{has_bit}
 use Rattle.cell_base.specs.Neighborhoods.{leads, mask_of, masks_of}
 use Rattle.cell_base.specs.Fits.{CellFits}
 use Rattle.cell_base.proofs.Bits.{bit_at-number}
 use Rattle.policy_laws.specs.Laws.{MaskLaw}
 use Rattle.policy_laws.proofs.Growing.{numbers_more}
+use Rattle.policy_laws.proofs.Numbering.{numbering_law}
 use Rattle.policy_laws.proofs.Leading.{leads-resource}
 
 -- the bits below n that pass a test
@@ -77,6 +79,14 @@ length-masks_of cell = length-map (stages cell) (mask_of cell)
 pub mask_at_number : (cell : Cell) (n : ℕ) → IsNumber cell n → get_or (masks_of cell) n 0 ≡ mask_of cell (stage_numbered cell n)
 mask_at_number cell n within = get_or-map (mask_of cell) (stages cell) n (stage 0 0) 0 within
 
+pub stage_has_mask : (cell : Cell) (s : Stage) → IsStage cell s → number_of cell s < length (masks_of cell)
+stage_has_mask cell s standing = omega (arith, (numbering_law cell).numbers s standing, length-masks_of cell)
+
+pub mask_at_stage : (cell : Cell) (s : Stage) → IsStage cell s → get_or (masks_of cell) (number_of cell s) 0 ≡ mask_of cell s
+mask_at_stage cell s standing =
+    mask_at_number cell (number_of cell s) ((numbering_law cell).numbers s standing)
+    ∙ ap (mask_of cell) ((numbering_law cell).numbered s standing)
+
 module _ (cell : Cell) (fits : CellFits cell) where
   pub mask_law : MaskLaw cell
   mask_law s r = ⊎_elim (bits.bits r) above (cases_lt r (length cell.resources))
@@ -90,6 +100,15 @@ module _ (cell : Cell) (fits : CellFits cell) where
 
       above : length cell.resources ≤ r → has_bit (mask_of cell s) r ≡ leads cell s r
       above past = has_bit-above (length cell.resources) (mask_of cell s) r bits.small past ∙ nowhere (leads cell s r) refl past
+
+  -- it fits 64 bits
+  pub mask_of-small : (s : Stage) → mask_of cell s < 2 ^ 64
+  mask_of-small s =
+      omega (arith, (are_bits (leads cell s) (length cell.resources)).small, pow_mono {i = length cell.resources} {j = 64} fits.resource_count.1)
+
+  -- what a part at the stage counts
+  pub bit_at-mask_of : (s : Stage) (r : ℕ) → bit_at (mask_of cell s) r ≡ cond (leads cell s r) 1 0
+  bit_at-mask_of s r = bit_at-number (mask_of cell s) r ∙ ap (λ b. cond b 1 0) (mask_law s r)
 
   -- a number with these bits is the mask
   pub mask_from_bits : (s : Stage) (mask : ℕ) → ((r : ℕ) → has_bit mask r ≡ leads cell s r) → mask ≡ mask_of cell s

@@ -33,10 +33,10 @@ use Rattle.record_text.proofs.Requesting.{stage_is_small, step_fits}
 use Rattle.record_text.proofs.Splitting.{IsLine}
 
 -- a byte behind the space
-abbrev IsPrinted : ℕ → Type 0
+abbrev pub IsPrinted : ℕ → Type 0
 IsPrinted b = 32 < b
 
-abbrev IsPlain : List ℕ → Type 0
+abbrev pub IsPlain : List ℕ → Type 0
 IsPlain word = All IsPrinted word
 
 abbrev pub ArePlain : List (List ℕ) → Type 0
@@ -50,10 +50,10 @@ both (x ∷ xs) ys front back = (front.0, both xs ys front.1 back)
 -- ---- words
 
 -- a word that is written out
-key : (word : List ℕ) → list_all (λ b. nat_lt 32 b) word ≡ true → IsPlain word
+pub key : (word : List ℕ) → list_all (λ b. nat_lt 32 b) word ≡ true → IsPlain word
 key word test = λ k d within. ltb-true 32 (get_or word k d) (AllPass-from_list_all (λ b. nat_lt 32 b) word test k d within)
 
-plain_decimal : (n : ℕ) → n < 2 ^ 64 → IsPlain (decimal n)
+pub plain_decimal : (n : ℕ) → n < 2 ^ 64 → IsPlain (decimal n)
 plain_decimal n small = λ k d within.
     let digit = digit_at (decimal n) k (decimal_is_IsNumeral n small).0.1 within in
     omega (arith, digit.0, get_or_default (decimal n) k d 0 within)
@@ -61,7 +61,7 @@ plain_decimal n small = λ k d within.
 name_byte : (b : ℕ) → IsTrue (is_name_byte b) → IsPrinted b
 name_byte b is = grind (arith, nat_tests)
 
-plain_name : (name : List ℕ) → IsName name → IsPlain name
+pub plain_name : (name : List ℕ) → IsName name → IsPlain name
 plain_name name is = All-weaker (λ b. IsTrue (is_name_byte b)) IsPrinted name_byte name is.spelled
 
 job : (n : ℕ) → n < 2 ^ 32 → IsPlain (decimal n)

@@ -108,7 +108,8 @@ impl StageTable {
     /// The type whose route a stage is on.
     pub fn kind_of(&self, stage: StageNo) -> TypeId
         requires { IsNumber self.now stage.0 }
-        ensures { result.0 ≡ (stage_numbered self.now stage.0).kind }
+        ensures value { result.0 ≡ (stage_numbered self.now stage.0).kind }
+        ensures within { result.0 < length self.now.types }
     {
         self.entry(stage).kind
     }

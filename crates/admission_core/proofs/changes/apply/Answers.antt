@@ -1,10 +1,12 @@
 -- An unload that is granted takes out the part.
 use Rattle.std.proofs.Common.{sym, ◌∙◌}
+use Rattle.part_table.specs.Parts.{parts_of}
 use Rattle.admission_core.proofs.Granting.{unload-granted}
 use Rattle.admission_core.proofs.changes.apply.Goals as goal
 
 pub returns-in-Unload-clause-parts : goal.returns-in-Unload-clause-parts
 returns-in-Unload-clause-parts c =
     rw c.in-Unload.is
-    (c.take_out.ensures.items
-    ∙ sym (unload-granted c.args.table.now c.args.parts.now.items c.in-Unload.job (rw c.in-Unload.is at c.requires.granted)))
+    (c.leave.ensures.parts
+    ∙ sym
+    (unload-granted c.args.table.now (parts_of c.args.tally.now.parts.items) c.in-Unload.job (rw c.in-Unload.is at c.requires.granted)))

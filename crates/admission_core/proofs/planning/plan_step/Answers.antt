@@ -1,21 +1,60 @@
-use Rattle.std.proofs.Common.{◌≡◌, length, Some, option_map, ap, sym, arith, ◌∙◌}
-use Rattle.cell_base.specs.Plans.{step_of}
-use Rattle.admission_core.proofs.Picking.{IsFirstSoFar, first_keeps, first_takes, first_all}
+-- The first part on the first resource that is occupied is the next one.
+use Rattle.std.proofs.Common.{◌≡◌, ◌==◌, ℕ, ◌<◌, length, get_or, find, Some, None, ap, sym, ◌∙◌, ⊎_elim, ◌≤◌, arith}
+use Rattle.std.specs.Option.{option_map}
+use Rattle.std.proofs.lemmas.Bool.{cases_lt}
+use Rattle.std.proofs.lemmas.List.{get_or_default}
+use Rattle.cell_base.specs.declared.cells.ResId.{ResId}
+use Rattle.cell_base.specs.declared.requests.Part.{Part}
+use Rattle.cell_base.specs.Stages.{IsStage, stage_of}
+use Rattle.cell_base.specs.Plans.{place_of, step_of}
+use Rattle.policy_laws.proofs.Lists.{All-found}
+use Rattle.part_table.specs.Parts.{parts_of}
+use Rattle.admission_core.proofs.Moving.{none_left}
+use Rattle.admission_core.proofs.Standing.{on_found}
+use Rattle.admission_core.proofs.Ranking.{picked, unoccupied}
 use Rattle.admission_core.proofs.planning.plan_step.Goals as goal
-use Rattle.admission_core.proofs.planning.plan_step.Goals.{then-not-comes_first, else-not-comes_first}
 
-pub loop-i-preserved : goal.loop-i-preserved
-loop-i-preserved c = elim c.if-not-comes_first.branch [
-  | then-not-comes_first w ↦
-      let e = sym c.comes_first.ensures ∙ w.if-not-comes_first.true in
-      rw w.picked-is (first_takes c.args.cell.now c.args.parts.now c.loop-i.i c.loop-i.picked _ c.loop-i-test.true c.loop-i.invariant (rw (c.place_of-there.ensures.value, c.place_of-here.ensures.value) at e))
-  | else-not-comes_first w ↦
-      let e = sym c.comes_first.ensures ∙ w.if-not-comes_first.false in
-      rw w.picked-is (first_keeps c.args.cell.now c.args.parts.now c.loop-i.i c.loop-i.picked _ c.loop-i-test.true c.loop-i.invariant (rw (c.place_of-there.ensures.value, c.place_of-here.ensures.value) at e))
-]
+pub loop-r-preserved : goal.loop-r-preserved
+loop-r-preserved c k d early within =
+    let table = c.args.table.now in
+    let parts = parts_of c.args.tally.now.parts.items in
+    let none : ResId = record { 0 = 0 } in
+    let r : ResId = get_or c.args.ranks.now c.loop-r.r-index none in
+    let nobody : find (λ part. place_of table part == r.0) parts ≡ None =
+    on_found table r c.args.tally.now.parts.items c.requires.sound.tallied.on ∙ sym c.first_on.ensures
+    ∙ none_left c.first_on.result c.in_default.not-Some in
+    ⊎_elim
+    (λ (h : k < c.loop-r.r-index). c.loop-r.invariant k d h within)
+    (λ (h : c.loop-r.r-index ≤ k).
+    let at : k ≡ c.loop-r.r-index = omega arith in
+    ap (λ (q : ResId). find (λ part. place_of table part == q.0) parts)
+    (get_or_default c.args.ranks.now k d none within ∙ ap (λ k. get_or c.args.ranks.now k none) at)
+    ∙ nobody)
+    (cases_lt k c.loop-r.r-index)
+
+pub step_of-requires : goal.step_of-requires
+step_of-requires c =
+    let cell = c.args.table.now in
+    All-found (λ part. IsStage cell (stage_of part)) (λ part. place_of cell part == (get_or c.args.ranks.now c.loop-r.r-index (record { 0 = 0 })).0)
+    (parts_of c.args.tally.now.parts.items) c.in-Some.part c.requires.sound.admitted.state.standing
+    (on_found cell (get_or c.args.ranks.now c.loop-r.r-index (record { 0 = 0 })) c.args.tally.now.parts.items c.requires.sound.tallied.on
+    ∙ sym c.first_on.ensures ∙ c.in-Some.is)
+
+pub returns-in-Some : goal.returns-in-Some
+returns-in-Some c =
+    let cell = c.args.table.now in
+    let parts = parts_of c.args.tally.now.parts.items in
+    let r : ResId = get_or c.args.ranks.now c.loop-r.r-index (record { 0 = 0 }) in
+    ap (λ request. Some request) c.step_of.ensures
+    ∙ ap (option_map (step_of cell))
+    (sym
+    (picked cell c.requires.sound.fits c.args.ranks.now c.requires.ranking parts c.requires.sound.admitted.state.standing c.loop-r.r-index r
+    c.loop-r-test.true (get_or_default c.args.ranks.now c.loop-r.r-index r (record { 0 = 0 }) c.loop-r-test.true) c.loop-r.invariant c.in-Some.part
+    (on_found cell r c.args.tally.now.parts.items c.requires.sound.tallied.on ∙ sym c.first_on.ensures ∙ c.in-Some.is)))
 
 pub returns : goal.returns
 returns c =
-    let all : length c.args.parts.now ≡ c.loop-i.i = omega arith in
-    let first : IsFirstSoFar c.args.cell.now c.args.parts.now (length c.args.parts.now) c.loop-i.picked = rw all c.loop-i.invariant in
-    ap Some c.step_of.ensures ∙ sym (ap (option_map (step_of c.args.cell.now)) (first_all c.args.cell.now c.args.parts.now c.loop-i.picked _ first))
+    let cell = c.args.table.now in
+    let parts = parts_of c.args.tally.now.parts.items in
+    sym (unoccupied cell c.requires.sound.fits c.args.ranks.now c.requires.ranking parts c.requires.sound.admitted.state.standing
+    (λ k d early within. c.loop-r.invariant k d (omega arith) within))

@@ -1,5 +1,11 @@
-use Rattle.admission_core.proofs.Picking.{IsFirstSoFar}
+-- No part stands on the resources so far.
+use Rattle.std.proofs.Common.{◌≡◌, ◌==◌, ℕ, ◌<◌, length, get_or, find, None}
+use Rattle.cell_base.specs.declared.cells.ResId.{ResId}
+use Rattle.cell_base.specs.Plans.{place_of}
+use Rattle.part_table.specs.Parts.{parts_of}
 use Rattle.admission_core.proofs.planning.plan_step.Given as goal
 
-abbrev pub invariant-loop-i : goal.invariant-loop-i
-invariant-loop-i l = IsFirstSoFar l.cell l.parts l.i l.picked
+abbrev pub invariant-loop-r : goal.invariant-loop-r
+invariant-loop-r l =
+    (k : ℕ) (d : ResId) → k < l.r-index → k < length l.ranks
+    → find (λ part. place_of l.table part == (get_or l.ranks k d).0) (parts_of l.tally.parts.items) ≡ None

@@ -1,16 +1,19 @@
--- A part of the state stands at a stage.
-use Rattle.std.proofs.Common.{sym, ◌∙◌}
-use Rattle.cell_base.specs.Stages.{IsStage, stage_of}
-use Rattle.cell_base.specs.Policy.{is_of_job}
-use Rattle.policy_laws.proofs.Lists.{All-found}
+-- A part of the state is that of its job, and stands at a stage.
+use Rattle.std.proofs.Common.{◌≡◌, Some, ap, sym, ◌∙◌, subst}
+use Rattle.cell_base.specs.declared.requests.JobId.{JobId}
+use Rattle.cell_base.specs.Outcomes.{part_of}
+use Rattle.part_table.specs.Parts.{parts_of}
+use Rattle.admission_core.proofs.Moving.{part_known}
 use Rattle.admission_core.proofs.replies.reply_to.Goals as goal
 
-pub reply_to_move-requires-clause-stage : goal.reply_to_move-requires-clause-stage
-reply_to_move-requires-clause-stage c =
-    All-found (λ part. IsStage c.args.table.now (stage_of part)) (is_of_job c.in-Move.job) c.args.parts.now c.in-Some.part
-    c.requires.standing (sym c.part_of.ensures ∙ c.in-Some.is)
+pub reply_to_move-requires-clause-found : goal.reply_to_move-requires-clause-found
+reply_to_move-requires-clause-found c =
+    let parts = parts_of c.args.tally.now.parts.items in
+    let found : part_of parts c.in-Move.job ≡ Some c.in-Some.part = sym c.get.ensures.part ∙ c.in-Some.is in
+    let known = part_known c.args.table.now parts c.in-Move.job c.in-Some.part c.requires.sound.admitted found in
+    subst (λ (job : JobId). part_of parts job ≡ Some c.in-Some.part) (sym known.of) found
 
 pub reply_to_unload-requires : goal.reply_to_unload-requires
 reply_to_unload-requires c =
-    All-found (λ part. IsStage c.args.table.now (stage_of part)) (is_of_job c.in-Unload.job) c.args.parts.now
-    c.in-Some-part_of.part c.requires.standing (sym c.part_of-in-Unload.ensures ∙ c.in-Some-part_of.is)
+    (part_known c.args.table.now (parts_of c.args.tally.now.parts.items) c.in-Unload.job c.in-Some-get.part c.requires.sound.admitted
+    (sym c.get-in-Unload.ensures.part ∙ c.in-Some-get.is)).stage

@@ -1,14 +1,36 @@
--- Without a job that is not there the parts are the same.
-use Rattle.std.proofs.Common.{◌≡◌, false, ◌++◌, ◌∷◌, [], ap, sym, ◌∙◌}
+-- A job that is not there, and the neighborhoods of the new part's mask.
+use Rattle.std.proofs.Common.{◌≡◌, true, false, refl, None, Some, ◌++◌, ◌∷◌, [], ap, sym, ◌∙◌, subst}
 use Rattle.cell_base.specs.Policy.{is_loaded}
-use Rattle.cell_base.specs.Outcomes.{admit}
-use Rattle.admission_core.proofs.Granting.{without-absent}
+use Rattle.cell_base.specs.Stages.{stage_of}
+use Rattle.cell_base.specs.Outcomes.{part_of, admit}
+use Rattle.neighborhood_counts.specs.Counts.{IsMaskOf, first_full}
+use Rattle.part_table.specs.Parts.{parts_of}
+use Rattle.admission_core.specs.Replies.{reply_at}
+use Rattle.admission_core.proofs.Moving.{part_known, not_found, admit_reply}
+use Rattle.admission_core.proofs.Saturating.{mask_is_of, entry_over}
 use Rattle.admission_core.proofs.replies.reply_to_entry.Goals as goal
 
-pub returns-else-is_loaded : goal.returns-else-is_loaded
-returns-else-is_loaded c =
-    let absent : is_loaded c.args.parts.now c.args.part.job ≡ false = sym c.is_loaded.ensures ∙ c.if-is_loaded.false in
+pub returns-in-Some : goal.returns-in-Some
+returns-in-Some c =
+    let known =
+    part_known c.args.table.now (parts_of c.args.tally.now.parts.items) c.args.part.job c.in-Some.field-0 c.requires.sound.admitted
+    (sym c.get.ensures.part ∙ c.in-Some.is) in
+    rw known.loaded refl
+
+pub reply_at-requires-clause-mask : goal.reply_at-requires-clause-mask
+reply_at-requires-clause-mask c =
+    let sound = c.requires.sound in
+    subst (IsMaskOf c.args.tally.now.counts) (sym c.mask.ensures)
+    (mask_is_of c.args.table.now sound.fits c.args.tally.now.counts (parts_of c.args.tally.now.parts.items) sound.tallied.counts (stage_of c.args.part))
+
+pub returns-in-None : goal.returns-in-None
+returns-in-None c =
+    let cell = c.args.table.now in
+    let parts = parts_of c.args.tally.now.parts.items in
+    let sound = c.requires.sound in
+    let absent : is_loaded parts c.args.part.job ≡ false = not_found parts c.args.part.job (sym c.get.ensures.part ∙ c.in-None.is) in
     rw absent
-    (c.reply_to_arrival.ensures
-    ∙ ap (λ others. (admit c.args.table.now c.args.parts.now (others ++ c.args.part ∷ [])).0)
-    (without-absent c.args.parts.now c.args.part.job absent))
+    (c.reply_at.ensures
+    ∙ ap (λ mask. reply_at cell parts (first_full c.args.tally.now.counts mask)) c.mask.ensures
+    ∙ ap (reply_at cell parts) (entry_over cell sound.fits c.args.tally.now.counts parts sound.tallied.counts c.args.part sound.admitted.within)
+    ∙ sym (admit_reply cell parts (parts ++ c.args.part ∷ [])))

@@ -1,9 +1,9 @@
 -- The line of one more entry was taken, or the sink failed at it.
-use Rattle.std.proofs.Common.{List, arith, drop, subst, ◌∙◌}
+use Rattle.std.proofs.Common.{List, arith, subst, ◌∙◌}
 use Rattle.outside_io.specs.Puts.{SinkTold, sink_told}
 use Rattle.cell_base.specs.declared.shifts.Entry.{Entry}
 use Rattle.cell_program.specs.Blocks.{entry_line}
-use Rattle.cell_program.proofs.Delivered.{Underway, begins, breaks_off, ends, goes_on, rest_at}
+use Rattle.cell_program.proofs.Delivered.{Underway, breaks_off, goes_on, rest_at}
 use Rattle.cell_program.proofs.printing.print_entries.Goals as goal
 
 pub returns-in-Err-clause-part : goal.returns-in-Err-clause-part

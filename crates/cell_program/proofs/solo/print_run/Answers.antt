@@ -1,10 +1,9 @@
 -- The sink failed in the history, at the left line or in the plan, or took the whole record.
-use Rattle.std.proofs.Common.{List, ℕ, length, ap, refl, subst, ◌∙◌}
+use Rattle.std.proofs.Common.{ℕ, length, ap, refl, subst, ◌∙◌}
 use Rattle.std.proofs.lemmas.Result.{on_err_weaker, on_ok_weaker}
 use Rattle.outside_io.specs.Puts.{TookAll, TookSome, sink_told}
 use Rattle.admission_core.specs.CoreState.{CoreState}
 use Rattle.cell_base.specs.declared.cells.Cell.{Cell}
-use Rattle.cell_base.specs.declared.shifts.Entry.{Entry}
 use Rattle.cell_base.specs.Plans.{plan_of}
 use Rattle.record_text.specs.Lines.{line_of, left_words}
 use Rattle.cell_program.specs.Blocks.{history_lines, plan_lines}

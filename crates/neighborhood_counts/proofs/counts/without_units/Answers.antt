@@ -16,7 +16,8 @@ loop-r-preserved c =
     elim c.if-capacity-eq0.branch [
       | then-capacity-eq0 w ↦
           rw w.full-is (marked_more c.args.capacities.now r c.loop-r.full _ c.loop-r.invariant
-          (has_bit_set_same c.loop-r.full r within ∙ sym (le-leb _ _ (omega arith))) (λ q away. has_bit_set_other c.loop-r.full r q within away))
+          (has_bit_set_same c.loop-r.full r within ∙ sym (le-leb _ _ (omega arith)))
+          (λ q away. has_bit_set_other c.loop-r.full r q within away))
       | else-capacity-eq0 w ↦
           rw w.full-is (marked_more c.args.capacities.now r c.loop-r.full c.loop-r.full c.loop-r.invariant
           (c.loop-r.invariant.behind r (omega arith) ∙ sym (lt-leb _ _ (omega arith))) (λ q away. refl))

@@ -1,15 +1,13 @@
--- Every admitted state has a plan, and at most as many parts as units.
+-- Every admitted state has a plan.
 use Rattle.std.proofs.Common.{subst}
 use Rattle.policy_laws.specs.Laws.{HasPlan}
 use Rattle.policy_laws.proofs.Plans.{plan_law}
+use Rattle.part_table.specs.Parts.{parts_of}
 use Rattle.admission_core.specs.CoreState.{CoreState}
-use Rattle.admission_core.proofs.Room.{few_parts}
 use Rattle.admission_core.proofs.admission.Core.work_left.Goals as goal
-
-pub work-requires-clause-few : goal.work-requires-clause-few
-work-requires-clause-few c = rw c.as_slice.ensures.value (few_parts _ _ _ c.self.invariant)
 
 pub returns-clause-plan : goal.returns-clause-plan
 returns-clause-plan c =
+    let sound = c.self.invariant.0 in
     subst (λ (state : CoreState). HasPlan state.cell state.parts) c.self.view_is
-    (plan_law c.self.inside.table c.self.invariant.fits c.self.inside.parts.items c.self.invariant.admitted)
+    (plan_law c.self.inside.table sound.fits (parts_of c.self.inside.tally.parts.items) sound.admitted)

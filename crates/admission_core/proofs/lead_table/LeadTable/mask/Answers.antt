@@ -1,10 +1,8 @@
 -- The mask at the number of the stage.
 use Rattle.std.proofs.Common.{List, ℕ, length, get_or, ap, ◌∙◌, sym, subst, arith}
 use Rattle.cell_base.specs.Stages.{IsStage, stage_of}
-use Rattle.cell_base.specs.Numbers.{number_of}
 use Rattle.cell_base.specs.Neighborhoods.{mask_of, masks_of}
-use Rattle.policy_laws.proofs.Numbering.{numbering_law}
-use Rattle.policy_laws.proofs.Masks.{length-masks_of, mask_at_number}
+use Rattle.policy_laws.proofs.Masks.{stage_has_mask, mask_at_stage}
 use Rattle.admission_core.proofs.lead_table.LeadTable.mask.Goals as goal
 
 pub mask-requires : goal.mask-requires
@@ -14,20 +12,16 @@ mask-requires c =
     omega (
       arith,
       c.number-stage.ensures,
-      (numbering_law cell).numbers s (subst (λ cell. IsStage cell s) (sym c.self.view_is) c.requires),
       ap length c.self.invariant,
-      length-masks_of cell,
+      stage_has_mask cell s (subst (λ cell. IsStage cell s) (sym c.self.view_is) c.requires),
     )
 
-pub returns-clause-mask : goal.returns-clause-mask
-returns-clause-mask c =
+pub returns : goal.returns
+returns c =
     let cell = c.self.inside.stages in
     let s = stage_of c.args.part in
-    let standing = subst (λ cell. IsStage cell s) (sym c.self.view_is) c.requires in
-    let numbers = numbering_law cell in
     c.mask.ensures
     ∙ ap (λ (masks : List ℕ). get_or masks c.number-stage.result.0 0) c.self.invariant
     ∙ ap (λ n. get_or (masks_of cell) n 0) c.number-stage.ensures
-    ∙ mask_at_number cell (number_of cell s) (numbers.numbers s standing)
-    ∙ ap (mask_of cell) (numbers.numbered s standing)
+    ∙ mask_at_stage cell s (subst (λ cell. IsStage cell s) (sym c.self.view_is) c.requires)
     ∙ ap (λ cell. mask_of cell s) c.self.view_is

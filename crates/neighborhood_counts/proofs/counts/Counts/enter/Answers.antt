@@ -18,7 +18,8 @@ raise-requires-clause-room c =
     let here = set_in_mask c.args.mask c.loop-left.left _ _ step c.loop-left.invariant.left in
     let set_here = has_bit-of_one _ _ here in
     let room = room_of_none c.args.self.now c.args.mask c.requires.room _ (c.requires.mask _ set_here) set_here in
-    rw c.loop-left.invariant.capacities (omega (arith, room, here, step.here, c.loop-left.invariant.counts (trailing_zeros w64 c.loop-left.left)))
+    rw c.loop-left.invariant.capacities
+    (omega (arith, room, here, step.here, c.loop-left.invariant.counts (trailing_zeros w64 c.loop-left.left)))
 
 pub loop-left-smaller : goal.loop-left-smaller
 loop-left-smaller c = (without_lowest c.loop-left.left (omega arith) (omega arith)).less
@@ -31,7 +32,9 @@ loop-left-preserved c =
     rw c.loop-left.invariant.length (c.requires.mask _ (has_bit-of_one _ _ here)) in
     record {
       left = rest_in_mask c.args.mask c.loop-left.left _ _ step c.loop-left.invariant.left;
-      counts = rw c.raise.ensures.counts (raised c.args.mask c.loop-left.left _ _ step c.loop-left.invariant.left c.loop-left.self.counts c.args.self.now.counts within c.loop-left.invariant.counts);
+      counts = rw c.raise.ensures.counts
+          (raised c.args.mask c.loop-left.left _ _ step c.loop-left.invariant.left c.loop-left.self.counts c.args.self.now.counts
+          within c.loop-left.invariant.counts);
       length = rw (c.raise.ensures.counts, length-set) c.loop-left.invariant.length;
       capacities = c.raise.ensures.capacities ∙ c.loop-left.invariant.capacities;
     }

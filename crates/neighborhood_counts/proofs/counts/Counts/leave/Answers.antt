@@ -32,7 +32,9 @@ loop-left-preserved c =
     omega (arith, held, here, step.here, c.loop-left.invariant.counts (trailing_zeros w64 c.loop-left.left)) in
     record {
       left = rest_in_mask c.args.mask c.loop-left.left _ _ step c.loop-left.invariant.left;
-      counts = rw c.lower.ensures.counts (lowered c.args.mask c.loop-left.left _ _ step c.loop-left.invariant.left c.loop-left.self.counts c.args.self.now.counts within still c.loop-left.invariant.counts);
+      counts = rw c.lower.ensures.counts
+          (lowered c.args.mask c.loop-left.left _ _ step c.loop-left.invariant.left c.loop-left.self.counts
+          c.args.self.now.counts within still c.loop-left.invariant.counts);
       length = rw (c.lower.ensures.counts, length-set) c.loop-left.invariant.length;
       capacities = c.lower.ensures.capacities ∙ c.loop-left.invariant.capacities;
     }

@@ -12,7 +12,8 @@ overflow_add-count c =
     let within : r < length counts = rw (← c.self.view_is) at c.requires.within in
     let room : get_or counts r 0 < get_or capacities r 0 = rw (← c.self.view_is) at c.requires.room in
     let capacity : c.index-capacity.result.now ≡ get_or capacities r 0 =
-    c.index-capacity.ensures ∙ get_or_default capacities r c.index-capacity.result.now 0 (omega (arith, within, c.self.invariant.0.complete)) in
+    c.index-capacity.ensures
+    ∙ get_or_default capacities r c.index-capacity.result.now 0 (omega (arith, within, c.self.invariant.0.complete)) in
     let count : c.index.result.now ≡ get_or counts r 0 =
     c.index.ensures ∙ get_or_default counts r c.index.result.now 0 within in
     omega (arith, room, capacity, count)
@@ -24,7 +25,8 @@ invariant_of-self c =
     let r = c.args.r in
     let within : r < length counts = rw (← c.self.view_is) at c.requires.within in
     let capacity : c.index-capacity.result.now ≡ get_or capacities r 0 =
-    c.index-capacity.ensures ∙ get_or_default capacities r c.index-capacity.result.now 0 (omega (arith, within, c.self.invariant.0.complete)) in (
+    c.index-capacity.ensures
+    ∙ get_or_default capacities r c.index-capacity.result.now 0 (omega (arith, within, c.self.invariant.0.complete)) in (
       counted counts capacities c.self.inside.full r c.self.invariant.0 c.self.invariant.1 within _ (omega arith),
       filled counts capacities c.self.inside.full r c.self.invariant.0 c.self.invariant.1 within _ (omega arith),
     )

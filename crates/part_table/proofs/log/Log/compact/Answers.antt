@@ -18,7 +18,8 @@ list_again-requires-clause-distinct c =
     let kept : c.retain.new.self.items ≡ filter (λ (x : Entry). x.stays) c.self.inside.entries.items =
     filter_same _ (λ (x : Entry). x.stays) _ (λ x b f k. search (rules, tests)) _ _ c.retain.ensures.filtered in
     let distinct = rw (← c.self.view_is) at c.requires in
-    rw (c.deref.ensures.value, kept) (subst HaveDistinctJobs (sym (parts_of_entries (filter (λ (x : Entry). x.stays) c.self.inside.entries.items))) distinct)
+    rw (c.deref.ensures.value, kept)
+    (subst HaveDistinctJobs (sym (parts_of_entries (filter (λ (x : Entry). x.stays) c.self.inside.entries.items))) distinct)
 
 pub returns-clause-entries : goal.returns-clause-entries
 returns-clause-entries c =

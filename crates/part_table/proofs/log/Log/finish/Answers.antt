@@ -10,7 +10,9 @@ invariant_of-self c =
     let entries = c.self.inside.entries.items in
     let inside : c.args.at < length c.self.inside.entries.items = rw (← c.self.view_is) at c.requires in
     let there = get_read entries c.args.at c.index-entry.result.now inside c.index-entry.ensures in
-    logged_finished entries (vec_capacity c.self.inside.entries) c.self.inside.places c.self.inside.standing c.self.inside.waiting c.self.invariant c.args.at c.index-entry.result.now _ there c.take_off.ensures.keys c.take_off.ensures.room c.take_off.ensures.resources
+    logged_finished entries
+    (vec_capacity c.self.inside.entries) c.self.inside.places c.self.inside.standing c.self.inside.waiting c.self.invariant
+    c.args.at c.index-entry.result.now _ there c.take_off.ensures.keys c.take_off.ensures.room c.take_off.ensures.resources
 
 pub returns-clause-entries : goal.returns-clause-entries
 returns-clause-entries c entry is =
@@ -19,4 +21,6 @@ returns-clause-entries c entry is =
     let there = get_read entries c.args.at c.index-entry.result.now inside c.index-entry.ensures in
     let is_here : slice_get c.self.inside.entries.items c.args.at ≡ Some entry = rw (← c.self.view_is) at is in
     let same = same_Some c.index-entry.result.now entry (sym there ∙ is_here) in
-    rw (← c.self.view_is) (ap (λ (e : Entry). set c.self.inside.entries.items c.args.at (record e { item = record e.item { part = record e.item.part { done = true } } })) same)
+    rw (← c.self.view_is)
+    (ap (λ (e : Entry). set c.self.inside.entries.items c.args.at
+    (record e { item = record e.item { part = record e.item.part { done = true } } })) same)

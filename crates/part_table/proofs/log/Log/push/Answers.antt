@@ -12,7 +12,8 @@ invariant_of-self c =
     let absent = rw (← c.self.view_is) at c.requires.absent in
     let at : c.len.result ≡ length c.self.inside.entries.items = omega (arith, c.self.inside.entries.ok.0) in
     rw (c.push_reserved.ensures.items, c.push_reserved.ensures.capacity)
-    (logged_pushed entries (vec_capacity c.self.inside.entries) places c.self.inside.standing c.self.inside.waiting c.self.invariant c.args.item _ _ _ absent more
+    (logged_pushed entries
+    (vec_capacity c.self.inside.entries) places c.self.inside.standing c.self.inside.waiting c.self.invariant c.args.item _ _ _ absent more
     (λ q. c.place.ensures.places q ∙ ap (λ n. cond (nat_eq c.args.item.part.job.0 q) (Some n) (get nat_eq c.self.inside.places q)) at)
     c.place.ensures.one_more c.place.ensures.room c.push.ensures.keys c.push.ensures.room c.push.ensures.resources
     (rw c.key_of_waiting.ensures at c.push-2.ensures.keys) c.push-2.ensures.room c.push-2.ensures.resources)

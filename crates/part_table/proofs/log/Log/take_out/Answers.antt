@@ -10,7 +10,10 @@ invariant_of-self c =
     let entries = c.self.inside.entries.items in
     let inside : c.args.at < length c.self.inside.entries.items = rw (← c.self.view_is) at c.requires in
     let there = get_read entries c.args.at c.index-entry.result.now inside c.index-entry.ensures in
-    logged_taken entries (vec_capacity c.self.inside.entries) c.self.inside.places c.self.inside.standing c.self.inside.waiting c.self.invariant c.args.at c.index-entry.result.now _ _ there c.take_off.ensures.keys c.take_off.ensures.room c.take_off.ensures.resources c.take_off-2.ensures.keys c.take_off-2.ensures.room c.take_off-2.ensures.resources
+    logged_taken entries
+    (vec_capacity c.self.inside.entries) c.self.inside.places c.self.inside.standing c.self.inside.waiting c.self.invariant
+    c.args.at c.index-entry.result.now _ _ there c.take_off.ensures.keys c.take_off.ensures.room c.take_off.ensures.resources
+    c.take_off-2.ensures.keys c.take_off-2.ensures.room c.take_off-2.ensures.resources
 
 pub returns-clause-entries : goal.returns-clause-entries
 returns-clause-entries c entry is =

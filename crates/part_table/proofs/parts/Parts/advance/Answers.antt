@@ -7,7 +7,8 @@ use Rattle.part_table.proofs.parts.Parts.advance.Goals as goal
 
 pub arrive-requires-clause-absent : goal.arrive-requires-clause-absent
 arrive-requires-clause-absent c =
-    let is : c.in-Some.part.job ≡ c.args.job = (part_of-found (parts_of c.args.self.now.items) c.args.job c.in-Some.part (sym c.in-Some.ensures.part)).1 in
+    let is : c.in-Some.part.job ≡ c.args.job =
+    (part_of-found (parts_of c.args.self.now.items) c.args.job c.in-Some.part (sym c.in-Some.ensures.part)).1 in
     rw (c.depart.ensures.items, is) (absent_departed c.args.self.now.items c.args.job)
 
 pub returns-in-Some-clause-items : goal.returns-in-Some-clause-items

@@ -17,7 +17,13 @@ invariant_of-self c =
     ∙ staying_taken entries c.in-Some.at place.0 c.args.job place.1 place.2 place.3 place.4 in
     record {
       distinct = rw items (distinct_departed (staying entries) c.args.job c.self.invariant.distinct);
-      counted = omega (arith, c.self.invariant.counted, ap length items, length_departed (staying entries) c.args.job c.self.invariant.distinct present);
+      counted = omega (
+        arith,
+        c.self.invariant.counted,
+        ap length items,
+        length_departed
+            (staying entries) c.args.job c.self.invariant.distinct present,
+      );
       within = omega (arith, c.self.invariant.within);
       fits = omega (arith, c.self.invariant.fits, c.take_out.ensures.room);
     }

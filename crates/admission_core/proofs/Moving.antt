@@ -1,0 +1,118 @@
+-- What is known of the part of a job, and of the replies to what it asks for.
+use Rattle.std.proofs.Common.{◌≡◌, ℕ, ◌<◌, Bool, true, false, ◌&&◌, cond, List, [], ◌∷◌, ◌++◌, length, map, All, Contains, Option, Some, None, find, ap, refl, sym, ◌∙◌, subst, arith}
+use Rattle.std.specs.List.{list_any, range_with_len}
+use Rattle.std.specs.Option.{option_map, option_map_or}
+use Rattle.std.proofs.lemmas.Option.{none-some, same_Some}
+use Rattle.std.proofs.lemmas.List.FromFn.{length-range_with_len, get_or-range_with_len}
+use Rattle.cell_base.specs.declared.cells.Cell.{Cell}
+use Rattle.cell_base.specs.declared.cells.ResId.{ResId}
+use Rattle.cell_base.specs.declared.requests.JobId.{JobId}
+use Rattle.cell_base.specs.declared.requests.Part.{Part}
+use Rattle.cell_base.specs.declared.requests.Refusal.TheVariants.{Saturated}
+use Rattle.cell_base.specs.declared.requests.Reply.TheVariants.{Granted, Refused}
+use Rattle.cell_base.specs.Masks.{has_bit}
+use Rattle.cell_base.specs.Stages.{IsStage, stage_of, capacity_of}
+use Rattle.cell_base.specs.Neighborhoods.{count}
+use Rattle.cell_base.specs.Policy.{is_of_job, is_loaded, first_over, IsAdmitted}
+use Rattle.cell_base.specs.Outcomes.{part_of, refuse, admit, finish_first}
+use Rattle.policy_laws.proofs.Lists.{find-Contains, find_passes, list_any-Contains, list_any-found, find_some, All-found}
+use Rattle.policy_laws.proofs.Parts.{part_of-found}
+use Rattle.neighborhood_counts.specs.Counts.{Counted, first_full, is_full}
+use Rattle.part_table.specs.declared.standing.Standing.{Standing}
+use Rattle.part_table.specs.Parts.{is_waiting}
+use Rattle.admission_core.specs.Replies.{reply_at}
+
+-- a part that is found is of its job, stands in the state, and at a stage
+pub record IsPartOf (cell : Cell) (parts : List Part) (job : JobId) (part : Part) : Type 0 where
+  pub stands : Contains parts part
+  pub of : part.job ≡ job
+  pub stage : IsStage cell (stage_of part)
+  pub loaded : is_loaded parts job ≡ true
+
+pub part_known : (cell : Cell) (parts : List Part) (wanted : JobId) (part : Part) → IsAdmitted cell parts → part_of parts wanted ≡ Some part
+    → IsPartOf cell parts wanted part
+part_known cell parts wanted part admitted e =
+    let found = part_of-found parts wanted part e in
+    record {
+      stands = found.0;
+      of = found.1;
+      stage = All-found (λ part. IsStage cell (stage_of part)) (is_of_job wanted) parts part admitted.state.standing e;
+      loaded = list_any-Contains (is_of_job wanted) parts part found.0 (find_passes (is_of_job wanted) parts part e);
+    }
+
+-- a job that no part is found of is not loaded
+pub not_found : (parts : List Part) (job : JobId) → part_of parts job ≡ None → is_loaded parts job ≡ false
+not_found parts job e = at (is_loaded parts job) refl
+  where
+    at : (b : Bool) → is_loaded parts job ≡ b → b ≡ false
+    at true loaded =
+        let found = list_any-found (is_of_job job) parts loaded in
+        let some = find_some (is_of_job job) parts found.0 found.1 found.2 in
+        absurd (none-some some.0 (sym e ∙ some.1))
+    at false loaded = refl
+
+-- the reply to what is admitted or not
+pub admit_reply : (cell : Cell) (parts next : List Part) → (admit cell parts next).0 ≡ reply_at cell parts (first_over cell next)
+admit_reply cell parts next = at (first_over cell next)
+  where
+    at : (o : Option ℕ)
+        → (option_map_or (λ r. refuse (Saturated (record { 0 = r }) (count cell parts r) (capacity_of cell r)) parts) o (Granted, next)).0
+        ≡ reply_at cell parts o
+    at None = refl
+    at (Some r) = refl
+
+-- what is no element is none
+pub none_left : {X : Type 0} (o : Option X) → ((x : X) → o ≡ Some x → ⊥) → o ≡ None
+none_left None away = refl
+none_left (Some x) away = absurd (away x refl)
+
+-- what a number is mapped to
+pub some_resource : (o : Option ℕ) (at : ResId) → Some at ≡ option_map (λ r. let q : ResId = record { 0 = r } in q) o → o ≡ Some at.0
+some_resource None at e = absurd (none-some at (sym e))
+some_resource (Some r) at e = ap (λ (q : ResId). Some q.0) (sym (same_Some at (record { 0 = r }) e))
+
+pub no_resource : (o : Option ℕ) → None ≡ option_map (λ r. let q : ResId = record { 0 = r } in q) o → o ≡ None
+no_resource None e = refl
+no_resource (Some r) e = absurd (none-some _ e)
+
+-- a full neighborhood is that of a resource
+pub full_within : (held : Counted) (mask r : ℕ) → first_full held mask ≡ Some r → r < length held.counts
+full_within held mask r e =
+    let n = length held.counts in
+    let c = find-Contains (λ r. has_bit mask r && is_full held r) (range_with_len 0 n) r e in
+    let within : c.0 < n = omega (arith, c.1, length-range_with_len 0 n) in
+    omega (arith, get_or-range_with_len 0 n c.0 r within, c.2)
+
+-- the job of what is found waiting
+pub some_waiting : (o : Option Standing) (job : JobId) → Some job ≡ option_map (λ (item : Standing). item.part.job) o
+    → (item : Standing) × (o ≡ Some item) × (item.part.job ≡ job)
+some_waiting None job e = absurd (none-some job (sym e))
+some_waiting (Some item) job e = (item, refl, sym (same_Some job item.part.job e))
+
+pub no_waiting : (o : Option Standing) → None ≡ option_map (λ (item : Standing). item.part.job) o → o ≡ None
+no_waiting None e = refl
+no_waiting (Some item) e = absurd (none-some item.part.job e)
+
+-- nothing is finished where no part passes
+pub finish_first-none : (test : Part → Bool) (parts : List Part) → find test parts ≡ None → finish_first test parts ≡ parts
+finish_first-none test [] e = refl
+finish_first-none test (part ∷ parts) e = at (test part) e (finish_first-none test parts)
+  where
+    at : (b : Bool) → cond b (Some part) (find test parts) ≡ None → (find test parts ≡ None → finish_first test parts ≡ parts)
+        → cond b ((record part { done = true }) ∷ parts) (part ∷ finish_first test parts) ≡ part ∷ parts
+    at true e later = absurd (none-some part (sym e))
+    at false e later = ap (λ ps. part ∷ ps) (later e)
+
+-- some part passes exactly where one is found
+pub any_found : {X : Type 0} (test : X → Bool) (xs : List X) (x : X) → find test xs ≡ Some x → list_any test xs ≡ true
+any_found test xs x e = list_any-Contains test xs x (find-Contains test xs x e) (find_passes test xs x e)
+
+pub none_found : {X : Type 0} (test : X → Bool) (xs : List X) → find test xs ≡ None → list_any test xs ≡ false
+none_found test xs e = at (list_any test xs) refl
+  where
+    at : (b : Bool) → list_any test xs ≡ b → b ≡ false
+    at true any =
+        let found = list_any-found test xs any in
+        let some = find_some test xs found.0 found.1 found.2 in
+        absurd (none-some some.0 (sym e ∙ some.1))
+    at false any = refl

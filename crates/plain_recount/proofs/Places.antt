@@ -1,0 +1,58 @@
+-- Rows that are filled from behind: a stage leads to a resource by its own step, or by a stage that may follow.
+use Rattle.std.proofs.Common.{◌≡◌, ℕ, ◌+◌, ◌<◌, ◌≤◌, ◌==◌, nat_le, Bool, false, ◌||◌, ◌&&◌, List, [], length, map, All, Contains, Option, Some, None, slice_get, get_or, set, get_or-set_same, get_or-set_other, ◌≢◌, ⊎_elim, refl, ap, ◌∙◌, sym, arith}
+use Rattle.std.specs.List.{list_any}
+use Rattle.std.specs.Option.{option_map_or}
+use Rattle.std.proofs.lemmas.Bool.{cases_eq}
+use Rattle.std.proofs.lemmas.List.Elements.{All-contains}
+use Rattle.cell_base.specs.declared.limits.TheConstants.{MAX_PLACES}
+use Rattle.cell_base.specs.declared.cells.Cell.{Cell}
+use Rattle.cell_base.specs.declared.cells.JobType.{JobType}
+use Rattle.cell_base.specs.Stages.{stage, IsStage, route_of, successors, resource_at, order_at, order_of}
+use Rattle.cell_base.specs.Neighborhoods.{leads}
+use Rattle.cell_base.specs.Fits.{CellFits}
+use Rattle.plain_recount.specs.Leading.{KnowsBehind}
+use Rattle.policy_laws.proofs.Lists.{list_any_agree, list_any-map}
+use Rattle.policy_laws.proofs.Stages.{type_fits}
+use Rattle.policy_laws.proofs.Leading.{leads_sweep}
+
+-- the route of a type is no longer than the limit
+pub length-route_of : (cell : Cell) → CellFits cell → (kind : ℕ) → length (route_of cell kind) ≤ MAX_PLACES
+length-route_of cell fits kind = of (slice_get cell.types kind) refl
+  where
+    of : (o : Option JobType) → slice_get cell.types kind ≡ o → length (option_map_or (λ (t : JobType). t.route) o []) ≤ MAX_PLACES
+    of None e = omega arith
+    of (Some t) e = (type_fits cell fits kind t e).places.1
+
+module _ (cell : Cell) (fits : CellFits cell) (r kind place : ℕ) where
+  -- a later place of the route
+  abbrev IsLater : ℕ → Type 0
+  IsLater p = (place < p) × (p < length (route_of cell kind))
+
+  -- what a row that is filled from behind says of the stage before it
+  pub leads-by_row : (row : List Bool) (next : List ℕ) → IsStage cell (stage kind place)
+      → map (stage kind) next ≡ successors cell (stage kind place) → All IsLater next → KnowsBehind cell r kind (place + 1) row
+      → leads cell (stage kind place) r
+      ≡ ((resource_at cell (stage kind place) == r)
+      || (nat_le (order_at cell (stage kind place)) (order_of cell r) && list_any (λ p. get_or row p false) next))
+  leads-by_row row next at is later known =
+      leads_sweep cell fits r (stage kind place) at
+      ∙ ap (λ some. (resource_at cell (stage kind place) == r) ||
+      (nat_le (order_at cell (stage kind place)) (order_of cell r) && some)) same
+    where
+      reads : (p : ℕ) → Contains next p → leads cell (stage kind p) r ≡ get_or row p false
+      reads p c = let behind : IsLater p = All-contains IsLater next p later c in sym (known p (omega arith) behind.1)
+
+      same : list_any (λ t. leads cell t r) (successors cell (stage kind place)) ≡ list_any (λ p. get_or row p false) next
+      same =
+          ap (list_any (λ t. leads cell t r)) (sym is)
+          ∙ list_any-map (λ t. leads cell t r) (stage kind) next
+          ∙ list_any_agree (λ p. leads cell (stage kind p) r) (λ p. get_or row p false) next reads
+
+-- the row knows one place more
+pub KnowsBehind-set : (cell : Cell) (r kind from at : ℕ) (row : List Bool) (b : Bool) → at + 1 ≡ from → at < length row
+    → b ≡ leads cell (stage kind at) r → KnowsBehind cell r kind from row → KnowsBehind cell r kind at (set row at b)
+KnowsBehind-set cell r kind from at row b e within is known p behind inside =
+    ⊎_elim
+    (λ (here : p ≡ at). rw here (get_or-set_same row at b false within ∙ is))
+    (λ (other : p ≢ at). get_or-set_other row at p b false other ∙ known p (omega arith) inside)
+    (cases_eq p at)

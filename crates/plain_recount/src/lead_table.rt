@@ -1,0 +1,111 @@
+//! A cell with the table of the stages that lead to each resource.
+ghost use Rattle.std.specs.Prelude.{◌≡◌, ◌<◌, length, IfOk, IfSome, option_map};
+ghost use Rattle.cell_base.specs.Stages.{stage, IsStage, stage_of, is_last, successor};
+ghost use Rattle.cell_base.specs.Neighborhoods.{leads};
+ghost use Rattle.cell_base.specs.Outcomes.{arrival};
+ghost use Rattle.cell_base.specs.Fits.{CellFits};
+
+use crate::sweep;
+use cell_base::{Cell, JobId, List, NoMemory, Part, ResId, TypeId};
+use std::alloc::Global;
+use std::marker::Model;
+
+/// A cell that fits, with the table of the stages that lead to its resources. Contracts see it as the cell.
+#[derive(Drop)]
+pub struct LeadTable<'a> {
+    cell: &'a Cell,
+    /// By resource, type and place.
+    leads: List<List<List<bool>>>,
+}
+
+impl<'a> Model for LeadTable<'a> {
+    ghost use Rattle.std.specs.Prelude.{◌≡◌};
+    ghost use Rattle.cell_base.specs.declared.cells.Cell.{Cell};
+    ghost use Rattle.cell_base.specs.Fits.{CellFits};
+    ghost use Rattle.plain_recount.specs.Leading.{leading_table};
+
+    ghost Value = { Cell };
+
+    ghost view = { λ s. s.cell.now };
+
+    ghost invariant = { λ s. CellFits s.cell.now × (s.leads ≡ leading_table s.cell.now) };
+}
+
+impl<'a> LeadTable<'a> {
+    /// The cell with its table.
+    pub fn new(alloc: Global, cell: &'a Cell) -> Result<LeadTable<'a>, NoMemory>
+        requires { CellFits cell.now }
+        ensures { IfOk result (λ table. table ≡ cell.now) }
+    {
+        let leads = sweep::table(alloc, cell)?;
+        Ok(LeadTable { cell, leads })
+    }
+
+    /// The cell.
+    pub fn cell(&self) -> &Cell
+        ensures value { result.now ≡ self.now }
+        ensures fits { CellFits self.now }
+    {
+        self.cell
+    }
+
+    /// Whether a part's stage leads to a resource.
+    pub fn leads(&self, part: Part, r: ResId) -> bool
+        requires resource { r.0 < length self.now.resources }
+        requires stage { IsStage self.now (stage_of part) }
+        ensures { result ≡ leads self.now (stage_of part) r.0 }
+    {
+        *self
+            .leads
+            .get(r.0 as u64)
+            .get(part.kind.0 as u64)
+            .get(part.place as u64)
+    }
+
+    /// Whether a part stands at a last stage.
+    pub fn is_last(&self, part: Part) -> bool
+        requires { IsStage self.now (stage_of part) }
+        ensures { result ≡ is_last self.now (stage_of part) }
+    {
+        self.cell.is_last(part.kind, part.place)
+    }
+
+    /// The place to which a part goes by a branch.
+    pub fn next_place(&self, part: Part, branch: u16) -> Option<u16>
+        requires { IsStage self.now (stage_of part) }
+        ensures successor { option_map (stage part.kind.0) result ≡ successor self.now (stage_of part) branch }
+        ensures within { IfSome result (λ place. IsStage self.now (stage part.kind.0 place)) }
+    {
+        self.cell.successor(part.kind, part.place, branch)
+    }
+
+    /// A part that arrives at a place.
+    pub fn arrival(&self, job: JobId, kind: TypeId, place: u16) -> Part
+        requires { IsStage self.now (stage kind.0 place) }
+        ensures { result ≡ arrival self.now job kind place }
+    {
+        arrival(self.cell, job, kind, place)
+    }
+
+    /// A part that arrives at the first place of its route.
+    pub fn entry(&self, job: JobId, kind: TypeId) -> Part
+        requires { kind.0 < length self.now.types }
+        ensures value { result ≡ arrival self.now job kind 0 }
+        ensures stage { IsStage self.now (stage_of result) }
+    {
+        arrival(self.cell, job, kind, 0)
+    }
+}
+
+/// A part that arrives at a stage of a cell: it is done at once where the stage does not work.
+fn arrival(cell: &Cell, job: JobId, kind: TypeId, place: u16) -> Part
+    requires { IsStage cell.now (stage kind.0 place) }
+    ensures { result ≡ arrival cell.now job kind place }
+{
+    Part {
+        job,
+        kind,
+        place,
+        done: !cell.works_at(kind, place),
+    }
+}

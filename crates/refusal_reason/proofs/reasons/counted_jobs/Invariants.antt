@@ -1,0 +1,8 @@
+-- The jobs are those of the parts so far that are counted.
+use Rattle.std.proofs.Common.{◌≡◌, take}
+use Rattle.cell_base.specs.Neighborhoods.{counted}
+use Rattle.refusal_reason.specs.Reasons.{jobs_of}
+use Rattle.refusal_reason.proofs.reasons.counted_jobs.Given as goal
+
+abbrev pub invariant-loop-i : goal.invariant-loop-i
+invariant-loop-i l = l.jobs ≡ jobs_of (counted l.core.cell (take l.i l.core.parts) l.r.0)

@@ -1,0 +1,24 @@
+//! Why a request is refused, and which stages a neighborhood has.
+//!
+//! A request that is refused for a full neighborhood is told the resource and two numbers. `explain` names the jobs that
+//! stand in that neighborhood, as many as the resource has units; each other refusal needs no job. `show_text` is the text
+//! of a cell's resources, each with the stages of its neighborhood, and `first_line` gives out its lines one by one:
+//!
+//! ```text
+//! if let Reply::Refused(why) = core.decide(&request) {
+//!     let jobs = explain(alloc, &core, &why)?;
+//! }
+//! let text = show_text(alloc, &core)?;
+//! let (line, rest) = first_line(text.as_slice());     // resource M1 capacity 1 order 1
+//! ```
+#![tactic(auto)]
+
+pub mod laws;
+mod reasons;
+mod shown;
+
+pub use reasons::explain;
+pub use shown::{first_line, show_text};
+
+#[cfg(test)]
+mod tests;

@@ -1,0 +1,7 @@
+pub mod Carrying
+pub mod Legal
+pub mod Onward
+pub mod Replying
+pub mod Rows
+pub mod Verdicts
+pub mod Walking

@@ -1,0 +1,29 @@
+//! Whether a record tells what the policy answers, line by line.
+//!
+//! `check` recounts the parts at every line of the blocks that `read_record` gives, and has none of the controller's
+//! code. It answers exactly what `judge` of `specs/Judging` says, which judges each line by itself:
+//!
+//! ```text
+//! let blocks = read_record(alloc, &cell, &bytes)?;
+//! match check(alloc, &cell, &blocks)? {
+//!     Verdict::Yes => ..,
+//!     Verdict::No { line, why } => ..,    // the first line that fails
+//! }
+//! ```
+//!
+//! The state is empty before the first block. A shift that was halted at a request leaves open whether it was written:
+//! it was where the head of the next block names one more grant. The steps of a plan are tried, and change nothing.
+//! `laws` says that the record of a legal shift and its plan is right.
+#![tactic(auto)]
+
+mod checking;
+pub mod laws;
+mod replies;
+mod verdict;
+mod walk;
+
+pub use checking::check;
+pub use verdict::{Verdict, Why};
+
+#[cfg(test)]
+mod tests;

@@ -1,0 +1,113 @@
+//! Verdicts on records of a small cell.
+use crate::{Verdict, Why, check};
+use cell_base::{Cell, JobType, List, Name, NoMemory, ResId, Resource, Step, cell_fits};
+use record_text::read_record;
+use std::alloc::Global;
+use std::test::Fail;
+
+fn add_machine(list: &mut List<Resource>, name: &[u8], order: u32) -> Result<(), NoMemory> {
+    if let Some(name) = Name::read(name) {
+        list.try_push(Resource {
+            name,
+            capacity: 1,
+            order,
+        })?;
+    }
+    Ok(())
+}
+
+fn add_type(
+    alloc: Global,
+    list: &mut List<JobType>,
+    name: &[u8],
+    machines: [u16; 2],
+) -> Result<(), NoMemory> {
+    let mut route = List::new(alloc);
+    for machine in machines {
+        route.try_push(Step {
+            on: ResId(machine),
+            works: true,
+        })?;
+    }
+    let mut behind = List::new(alloc);
+    behind.try_push(1)?;
+    let mut next = List::new(alloc);
+    next.try_push(behind)?;
+    next.try_push(List::new(alloc))?;
+    if let Some(name) = Name::read(name) {
+        list.try_push(JobType { name, route, next })?;
+    }
+    Ok(())
+}
+
+/// Two machines of one unit: A goes from the first to the second, and Z from the second to the first.
+fn crossing(alloc: Global) -> Result<Cell, NoMemory> {
+    let mut resources = List::new(alloc);
+    add_machine(&mut resources, b"M1", 1)?;
+    add_machine(&mut resources, b"M2", 2)?;
+    let mut types = List::new(alloc);
+    add_type(alloc, &mut types, b"A", [0, 1])?;
+    add_type(alloc, &mut types, b"Z", [1, 0])?;
+    Ok(Cell { resources, types })
+}
+
+/// The verdict on a text; nothing where it is no record.
+fn verdict_on(alloc: Global, text: &[u8]) -> Result<Option<Verdict>, NoMemory> {
+    let cell = crossing(alloc)?;
+    if !cell_fits(&cell) {
+        return Ok(None);
+    }
+    match read_record(alloc, &cell, text) {
+        Ok(blocks) => Ok(Some(check(alloc, &cell, &blocks)?)),
+        Err(_) => Ok(None),
+    }
+}
+
+#[test]
+fn verdicts_on_texts(rt: HostRuntime) -> Result<(), Fail> {
+    let table: [(&[u8], Option<Verdict>); 7] = [
+        (
+            b"shift 1 after 0\n1 load 7 A granted\nleft 1\nplan 4\nprocess M1\nmove 7\nprocess M2\nunload 7\n",
+            Some(Verdict::Yes),
+        ),
+        (
+            b"shift 1 after 0\n1 load 7 A refused job-loaded\nleft 1\nplan 4\nprocess M1\nmove 7\nprocess M2\nunload 7\n",
+            Some(Verdict::No {
+                line: 2,
+                why: Why::Reply,
+            }),
+        ),
+        (
+            b"shift 1 after 0\n1 load 7 A granted\nleft 1\nplan 3\nprocess M1\nmove 7\nunload 7\n",
+            Some(Verdict::No {
+                line: 7,
+                why: Why::Step,
+            }),
+        ),
+        (
+            b"shift 1 after 0\n1 load 7 A granted\nleft 1\nplan 3\nprocess M1\nmove 7\nprocess M2\n",
+            Some(Verdict::No {
+                line: 4,
+                why: Why::Parts,
+            }),
+        ),
+        (
+            b"shift 1 after 0\n1 load 7 A granted\n1 load 8 Z refused saturated M2 1 of 2\nleft 1\nplan 0\n",
+            Some(Verdict::No {
+                line: 3,
+                why: Why::Reply,
+            }),
+        ),
+        // a shift that halts at a move after two grants, and the next one, before which the move was not written
+        (
+            b"shift 1 after 0\n1 load 7 A granted\n1 process M1 granted\n1 move 7 halted\n\
+shift 1 after 2\n1 move 7 granted\n1 process M2 granted\n1 unload 7 granted\nleft 0\nplan 0\n",
+            Some(Verdict::Yes),
+        ),
+        (b"shift 1 after 0\n1 load 7 A granted\n", None),
+    ];
+    for (text, verdict) in table {
+        assert_eq!(rt; verdict_on(rt.alloc(), text)?, verdict);
+    }
+    Ok(())
+}
