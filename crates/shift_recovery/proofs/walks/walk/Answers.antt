@@ -1,0 +1,108 @@
+-- What stands at a gate in the window stands at it in the file.
+use Rattle.std.specs.Prelude.{Option, Some, Result, Ok, Err}
+use Rattle.std.proofs.Common.{◌≡◌, ◌+◌, ◌-◌, ◌≤◌, ◌≢◌, ◌∙◌, ◌++◌, ◌∷◌, [], ℕ, List, length, drop, take, ap, arith, length-take, length-drop}
+use Rattle.std.proofs.lemmas.List.{length_push}
+use Rattle.shift_recovery.specs.declared.faults.JournalFault.{JournalFault}
+use Rattle.shift_recovery.specs.declared.faults.JournalFault.TheVariants.{Long}
+use Rattle.cell_base.specs.declared.shifts.Grant.{Grant}
+use Rattle.shift_recovery.specs.Readings.{grants_from}
+use Rattle.shift_recovery.specs.Walked.{with_grants}
+use Rattle.outside_io.specs.Telling.{where_told, told}
+use Rattle.shift_recovery.proofs.Stepping.{closed_ends, fault_ends, too_long, with_none, gate_known, shows_more, walk_step}
+use Rattle.shift_recovery.proofs.walks.walk.Goals as goal
+
+abbrev good : Option Grant → Result (Option Grant) JournalFault
+good found = Ok found
+
+pub returns-in-Some-Err-clause-walked : goal.returns-in-Some-Err-clause-walked
+returns-in-Some-Err-clause-walked g c =
+    let v = c.gates.invariant in
+    where_told _ (λ file. grants_from c.args.room c.args.room c.args.first (drop c.args.first file) ≡ Err c.in-Some-Err.why) (λ file is.
+    told _ _ file is v.walked ∙ ap (with_grants c.gates.grants) (fault_ends c.args.room _ c.gates.gate _ c.in-Some-Err.why
+    (gate_known file c.gates.kept.items c.deref.result.now c.gates.gate c.gates.at c.gates.used c.args.len _
+    c.deref.ensures.value (told _ _ file is v.shows) c.in-Some-Err.ensures.found ∙ c.in-Some-Err.field-0-is)))
+
+pub returns-in-Some-Ok-None-clause-walked : goal.returns-in-Some-Ok-None-clause-walked
+returns-in-Some-Ok-None-clause-walked g c =
+    let v = c.gates.invariant in (
+      v.gate_is,
+      where_told _ (λ file. grants_from c.args.room c.args.room c.args.first (drop c.args.first file) ≡ Ok c.gates.grants) (λ file is.
+          told _ _ file is v.walked ∙ ap (with_grants c.gates.grants) (closed_ends c.args.room _ c.gates.gate _
+          (gate_known file c.gates.kept.items c.deref.result.now c.gates.gate c.gates.at c.gates.used c.args.len _
+          c.deref.ensures.value (told _ _ file is v.shows) c.in-Some-Ok-None.ensures.found ∙ c.in-Some-Ok-None.field-0-is
+          ∙ ap (λ (o : Option Grant). good o) c.in-Some-Ok-None.field-0-0-is)) ∙ with_none c.gates.grants),
+    )
+
+pub returns-then-len-room-clause-walked : goal.returns-then-len-room-clause-walked
+returns-then-len-room-clause-walked g c =
+    let v = c.gates.invariant in
+    let is_grant : c.in-Some-Ok-Some.field-0 ≡ good (Some c.in-Some-Ok-Some.grant) = c.in-Some-Ok-Some.field-0-is
+    ∙ ap (λ (o : Option Grant). good o) c.in-Some-Ok-Some.field-0-0-is in
+    where_told _ (λ file. grants_from c.args.room c.args.room c.args.first (drop c.args.first file)
+    ≡ Err (Long (c.args.room + 1))) (λ file is.
+    told _ _ file is v.walked ∙ ap (with_grants c.gates.grants)
+    (too_long c.args.room _ c.gates.gate _ c.in-Some-Ok-Some.grant (omega (arith, c.if-len-room.true, c.len.ensures))
+    (gate_known file c.gates.kept.items c.deref.result.now c.gates.gate c.gates.at c.gates.used c.args.len _
+    c.deref.ensures.value (told _ _ file is v.shows) c.in-Some-Ok-Some.ensures.found ∙ is_grant)))
+
+-- the window holds the gate, the record and the gate behind it
+long_window : (kept seen : List ℕ) (used : ℕ) → seen ≡ kept → 18 ≤ length (take (length seen - used) (drop used seen))
+    → used + 18 ≤ length kept
+long_window kept seen used is long =
+    omega (arith, long, ap length is, length-take (length seen - used) (drop used seen), length-drop used seen)
+
+pub overflow_add-gate : goal.overflow_add-gate
+overflow_add-gate g c =
+    let v = c.gates.invariant in
+    let is_grant : c.in-Some-Ok-Some.field-0 ≡ good (Some c.in-Some-Ok-Some.grant) = c.in-Some-Ok-Some.field-0-is
+    ∙ ap (λ (o : Option Grant). good o) c.in-Some-Ok-Some.field-0-0-is in
+    let long : c.gates.used + 18 ≤ length c.gates.kept.items =
+    long_window c.gates.kept.items c.deref.result.now c.gates.used c.deref.ensures.value
+    (c.in-Some-Ok-Some.ensures.whole c.in-Some-Ok-Some.grant (ap (λ r. Some r) is_grant)) in
+    omega (arith, long, v.window.begins, v.window.read_within)
+
+pub gates-smaller : goal.gates-smaller
+gates-smaller g c =
+    let v = c.gates.invariant in
+    let is_grant : c.in-Some-Ok-Some.field-0 ≡ good (Some c.in-Some-Ok-Some.grant) = c.in-Some-Ok-Some.field-0-is
+    ∙ ap (λ (o : Option Grant). good o) c.in-Some-Ok-Some.field-0-0-is in
+    let long : c.gates.used + 18 ≤ length c.gates.kept.items =
+    long_window c.gates.kept.items c.deref.result.now c.gates.used c.deref.ensures.value
+    (c.in-Some-Ok-Some.ensures.whole c.in-Some-Ok-Some.grant (ap (λ r. Some r) is_grant)) in
+    omega (arith, long, v.window.begins, v.window.read_within)
+
+pub gates-preserved : goal.gates-preserved
+gates-preserved g c =
+    let v = c.gates.invariant in
+    let is_grant : c.in-Some-Ok-Some.field-0 ≡ good (Some c.in-Some-Ok-Some.grant) = c.in-Some-Ok-Some.field-0-is
+    ∙ ap (λ (o : Option Grant). good o) c.in-Some-Ok-Some.field-0-0-is in
+    let long : c.gates.used + 18 ≤ length c.gates.kept.items =
+    long_window c.gates.kept.items c.deref.result.now c.gates.used c.deref.ensures.value
+    (c.in-Some-Ok-Some.ensures.whole c.in-Some-Ok-Some.grant (ap (λ r. Some r) is_grant)) in
+    let more : c.try_push.new.self ≡ c.gates.grants ++ c.in-Some-Ok-Some.grant ∷ [] = c.in_ok-try_push-in-Some-Ok-Some.ensures.ok in
+    let size : length c.try_push.new.self ≡ length c.gates.grants + 1 = ap length more
+    ∙ length_push c.gates.grants c.in-Some-Ok-Some.grant in
+    let other : length c.gates.grants ≢ c.args.room = λ same. c.if-len-room.false (c.len.ensures ∙ same) in
+    record {
+      reads = v.reads;
+      count = v.count;
+      window = record { used_within = omega (arith, long); begins = omega (arith, v.window.begins); read_within = v.window.read_within };
+      shows = where_told _ (λ file. (length file ≡ c.args.len)
+          × (drop (c.gates.gate + 17) file ≡ drop (c.gates.used + 17) c.gates.kept.items ++ drop c.gates.at file)) (λ file is.
+          let seen = told _ _ file is v.shows in (
+            seen.0,
+            shows_more file c.gates.kept.items c.gates.gate c.gates.at c.gates.used 17
+                (omega (arith, long, length-drop c.gates.used c.gates.kept.items)) seen.1,
+          ));
+      gate_is = omega (arith, v.gate_is, size);
+      within = omega (arith, size, v.within, other);
+      walked = where_told _ (λ file. grants_from c.args.room c.args.room c.args.first (drop c.args.first file) ≡
+          with_grants c.try_push.new.self
+          (grants_from c.args.room (c.args.room - length c.try_push.new.self) (c.gates.gate + 17)
+          (drop (c.gates.gate + 17) file))) (λ file is.
+          walk_step file c.gates.grants c.try_push.new.self c.in-Some-Ok-Some.grant c.args.room c.args.first c.gates.gate more
+          v.within other
+          (gate_known file c.gates.kept.items c.deref.result.now c.gates.gate c.gates.at c.gates.used c.args.len _
+          c.deref.ensures.value (told _ _ file is v.shows) c.in-Some-Ok-Some.ensures.found ∙ is_grant)
+          (told _ _ file is v.walked));
+    }

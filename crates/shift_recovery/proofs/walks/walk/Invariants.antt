@@ -1,0 +1,23 @@
+-- So far grants were found, and what is found from the gate on comes behind them.
+use Rattle.std.specs.Prelude.{IfSome}
+use Rattle.std.proofs.Common.{◌≡◌, ◌+◌, ◌-◌, ◌*◌, ◌≤◌, length, drop}
+use Rattle.shift_recovery.specs.Readings.{grants_from}
+use Rattle.shift_recovery.specs.Reads.{OnlyReads}
+use Rattle.shift_recovery.specs.Walked.{with_grants}
+use Rattle.shift_recovery.specs.Windows.{IsAt, Shows}
+use Rattle.shift_recovery.proofs.walks.walk.Given as goal
+
+abbrev pub invariant-gates : goal.invariant-gates
+invariant-gates g l = record {
+  reads : OnlyReads g.D.Disk.reads_as g.D.Disk.may_leave g.D.Disk.moment g.D.Disk.left_since l.fn.disk l.disk;
+  count : g.D.Disk.faults l.disk ≡ g.D.Disk.faults l.fn.disk;
+  window : IsAt l.gate l.len l.at l.used l.kept.items;
+  shows : Shows (g.D.Disk.reads_as l.fn.disk) l.gate l.len l.at l.used l.kept.items;
+  gate_is : l.gate ≡ l.first + 17 * length l.grants;
+  within : length l.grants ≤ l.room;
+  walked : IfSome (g.D.Disk.reads_as l.fn.disk) (λ file. grants_from l.room l.room l.first (drop l.first file)
+      ≡ with_grants l.grants (grants_from l.room (l.room - length l.grants) l.gate (drop l.gate file)));
+}
+
+abbrev pub decreases-gates : goal.decreases-gates
+decreases-gates g l = (l.len - l.at) + (l.len - l.gate)

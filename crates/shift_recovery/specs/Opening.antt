@@ -1,0 +1,59 @@
+-- The answers of recovery.
+use Rattle.std.specs.Prelude.{◌≡◌, ◌⊎◌, ℕ, ◌+◌, ◌*◌, ◌^◌, ◌≤◌, false, Option, Some, None, Result, Ok, Err, List, [], length, ⊤}
+use Rattle.cell_base.specs.declared.shifts.Grant.{Grant}
+use Rattle.outside_io.specs.Causes.{Rose}
+use Rattle.move_journal.specs.Blanks.{HasForm, IsBlank}
+use Rattle.move_journal.specs.Disks.{Rests}
+use Rattle.move_journal.specs.Journals.{IsJournal, gate_of}
+use Rattle.shift_recovery.specs.declared.faults.JournalFault.{JournalFault}
+use Rattle.shift_recovery.specs.declared.recoveries.Opened.{Opened}
+use Rattle.shift_recovery.specs.declared.recoveries.Opened.TheVariants.{Fresh, Found, Refused, Device, Memory}
+use Rattle.shift_recovery.specs.declared.recoveries.Reading.{Reading}
+use Rattle.shift_recovery.specs.declared.recoveries.Reading.TheVariants as reading
+use Rattle.shift_recovery.specs.Readings.{read_as}
+
+-- the disk that an answer has
+abbrev pub disk_of : {D : Type 0} → Opened D → D
+disk_of (Fresh blank) = blank
+disk_of (Found journal grants) = journal.disk
+disk_of (Refused disk why) = disk
+disk_of (Device disk) = disk
+disk_of (Memory disk) = disk
+
+-- the answer is what the bytes are read as
+abbrev pub IsAnswer : {D : Type 0} → Opened D → Result (Option (List Grant)) JournalFault → Type 0
+IsAnswer (Fresh blank) read = read ≡ Ok None
+IsAnswer (Found journal grants) read = read ≡ Ok (Some grants)
+IsAnswer (Refused disk why) read = read ≡ Err why
+IsAnswer (Device disk) read = ⊤
+IsAnswer (Memory disk) read = ⊤
+
+-- what is known of the disk, where it tells, and of the journal in any case
+abbrev pub Answers : {D : Type 0} → (D → Option (List ℕ)) → (D → List ℕ → Type 0) → List ℕ → Opened D → Type 0
+Answers reads_as may_leave text (Fresh blank) = Rests reads_as may_leave blank IsBlank
+Answers reads_as may_leave text (Found journal grants) =
+    (journal.len ≡ length grants) × (journal.is_halted ≡ false) × Rests reads_as may_leave journal.disk (λ file. IsJournal file text grants)
+Answers reads_as may_leave text (Refused disk why) = Rests reads_as may_leave disk (λ file. ⊤)
+Answers reads_as may_leave text (Device disk) = ⊤
+Answers reads_as may_leave text (Memory disk) = ⊤
+
+-- the count rises where the answer is that the device failed, and stays with every other answer
+abbrev pub HasOpeningCause : {D : Type 0} → ℕ → ℕ → Opened D → Type 0
+HasOpeningCause before now (Device disk) = Rose before now
+HasOpeningCause before now answer = now ≡ before
+
+-- the bytes are read as these grants, where there is room
+abbrev pub IsFoundBy : Result (Option (List Grant)) JournalFault → ℕ → List Grant → Type 0
+IsFoundBy read room grants = length grants ≤ room → ((read ≡ Ok None) × (grants ≡ [])) ⊎ (read ≡ Ok (Some grants))
+
+-- a reading of the bytes, with what opens them
+abbrev pub IsReading : List ℕ → List ℕ → ℕ → Reading → Type 0
+IsReading file text room (reading.Blank form) = (read_as file text room ≡ Ok None) × HasForm form file
+IsReading file text room (reading.Found gate grants) =
+    (read_as file text room ≡ Ok (Some grants)) × (gate ≡ gate_of text grants) × IsJournal file text grants
+IsReading file text room (reading.Faulty why) = read_as file text room ≡ Err why
+
+-- no offset wraps
+abbrev pub IsSmall : Reading → Type 0
+IsSmall (reading.Found gate grants) = gate ≤ 2 ^ 33 + 17 * length grants
+IsSmall found = ⊤

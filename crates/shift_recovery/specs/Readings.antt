@@ -1,0 +1,77 @@
+-- What the bytes of a disk are read as.
+use Rattle.std.specs.Prelude.{ℕ, zero, suc, ◌+◌, ◌==◌, Bool, not, ◌&&◌, ◌||◌, if◌then◌else◌, nat_eq, nat_lt, nat_le, Option, Some, None, Result, Ok, Err, List, [], ◌∷◌, length, take, drop, slice_index, slice_range}
+use Rattle.std.specs.Option.{option_map_or}
+use lib.Pointwise.{pointwise}
+use Rattle.cell_base.specs.declared.shifts.Grant.{Grant}
+use Rattle.entry_codec.specs.Decoding.{grant_of, number_4}
+use Rattle.move_journal.specs.Blanks.{name}
+use Rattle.move_journal.specs.declared.blank.BlankForm.TheVariants.{Short, Shut, Named}
+use Rattle.shift_recovery.specs.declared.faults.JournalFault.{JournalFault}
+use Rattle.shift_recovery.specs.declared.faults.JournalFault.TheVariants.{NotAJournal, OtherCell, Damaged, Long}
+use Rattle.shift_recovery.specs.declared.heads.Head.{Head}
+use Rattle.shift_recovery.specs.declared.heads.Head.TheVariants.{Blank, Faulty, Open}
+
+-- the name stands behind the file's gate
+abbrev pub has_name : ℕ → List ℕ → Bool
+has_name len bytes = nat_le 9 len && pointwise nat_eq (slice_range bytes 1 9) name
+
+-- The head of a file of so many bytes: it is blank, or it has a fault, or the file's gate is open and the text has so many bytes.
+unfoldable pub head_of : ℕ → List ℕ → Head
+head_of len bytes =
+    if nat_lt len 2 then Blank Short
+    else if slice_index bytes 0 == 0 then Blank Shut
+    else if not (has_name len bytes) then Faulty NotAJournal
+    else if not (slice_index bytes 0 == 1) then Blank Named
+    else if nat_lt len 13 || nat_lt len (13 + number_4 bytes 9) then Faulty (Damaged 9)
+    else Open (number_4 bytes 9)
+
+-- the first offset at which two texts differ, or at which one of them ends, where they begin at an offset
+abbrev pub first_difference : ℕ → List ℕ → List ℕ → Option ℕ
+first_difference at [] [] = None
+first_difference at [] (y ∷ ys) = Some at
+first_difference at (x ∷ xs) [] = Some at
+first_difference at (x ∷ xs) (y ∷ ys) = if x == y then first_difference (at + 1) xs ys else Some at
+
+-- What begins with the gate at an offset: nothing behind a closed gate, or a grant.
+unfoldable pub gate_at : ℕ → List ℕ → Result (Option Grant) JournalFault
+gate_at at [] = Err (Damaged at)
+gate_at at (gate ∷ behind) =
+    if not (gate == 1) then Ok None
+    else if nat_lt (length behind) 17 then Err (Damaged at)
+    else option_map_or (λ grant. Ok (Some grant)) (grant_of (take 16 behind)) (Err (Damaged at))
+
+-- a grant and those behind it
+abbrev pub with_grant : Grant → Result (List Grant) JournalFault → Result (List Grant) JournalFault
+with_grant grant (Ok grants) = Ok (grant ∷ grants)
+with_grant grant (Err why) = Err why
+
+-- what is found at a gate, and behind it
+abbrev pub behind_gate : Result (Option Grant) JournalFault → Result (List Grant) JournalFault → Result (List Grant) JournalFault
+behind_gate (Err why) rest = Err why
+behind_gate (Ok None) rest = Ok []
+behind_gate (Ok (Some grant)) rest = with_grant grant rest
+
+-- The grants from the gate at an offset on, up to the first closed gate, where there is room for so many of `total`.
+unfoldable pub grants_from : ℕ → ℕ → ℕ → List ℕ → Result (List Grant) JournalFault
+grants_from total zero at bytes = behind_gate (gate_at at bytes) (Err (Long (total + 1)))
+grants_from total (suc room) at bytes = behind_gate (gate_at at bytes) (grants_from total room (at + 17) (drop 17 bytes))
+
+-- a blank file has no list of grants
+abbrev pub found : Result (List Grant) JournalFault → Result (Option (List Grant)) JournalFault
+found (Ok grants) = Ok (Some grants)
+found (Err why) = Err why
+
+-- the text of so many bytes is this one, and then come grants
+abbrev pub behind_head : List ℕ → List ℕ → ℕ → ℕ → Result (Option (List Grant)) JournalFault
+behind_head bytes text room size =
+    option_map_or (λ at. Err (OtherCell at)) (first_difference 0 (take size (drop 13 bytes)) text)
+    (found (grants_from room room (13 + size) (drop (13 + size) bytes)))
+
+abbrev pub from_head : List ℕ → List ℕ → ℕ → Head → Result (Option (List Grant)) JournalFault
+from_head bytes text room (Blank form) = Ok None
+from_head bytes text room (Faulty why) = Err why
+from_head bytes text room (Open size) = behind_head bytes text room size
+
+-- The bytes of a disk, read with this cell text and with room for so many grants: blank, a list of grants, or a fault.
+unfoldable pub read_as : List ℕ → List ℕ → ℕ → Result (Option (List Grant)) JournalFault
+read_as bytes text room = from_head bytes text room (head_of (length bytes) bytes)

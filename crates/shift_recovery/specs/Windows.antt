@@ -1,0 +1,24 @@
+-- Where the reading of a file stands.
+use Rattle.std.specs.Prelude.{◌≡◌, ℕ, ◌+◌, ◌≤◌, Option, Some, None, IfSome, List, ◌++◌, length, take, drop}
+use Rattle.shift_recovery.specs.declared.texts.Compared.{Compared}
+use Rattle.shift_recovery.specs.declared.texts.Compared.TheVariants.{Differs, Same}
+use Rattle.shift_recovery.specs.Readings.{first_difference}
+
+-- the kept bytes from `used` on begin at an offset of a file of len bytes
+pub record IsAt (offset len at used : ℕ) (kept : List ℕ) : Type 0 where
+  pub used_within : used ≤ length kept
+  pub begins : offset + length kept ≡ at + used
+  pub read_within : at ≤ len
+
+-- and they are the file's, where the disk tells it
+abbrev pub Shows : Option (List ℕ) → ℕ → ℕ → ℕ → ℕ → List ℕ → Type 0
+Shows told offset len at used kept = IfSome told (λ file. (length file ≡ len) × (drop offset file ≡ drop used kept ++ drop at file))
+
+-- the first difference of the stored text, or a window behind it
+abbrev pub IsTextEnd : {D : Type 0} → (D → Option (List ℕ)) → D → ℕ → ℕ → List ℕ → Compared → Type 0
+IsTextEnd reads_as disk len size text (Differs at) =
+    IfSome (reads_as disk) (λ file. first_difference 0 (take size (drop 13 file)) text ≡ Some at)
+IsTextEnd reads_as disk len size text (Same window) =
+    IfSome (reads_as disk) (λ file. first_difference 0 (take size (drop 13 file)) text ≡ None)
+    × IsAt (13 + size) len window.at window.used window.kept.items
+    × Shows (reads_as disk) (13 + size) len window.at window.used window.kept.items

@@ -1,0 +1,45 @@
+//! The head of a file: the gate of the file, the name and the length of the cell text. `move_journal::head_write` has the
+//! table of its bytes.
+ghost use Rattle.std.specs.Prelude.{◌≡◌, ◌<◌, ◌≤◌, ℕ, min, length, slice_index};
+ghost use Rattle.shift_recovery.specs.Readings.{head_of};
+
+use crate::faults::JournalFault;
+use move_journal::{BlankForm, NAME};
+
+/// What the head of a file shows.
+#[derive(Clone, Copy, Debug, PartialEq, Eq)]
+pub(crate) enum Head {
+    Blank(BlankForm),
+    Faulty(JournalFault),
+    /// The file's gate is open, and the stored text has so many bytes.
+    Open(u32),
+}
+
+/// The head of a file of `len` bytes, which begins with these.
+#[tactic(auto, unfolding(crate::specs::Readings::head_of))]
+pub(crate) fn read_head(start: &[u8], len: u64) -> Head
+    requires { min 13 len ≤ length start.now }
+    ensures head { result ≡ head_of len start.now }
+    ensures in_range { (i : ℕ) → slice_index start.now i < 256 }
+{
+    if len < 2 {
+        return Head::Blank(BlankForm::Short);
+    }
+    if start[0] == 0 {
+        return Head::Blank(BlankForm::Shut);
+    }
+    if len < 9 || &start[1..9] != NAME.as_slice() {
+        return Head::Faulty(JournalFault::NotAJournal);
+    }
+    if start[0] != 1 {
+        return Head::Blank(BlankForm::Named);
+    }
+    if len < 13 {
+        return Head::Faulty(JournalFault::Damaged { at: 9 });
+    }
+    let size = u32::from_be_bytes([start[9], start[10], start[11], start[12]]);
+    if len < 13 + u64::from(size) {
+        return Head::Faulty(JournalFault::Damaged { at: 9 });
+    }
+    Head::Open(size)
+}

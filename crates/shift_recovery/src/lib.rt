@@ -1,0 +1,31 @@
+//! What stands on a disk after a stop: nothing yet, a journal with its grants, or a file that is refused.
+//!
+//! ```text
+//! match recover(alloc, disk, cell_text, room) {
+//!     Opened::Fresh(blank) => ..,                   // no journal: `blank.clear()`, and then `create`
+//!     Opened::Found { journal, grants } => ..,      // `journal.append(..)` goes on behind the grants
+//!     Opened::Refused { disk, why } => ..,          // another file, another cell, damage, or too many grants
+//!     Opened::Device { disk } => ..,
+//!     Opened::Memory { disk } => ..,
+//! }
+//! ```
+//!
+//! `recover` begins with a sync, so that what it reads is what a later crash leaves. Then it reads the file once, in
+//! pieces, from its start on, and writes nothing. What it finds is `read_as`, a definition over the whole file. On what
+//! a crash may leave of a journal's calls it never answers one of the four faults of `JournalFault`, where the cell text
+//! is the same and there is room.
+#![tactic(auto)]
+
+mod faults;
+mod gates;
+mod heads;
+mod pieces;
+mod recoveries;
+mod texts;
+mod walks;
+
+pub use faults::JournalFault;
+pub use recoveries::{Opened, recover};
+
+#[cfg(test)]
+mod tests;
