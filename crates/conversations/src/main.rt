@@ -7,6 +7,7 @@ mod draft;
 mod folder;
 mod play;
 mod script;
+mod torn_sink;
 
 use anyhow::{Context, Result, bail};
 use conversation::Conversation;

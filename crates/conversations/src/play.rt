@@ -1,12 +1,13 @@
-//! One conversation played against the whole controller in memory: with nothing failing, and then with each put and each
-//! read failing in its turn.
+//! One conversation played against the whole controller in memory: with nothing failing, and then with each put failing in
+//! its turn, of which the sink takes nothing or a first part, and each read.
 
 use crate::conversation::Conversation;
 use crate::folder::Folder;
+use crate::torn_sink::TornSink;
 use anyhow::Result;
 use cell_base::List;
 use cell_program::{Ended, cell_main};
-use outside_io::{FreePace, MemSink, NullDisk};
+use outside_io::{FreePace, MemSink, NullDisk, Sink};
 use std::alloc::Global;
 use std::sync::Wait;
 use std::thread::Threads;
@@ -23,11 +24,12 @@ pub enum Played {
     Otherwise { told: String },
 }
 
-// The one call of the outside that is to fail, from 1.
+// The one call of the outside that is to fail, from 1. Of a torn put the sink takes the first half of the piece.
 #[derive(Clone, Copy)]
 enum Failing {
     Nothing,
     Put(u64),
+    TornPut(u64),
     Read(u64),
 }
 
@@ -72,7 +74,8 @@ pub fn play<R: Threads + Wait + Sync>(
     play_reads(rt, alloc, folder, conversation, &told)
 }
 
-// Plays it with each put failing in turn: the lines before it were taken, and the status is 8.
+// Plays it with each put failing in turn, whole and torn: the lines before it were taken, or these and the first half of
+// its own, and the status is 8.
 fn play_puts<R: Threads + Wait + Sync>(
     rt: &R,
     alloc: Global,
@@ -93,7 +96,20 @@ fn play_puts<R: Threads + Wait + Sync>(
             let failing = format!(in alloc; " where put {put} fails")?;
             return otherwise(alloc, failing.as_str(), taken.written(alloc)?, &told);
         }
-        taken.text.extend_from_slice(line)?;
+        let (first, rest) = line.split_at(line.len() / 2);
+        taken.text.extend_from_slice(first)?;
+        let told = call(
+            rt,
+            alloc,
+            folder,
+            conversation.words(),
+            Failing::TornPut(put),
+        )?;
+        if !told.is(taken.status, taken.text.as_slice()) {
+            let failing = format!(in alloc; " where put {put} is torn")?;
+            return otherwise(alloc, failing.as_str(), taken.written(alloc)?, &told);
+        }
+        taken.text.extend_from_slice(rest)?;
     }
     Ok(Played::AsWritten {
         lines: whole.lines(),
@@ -143,14 +159,31 @@ fn call<R: Threads + Wait + Sync>(
         Failing::Nothing => {}
         Failing::Put(put) => push(&mut puts, put)?,
         Failing::Read(read) => push(&mut reads, read)?,
+        Failing::TornPut(put) => {
+            let mut out = TornSink::new(alloc, put.saturating_sub(1));
+            let status = call_over(rt, alloc, folder, words, reads, &mut out)?;
+            let text = out.bytes().to_vec(alloc)?;
+            return Ok(Told { status, text });
+        }
     }
-    let mut files = folder.in_memory(reads)?;
     let mut out = MemSink::new(alloc, puts);
-    let Ended { status, .. } = cell_main(
-        rt, alloc, words, &mut files, &mut out, NullDisk, &FreePace,
-    );
+    let status = call_over(rt, alloc, folder, words, reads, &mut out)?;
     let text = out.bytes().to_vec(alloc)?;
     Ok(Told { status, text })
+}
+
+// Calls it over a sink, and answers the status.
+fn call_over<R: Threads + Wait + Sync, K: Sink>(
+    rt: &R,
+    alloc: Global,
+    folder: &Folder,
+    words: &[String],
+    reads: List<u64>,
+    out: &mut K,
+) -> Result<u8> {
+    let mut files = folder.in_memory(reads)?;
+    let Ended { status, .. } = cell_main(rt, alloc, words, &mut files, out, NullDisk, &FreePace);
+    Ok(status)
 }
 
 fn push(calls: &mut List<u64>, call: u64) -> Result<()> {
