@@ -9,8 +9,8 @@ use Rattle.neighborhood_counts.specs.Counts.{IsMaskOf, first_full}
 use Rattle.part_table.specs.declared.standing.Standing.{Standing}
 use Rattle.part_table.specs.Parts.{parts_of}
 use Rattle.admission_core.specs.CoreState.{AreOn, AreCounts}
-use Rattle.admission_core.proofs.Granting.{entry-granted, without-absent}
-use Rattle.admission_core.proofs.Room.{room_for, few_parts}
+use Rattle.policy_laws.proofs.Granting.{entry-granted, without-absent}
+use Rattle.policy_laws.proofs.Room.{room_for, few_parts}
 use Rattle.admission_core.proofs.Saturating.{mask_is_of, entry_over}
 use Rattle.admission_core.proofs.Standing.{AreOn-push, parts_of-push}
 use Rattle.admission_core.proofs.Tallying.{counts_entered, work_entered, work_of-le, work-le}
