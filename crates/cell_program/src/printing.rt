@@ -11,7 +11,7 @@ ghost use Rattle.cell_program.specs.Blocks.{Lines, entry_line, step_line, histor
 use cell_base::{Cell, Entry};
 use drain_planner::Drainer;
 use outside_io::{Failed, Sink};
-use record_text::{Line, head_line, line_of, plan_line, step_line};
+use record_text::{Line, head_line, plan_line, write_entry, write_step};
 use refusal_reason::first_line;
 
 /// Puts one line.
@@ -72,8 +72,10 @@ fn print_entries<K: Sink>(out: &mut K, cell: &Cell, entries: &[Entry]) -> Result
         (TookSome (sink_told K.taken K.was_put K.faults out.old out.new) (map (entry_line cell.now) entries.now)) }
     ensures cause { HasCause (K.faults out.old) (K.faults out.new) result }
 {
+    let mut line = Line::new();
     for entry in entries {
-        if let Err(failed) = print_line(out, &line_of(cell, entry)) {
+        write_entry(&mut line, cell, entry);
+        if let Err(failed) = print_line(out, &line) {
             return Err(failed);
         }
     }
@@ -102,8 +104,10 @@ fn print_steps<K: Sink>(out: &mut K, drainer: &mut Drainer) -> Result<(), Failed
         (TookSome (sink_told K.taken K.was_put K.faults out.old out.new) (map (step_line drainer.old.cell) (plan_of drainer.old.cell drainer.old.parts))) }
     ensures cause { HasCause (K.faults out.old) (K.faults out.new) result }
 {
+    let mut line = Line::new();
     while let Some(step) = drainer.next() {
-        if let Err(failed) = print_line(out, &step_line(drainer.cell(), &step)) {
+        write_step(&mut line, drainer.cell(), &step);
+        if let Err(failed) = print_line(out, &line) {
             return Err(failed);
         }
     }

@@ -11,7 +11,7 @@ returns-in-Err-clause-part g c =
     let told : SinkTold = sink_told g.K.Sink.taken g.K.Sink.was_put g.K.Sink.faults c.args.out.now c.loop-entry.out in
     let entries : List Entry = c.args.entries.now in
     breaks_off g.K.Sink.taken g.K.Sink.was_put g.K.Sink.faults (entry_line c.args.cell.now) entries c.args.out.now c.loop-entry.out
-    c.print_line.new.out _ _ c.line_of.result c.line_of.ensures
+    c.print_line.new.out _ _ c.write_entry.new.line c.write_entry.ensures
     (subst (Underway told (entry_line c.args.cell.now) entries)
     (rest_at entries c.loop-entry.entry-index _ (omega (arith, c.loop-entry-test.true))) c.loop-entry.invariant.printed)
     c.in-Err.ensures.part
@@ -22,7 +22,7 @@ loop-entry-preserved g c =
     let entries : List Entry = c.args.entries.now in
     record {
       printed = goes_on g.K.Sink.taken g.K.Sink.was_put g.K.Sink.faults (entry_line c.args.cell.now) entries c.args.out.now
-          c.loop-entry.out c.print_line.new.out _ _ c.line_of.result c.line_of.ensures
+          c.loop-entry.out c.print_line.new.out _ _ c.write_entry.new.line c.write_entry.ensures
           (subst (Underway told (entry_line c.args.cell.now) entries)
           (rest_at entries c.loop-entry.entry-index _ (omega (arith, c.loop-entry-test.true))) c.loop-entry.invariant.printed)
           c.in_default.ensures.whole;

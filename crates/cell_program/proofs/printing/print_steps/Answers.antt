@@ -15,8 +15,8 @@ returns-in-Err-clause-part g c =
     let every : List Request = plan_of cell c.args.drainer.now.parts in
     let same = c.cell.ensures.cell ∙ c.in-Some.ensures.cell ∙ c.loop-step.invariant.same in
     breaks_off g.K.Sink.taken g.K.Sink.was_put g.K.Sink.faults (step_line cell) every c.args.out.now c.loop-step.out
-    c.print_line.new.out c.in-Some.step (plan_of c.next.new.self.cell c.next.new.self.parts) c.step_line.result
-    (c.step_line.ensures ∙ ap (λ (on : Cell). step_line on c.in-Some.step) same)
+    c.print_line.new.out c.in-Some.step (plan_of c.next.new.self.cell c.next.new.self.parts) c.write_step.new.line
+    (c.write_step.ensures ∙ ap (λ (on : Cell). step_line on c.in-Some.step) same)
     (subst (Underway told (step_line cell) every) c.in-Some.ensures.some c.loop-step.invariant.printed)
     c.in-Err.ensures.part
 
@@ -29,8 +29,8 @@ loop-step-preserved g c =
     record {
       same = c.in-Some.ensures.cell ∙ c.loop-step.invariant.same;
       printed = goes_on g.K.Sink.taken g.K.Sink.was_put g.K.Sink.faults (step_line cell) every c.args.out.now c.loop-step.out
-          c.print_line.new.out c.in-Some.step (plan_of c.next.new.self.cell c.next.new.self.parts) c.step_line.result
-          (c.step_line.ensures ∙ ap (λ (on : Cell). step_line on c.in-Some.step) same)
+          c.print_line.new.out c.in-Some.step (plan_of c.next.new.self.cell c.next.new.self.parts) c.write_step.new.line
+          (c.write_step.ensures ∙ ap (λ (on : Cell). step_line on c.in-Some.step) same)
           (subst (Underway told (step_line cell) every) c.in-Some.ensures.some c.loop-step.invariant.printed)
           c.in_default-print_line.ensures.whole;
       still = c.in_default-print_line.ensures.cause.kept ∙ c.loop-step.invariant.still;
