@@ -1,0 +1,6 @@
+-- What the contracts cite.
+pub mod Asked
+pub mod DurableState
+pub mod Kept
+pub mod Replayed
+pub mod Restored
