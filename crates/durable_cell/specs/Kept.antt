@@ -1,6 +1,7 @@
 -- What a durable cell keeps.
-use Rattle.std.specs.Prelude.{◌≡◌, ◌⊎◌, ℕ, ◌+◌, ◌*◌, ◌≤◌, false, Option, None, IfSome, MatchOption, List, ◌++◌, length, map, take, ⊤}
+use Rattle.std.specs.Prelude.{◌≡◌, ◌⊎◌, ℕ, ◌+◌, ◌*◌, ◌≤◌, false, Option, None, IfSome, MatchOption, List, [], ◌∷◌, ◌++◌, length, map, take, ⊤}
 use Rattle.std.specs.Option.{option_map, option_to_list}
+use Rattle.atomic_table.specs.declared.badge.Badge.{Badge}
 use Rattle.cell_base.specs.declared.requests.Request.{Request}
 use Rattle.cell_base.specs.declared.shifts.Entry.{Entry}
 use Rattle.cell_base.specs.declared.shifts.Grant.{Grant}
@@ -45,9 +46,13 @@ abbrev pub StandsNow : {D : Type 0} → DurableState D → List ℕ → Type 0
 StandsNow durable file = StandsFor file durable.text (durable.opening ++ durable.added)
     ⊎ StandsFor file durable.text (durable.opening ++ grants_since durable)
 
+-- the file stands for these grants, and some first ones of those since
+abbrev pub StandsForFirst : List ℕ → List Grant → List Grant → List ℕ → Type 0
+StandsForFirst text opening since file = (n : ℕ) × StandsFor file text (opening ++ take n since)
+
 -- the file stands for the grants of the opening and the first ones since
 abbrev pub StandsBetween : {D : Type 0} → DurableState D → List ℕ → Type 0
-StandsBetween durable file = (n : ℕ) × StandsFor file durable.text (durable.opening ++ take n (grants_since durable))
+StandsBetween durable file = StandsForFirst durable.text durable.opening (grants_since durable) file
 
 -- The disk as it now is: it tells where it told; its count rose exactly where a writing failed; what it reads as and what a crash may
 -- leave stand for what was granted; and each image since the opening was one of then or stands for a first part of it.
@@ -59,9 +64,10 @@ pub record KeepsDisk {D : Type 0} (reads_as : D → Option (List ℕ)) (may_leav
   pub any_moment : IfSome (reads_as disk) (λ _. LeavesOnly moment left_since durable.entry disk
       (λ file. may_leave durable.entry file ⊎ StandsBetween durable file))
 
--- The core stands behind the history, the journal has all that was added and runs until a writing fails, and no shelf gets full.
-pub record KeepsParts {D : Type 0} (durable : DurableState D) (core : CoreState) (journal : JournalState D) (history_spare added_spare : ℕ)
-    : Type 0 where
+-- The badge has the disk of the opening, the core stands behind the history, the journal has all that was added and runs until a writing fails, and no shelf gets full.
+pub record KeepsParts {D : Type 0} (durable : DurableState D) (badge : Badge D) (core : CoreState) (journal : JournalState D)
+    (history_spare added_spare : ℕ) : Type 0 where
+  pub first : badge.views ≡ durable.entry ∷ []
   pub state : core ≡ record { cell = durable.cell; parts = parts durable }
   pub runs : durable.unsure ≡ None → journal.is_halted ≡ false
   pub few : journal.len + durable.limit ≤ 2 * MAX_ROOM + length durable.history

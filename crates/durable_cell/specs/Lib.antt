@@ -2,5 +2,8 @@
 pub mod Asked
 pub mod DurableState
 pub mod Kept
+pub mod Made
+pub mod Openings
 pub mod Replayed
+pub mod Reserved
 pub mod Restored
