@@ -1,2 +1,5 @@
 -- Lemmas, grouped by subject.
+pub mod Grown
+pub mod Halts
+pub mod Moving
 pub mod Replaying
