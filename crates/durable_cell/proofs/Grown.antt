@@ -1,5 +1,5 @@
 -- What a durable cell keeps with one entry more.
-use Rattle.std.specs.Prelude.{Option, Some, None, Result, Err, Bool, true, false, cond, slice_index_or}
+use Rattle.std.specs.Prelude.{Option, Some, None, is_some, Result, Err, Bool, true, false, cond, slice_index_or}
 use Rattle.std.specs.Option.{option_map}
 use Rattle.std.proofs.Common.{◌≡◌, ◌⊎◌, inl, inr, ℕ, ◌+◌, ◌-◌, ◌<◌, ◌≤◌, List, [], ◌∷◌, ◌++◌, length, map, refl, sym, ◌∙◌, ap, subst, arith}
 use Rattle.std.proofs.lemmas.List.{map-append, length_push}
@@ -17,7 +17,7 @@ use Rattle.move_journal.specs.declared.journal.AppendFault.TheVariants.{Halted, 
 use Rattle.durable_cell.specs.Asked.{is_halt, halted_at, halted_in, grant_of, unsure_grant, with_entry}
 use Rattle.durable_cell.specs.DurableState.{DurableState, first_parts, parts, kept_disk, seen}
 use Rattle.durable_cell.specs.Kept.{KeepsHistory, KeepsParts, asked_by, asked_in}
-use Rattle.durable_cell.proofs.Halts.{after-push, legal-push, halted_in-push, halted_at-last, halted_has_entry, beside_none, beside_some}
+use Rattle.durable_cell.proofs.Halts.{after-push, legal-push, halted_in-push, halted_at-none, halted_at-last, halted_has_entry, beside_none, beside_some}
 
 -- the grants of one entry ask what it asked
 grants_of_one : (shift : ℕ) (entry : Entry) → map asked_by (grants shift (entry ∷ [])) ≡ map asked_in (granted_entries (entry ∷ []))
@@ -117,3 +117,23 @@ pub device_alone : (fault : AppendFault) (halted : Bool) → ((after : ℕ) → 
     → err fault ≡ err Device
 device_alone (Halted after) halted only runs = let yes = only after refl in absurd (cc)
 device_alone Device halted only runs = refl
+
+-- where a writing has failed, the last entry of the history is its halt
+pub unsure_last : {D : Type 0} (durable : DurableState D) → KeepsHistory durable → is_some durable.unsure ≡ true
+    → halted_at durable.history ≡ Some (length durable.history - 1)
+unsure_last durable keeps there = by_case (beside_some asked_by asked_in durable.unsure (halted_in durable.history) keeps.unsure)
+  where
+    by_case : (durable.unsure ≡ None) ⊎ ((y : Entry) × (halted_in durable.history ≡ Some y))
+        → halted_at durable.history ≡ Some (length durable.history - 1)
+    by_case (inl none) = let not_there : is_some durable.unsure ≡ false = ap is_some none in absurd (cc)
+    by_case (inr halt) = halted_at-last durable.cell (first_parts durable) durable.history halt.0 (length durable.history - 1)
+        (halted_has_entry durable.history halt.0 halt.1) keeps.legal halt.1
+
+pub none_by_test : (unsure : Option Grant) → is_some unsure ≡ false → unsure ≡ None
+none_by_test None is = refl
+none_by_test (Some grant) is = absurd (cc)
+
+-- and where none has, the history holds no halt
+pub no_halt_yet : {D : Type 0} (durable : DurableState D) → KeepsHistory durable → durable.unsure ≡ None → halted_at durable.history ≡ None
+no_halt_yet durable keeps none =
+    halted_at-none durable.history (beside_none asked_by asked_in durable.unsure (halted_in durable.history) keeps.unsure none)

@@ -21,6 +21,7 @@ use atomic_table::Badge;
 use cell_base::{Cell, Entry, Grant, List, NoMemory, Reply, Request, Shelf, Told};
 use move_journal::{Journal, MAX_CELL_TEXT};
 use outside_io::Disk;
+use policy_laws::refusal_law;
 use std::alloc::Global;
 use std::marker::Model;
 
@@ -158,6 +159,7 @@ impl<D: Disk> Durable<D> {
                 request: *request,
             }),
             Reply::Refused(why) => {
+                refusal_law(self.core.cell());
                 let reply = Reply::Refused(why);
                 self.history
                     .push(entry(session, request, Told::Answered(reply)));
