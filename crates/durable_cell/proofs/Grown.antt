@@ -77,7 +77,7 @@ keeps_parts durable shift entry badge core new_core journal new_journal history_
     state_of ps = record { cell = durable.cell; parts = ps }
 
 -- the badge has the disk of the opening, whatever the journal's is
-kept_is : {D : Type 0} (badge : Badge D) (disk other : D) → badge.views ≡ disk ∷ [] → kept_disk badge other ≡ disk
+pub kept_is : {D : Type 0} (badge : Badge D) (disk other : D) → badge.views ≡ disk ∷ [] → kept_disk badge other ≡ disk
 kept_is badge disk other is = ap (λ (views : List _). slice_index_or views 0 other) is
 
 pub seen_more : {D : Type 0} (badge : Badge D) (disk : D) (core new_core : CoreState) (text : List ℕ) (journal new_journal : JournalState D)

@@ -2,4 +2,5 @@
 pub mod Grown
 pub mod Halts
 pub mod Moving
+pub mod Opened
 pub mod Replaying
