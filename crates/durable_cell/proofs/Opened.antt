@@ -1,6 +1,6 @@
 -- What a durable cell keeps when it is opened.
-use Rattle.std.specs.Prelude.{Option, Some, None, false}
-use Rattle.std.proofs.Common.{◌≡◌, ◌⊎◌, inl, inr, ℕ, ◌+◌, ◌≤◌, List, [], ◌∷◌, ◌++◌, length, refl, sym, ◌∙◌, ap, subst, arith}
+use Rattle.std.specs.Prelude.{Option, Some, None, false, IfSome}
+use Rattle.std.proofs.Common.{◌≡◌, ◌⊎◌, inl, inr, ⊎_elim, ℕ, ◌+◌, ◌≤◌, List, [], ◌∷◌, ◌++◌, length, refl, sym, ◌∙◌, ap, subst, arith}
 use Rattle.std.proofs.lemmas.List.{append-nil}
 use Rattle.atomic_table.specs.declared.badge.Badge.{Badge}
 use Rattle.cell_base.specs.declared.cells.Cell.{Cell}
@@ -11,13 +11,14 @@ use Rattle.admission_core.specs.CoreState.{CoreState}
 use Rattle.outside_io.specs.Disk.{Turns, LeavesOnly}
 use Rattle.outside_io.specs.Moments.{widened, followed}
 use Rattle.outside_io.specs.Telling.{where_told, told, turned_back}
+use Rattle.move_journal.specs.Blanks.{IsBlank}
 use Rattle.move_journal.specs.Journals.{StandsFor}
 use Rattle.move_journal.specs.Kept.{JournalState}
 use Rattle.shift_recovery.specs.Reads.{OnlyReads}
 use Rattle.durable_cell.specs.declared.replays.TheConstants.{MAX_ROOM}
 use Rattle.durable_cell.specs.DurableState.{seen}
 use Rattle.durable_cell.specs.Kept.{KeepsHistory, KeepsDisk, KeepsParts, StandsNow, StandsForFirst}
-use Rattle.durable_cell.specs.Made.{IsJournalOf}
+use Rattle.durable_cell.specs.Made.{IsJournalOf, IsUnmade}
 use Rattle.durable_cell.specs.Openings.{fresh}
 use Rattle.durable_cell.specs.Replayed.{AreDue}
 use Rattle.durable_cell.specs.Restored.{IsCore}
@@ -102,3 +103,19 @@ module _ {D : Type 0} (reads_as : D → Option (List ℕ)) (may_leave : D → Li
       Stands file = StandsNow (fresh cell text entry grants limit) file
       stands : (file : List ℕ) → StandsFor file text grants → Stands file
       stands file st = inl (with_none file st)
+
+  -- a disk that was only read before that
+  pub unmade_since : (entry read new : D) (text : List ℕ) → OnlyReads reads_as may_leave moment left_since entry read
+      → IsUnmade reads_as may_leave moment left_since read text new → IsUnmade reads_as may_leave moment left_since entry text new
+  unmade_since entry read new text reads unmade = record {
+    blank = subst (λ (o : Option (List ℕ)). IfSome o IsBlank) reads.same unmade.blank;
+    tells = turns_on (reads_as entry) (reads_as read) (reads_as new) (turns_same (reads_as entry) (reads_as read) reads.same) unmade.tells;
+    stands = unmade.stands;
+    any_moment = where_told (reads_as entry) (λ _. LeavesOnly moment left_since entry new P) (λ file is.
+        followed moment left_since entry read new P (widened moment left_since entry read _ P reads.any_moment (λ c was. inl was))
+        (widened moment left_since read new _ P (told _ _ file (reads.same ∙ is) unmade.any_moment)
+        (λ c. ⊎_elim (λ was. inl (reads.outcomes c was)) (λ st. inr st))));
+  }
+    where
+      P : List ℕ → Type 0
+      P file = may_leave entry file ⊎ StandsFor file text []

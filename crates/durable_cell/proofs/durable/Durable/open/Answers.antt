@@ -8,7 +8,7 @@ use Rattle.outside_io.specs.Causes.{Rose}
 use Rattle.durable_cell.specs.DurableState.{DurableState}
 use Rattle.durable_cell.specs.Kept.{KeepsHistory, KeepsDisk, KeepsParts}
 use Rattle.durable_cell.specs.Restored.{disk_stored}
-use Rattle.durable_cell.proofs.Opened.{history_opened, parts_opened, seen_fresh, disk_opened}
+use Rattle.durable_cell.proofs.Opened.{history_opened, parts_opened, seen_fresh, disk_opened, unmade_since}
 use Rattle.durable_cell.proofs.durable.Durable.open.Goals as goal
 
 pub invariant_of-result : goal.invariant_of-result
@@ -37,4 +37,6 @@ returns-in-Err-clause-cause g c =
 
 pub returns-in-Err-clause-leaves : goal.returns-in-Err-clause-leaves
 returns-in-Err-clause-leaves g c =
-    inr (disk_stored c.in-Open.stored, c.in-Open.ensures.reads, (c.in-Err.ensures c.in-Open.grants c.in-Open.ensures.holds).0)
+    inr (unmade_since g.D.Disk.reads_as g.D.Disk.may_leave g.D.Disk.moment g.D.Disk.left_since g.D.Disk.faults c.args.disk
+        (disk_stored c.in-Open.stored) c.in-Err.disk c.args.cell_text.now c.in-Open.ensures.reads
+        (c.in-Err.ensures c.in-Open.grants c.in-Open.ensures.holds).0)
