@@ -152,6 +152,18 @@ impl Parts {
         self.log.advance(job, place, done, on);
     }
 
+    /// The work on the part of a job is done. It keeps its place in the order.
+    pub fn finish(&mut self, job: JobId)
+        requires { is_loaded (parts_of self.old.items) job ≡ true }
+        ensures items { self.new.items ≡ finished self.old.items job }
+        ensures spare { self.new.spare ≡ self.old.spare }
+        ensures resources { self.new.resources ≡ self.old.resources }
+    {
+        if let Some(at) = self.log.place_of(job) {
+            self.log.finish(at);
+        }
+    }
+
     /// The work on the first part on a resource that is not done, if there is one. The part keeps its place in the order. Gives its job.
     pub fn finish_first(&mut self, on: ResId) -> Option<JobId>
         requires { on.0 < self.old.resources }
