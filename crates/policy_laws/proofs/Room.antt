@@ -1,5 +1,5 @@
 -- The parts of an admitted state are few enough: there is room for one that may arrive.
-use Rattle.std.proofs.Common.{◌≡◌, ℕ, ◌<◌, ◌≤◌, None, List, [], ◌∷◌, ◌++◌, length, arith}
+use Rattle.std.proofs.Common.{◌≡◌, ◌<◌, ◌≤◌, None, List, [], ◌∷◌, ◌++◌, length, arith}
 use Rattle.std.proofs.lemmas.List.{length_push}
 use Rattle.cell_base.specs.declared.limits.TheConstants.{MAX_UNITS}
 use Rattle.cell_base.specs.declared.cells.Cell.{Cell}

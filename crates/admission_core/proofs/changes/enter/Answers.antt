@@ -1,10 +1,9 @@
 -- A part that is granted to enter has room, and every number goes along with it.
-use Rattle.std.proofs.Common.{◌≡◌, ℕ, ◌+◌, ◌<◌, ◌≤◌, None, List, [], ◌∷◌, ◌++◌, length, ap, subst, sym, ◌∙◌, arith}
+use Rattle.std.proofs.Common.{◌≡◌, List, [], ◌∷◌, ◌++◌, length, ap, subst, sym, ◌∙◌, arith}
 use Rattle.std.proofs.lemmas.List.{length-map, length_push}
 use Rattle.cell_base.specs.declared.requests.Part.{Part}
 use Rattle.cell_base.specs.Stages.{stage_of}
 use Rattle.cell_base.specs.Plans.{work}
-use Rattle.cell_base.specs.Fits.{units_of}
 use Rattle.neighborhood_counts.specs.Counts.{IsMaskOf, first_full}
 use Rattle.part_table.specs.declared.standing.Standing.{Standing}
 use Rattle.part_table.specs.Parts.{parts_of}

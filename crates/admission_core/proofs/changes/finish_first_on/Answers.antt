@@ -1,16 +1,13 @@
 -- The first part that waits is done, and needs one step less.
-use Rattle.std.proofs.Common.{◌≡◌, ◌+◌, ◌-◌, ◌≤◌, true, false, not, ◌&&◌, ◌==◌, Some, None, find, List, length, ap, subst, sym, ◌∙◌, arith}
+use Rattle.std.proofs.Common.{◌≡◌, ◌+◌, false, not, ◌==◌, Some, None, find, List, length, ap, subst, sym, ◌∙◌, arith}
 use Rattle.std.specs.Option.{option_map}
 use Rattle.std.proofs.lemmas.Bool.{and_parts, not-true}
 use Rattle.std.proofs.lemmas.List.{length-map}
-use Rattle.cell_base.specs.declared.requests.JobId.{JobId}
 use Rattle.cell_base.specs.declared.requests.Part.{Part}
 use Rattle.cell_base.specs.Stages.{stage_of, resource_at}
-use Rattle.cell_base.specs.Policy.{is_of_job, is_loaded}
 use Rattle.cell_base.specs.Outcomes.{is_waiting_on, finish_first}
 use Rattle.cell_base.specs.Plans.{work}
-use Rattle.policy_laws.proofs.Lists.{find-Contains, find_passes, list_any-Contains}
-use Rattle.policy_laws.proofs.Parts.{is_of_job-same}
+use Rattle.policy_laws.proofs.Lists.{find-Contains, find_passes}
 use Rattle.policy_laws.proofs.Work.{work_of-positive}
 use Rattle.part_table.specs.declared.standing.Standing.{Standing}
 use Rattle.part_table.specs.Parts.{parts_of, is_waiting, finish, finished}

@@ -1,5 +1,5 @@
 -- The part of the job, or none.
-use Rattle.std.proofs.Common.{◌≡◌, Some, None, ap, subst, sym, ◌∙◌}
+use Rattle.std.proofs.Common.{◌≡◌, Some, ap, subst, sym, ◌∙◌}
 use Rattle.cell_base.specs.declared.requests.JobId.{JobId}
 use Rattle.cell_base.specs.Outcomes.{part_of, without}
 use Rattle.part_table.specs.Parts.{parts_of}

@@ -1,5 +1,5 @@
 -- The part is at its place, and is done there.
-use Rattle.std.proofs.Common.{◌≡◌, length, ap, sym, arith, ◌∙◌}
+use Rattle.std.proofs.Common.{◌≡◌, length, ap, arith, ◌∙◌}
 use Rattle.std.proofs.lemmas.List.{length-map}
 use Rattle.part_table.specs.Parts.{is_waiting, finished, finish}
 use Rattle.part_table.specs.Logs.{staying}
