@@ -5,166 +5,40 @@ use crate::file::journal;
 use anyhow::{Context, Result, bail};
 use std::alloc::Global;
 
-/// Journals of so many grants, cut to each length from one to another, with room for so many grants, and what is answered.
+/// A journal of so many grants, the first and the last of the lengths to which it is cut, the room, and what is answered.
 #[derive(Clone, Copy)]
-pub struct Cut {
-    grants: u64,
-    from: usize,
-    to: usize,
-    room: u64,
-    answer: Answer,
-}
+pub struct Cut(u64, usize, usize, u64, Answer);
 
 /// A journal of five grants, length by length.
 pub const EVERY_CUT: [Cut; 10] = [
-    Cut {
-        grants: 5,
-        from: 0,
-        to: 1,
-        room: 5,
-        answer: Answer::Blank,
-    },
-    Cut {
-        grants: 5,
-        from: 2,
-        to: 8,
-        room: 5,
-        answer: Answer::NotAJournal,
-    },
-    Cut {
-        grants: 5,
-        from: 9,
-        to: 202,
-        room: 5,
-        answer: Answer::Damaged(9),
-    },
-    Cut {
-        grants: 5,
-        from: 203,
-        to: 203,
-        room: 5,
-        answer: Answer::Damaged(203),
-    },
-    Cut {
-        grants: 5,
-        from: 204,
-        to: 220,
-        room: 5,
-        answer: Answer::Damaged(203),
-    },
-    Cut {
-        grants: 5,
-        from: 221,
-        to: 237,
-        room: 5,
-        answer: Answer::Damaged(220),
-    },
-    Cut {
-        grants: 5,
-        from: 238,
-        to: 254,
-        room: 5,
-        answer: Answer::Damaged(237),
-    },
-    Cut {
-        grants: 5,
-        from: 255,
-        to: 271,
-        room: 5,
-        answer: Answer::Damaged(254),
-    },
-    Cut {
-        grants: 5,
-        from: 272,
-        to: 288,
-        room: 5,
-        answer: Answer::Damaged(271),
-    },
-    Cut {
-        grants: 5,
-        from: 289,
-        to: 289,
-        room: 5,
-        answer: Answer::Grants(5),
-    },
+    Cut(5, 0, 1, 5, Answer::Blank),
+    Cut(5, 2, 8, 5, Answer::NotAJournal),
+    Cut(5, 9, 202, 5, Answer::Damaged(9)),
+    Cut(5, 203, 203, 5, Answer::Damaged(203)),
+    Cut(5, 204, 220, 5, Answer::Damaged(203)),
+    Cut(5, 221, 237, 5, Answer::Damaged(220)),
+    Cut(5, 238, 254, 5, Answer::Damaged(237)),
+    Cut(5, 255, 271, 5, Answer::Damaged(254)),
+    Cut(5, 272, 288, 5, Answer::Damaged(271)),
+    Cut(5, 289, 289, 5, Answer::Grants(5)),
 ];
 
 /// More grants than room, and as many.
 pub const ROOMS: [Cut; 6] = [
-    Cut {
-        grants: 0,
-        from: 204,
-        to: 204,
-        room: 0,
-        answer: Answer::Grants(0),
-    },
-    Cut {
-        grants: 1,
-        from: 221,
-        to: 221,
-        room: 0,
-        answer: Answer::Long(1),
-    },
-    Cut {
-        grants: 2,
-        from: 238,
-        to: 238,
-        room: 2,
-        answer: Answer::Grants(2),
-    },
-    Cut {
-        grants: 3,
-        from: 255,
-        to: 255,
-        room: 2,
-        answer: Answer::Long(3),
-    },
-    Cut {
-        grants: 4,
-        from: 272,
-        to: 272,
-        room: 2,
-        answer: Answer::Long(3),
-    },
-    Cut {
-        grants: 3,
-        from: 254,
-        to: 254,
-        room: 2,
-        answer: Answer::Damaged(237),
-    },
+    Cut(0, 204, 204, 0, Answer::Grants(0)),
+    Cut(1, 221, 221, 0, Answer::Long(1)),
+    Cut(2, 238, 238, 2, Answer::Grants(2)),
+    Cut(3, 255, 255, 2, Answer::Long(3)),
+    Cut(4, 272, 272, 2, Answer::Long(3)),
+    Cut(3, 254, 254, 2, Answer::Damaged(237)),
 ];
 
 /// Journals that are read in pieces of 4,096 bytes.
 pub const PIECES: [Cut; 4] = [
-    Cut {
-        grants: 229,
-        from: 4097,
-        to: 4097,
-        room: 1000,
-        answer: Answer::Grants(229),
-    },
-    Cut {
-        grants: 229,
-        from: 4096,
-        to: 4096,
-        room: 1000,
-        answer: Answer::Damaged(4079),
-    },
-    Cut {
-        grants: 470,
-        from: 8194,
-        to: 8194,
-        room: 1000,
-        answer: Answer::Grants(470),
-    },
-    Cut {
-        grants: 470,
-        from: 8192,
-        to: 8192,
-        room: 1000,
-        answer: Answer::Damaged(8176),
-    },
+    Cut(229, 4097, 4097, 1000, Answer::Grants(229)),
+    Cut(229, 4096, 4096, 1000, Answer::Damaged(4079)),
+    Cut(470, 8194, 8194, 1000, Answer::Grants(470)),
+    Cut(470, 8192, 8192, 1000, Answer::Damaged(8176)),
 ];
 
 /// Recovers the journals of a table, and answers how many.
@@ -177,13 +51,7 @@ pub fn check_cuts(alloc: Global, cuts: &[Cut]) -> Result<u64> {
 }
 
 fn check_cut(alloc: Global, cut: Cut) -> Result<u64> {
-    let Cut {
-        grants,
-        from,
-        to,
-        room,
-        answer,
-    } = cut;
+    let Cut(grants, from, to, room, answer) = cut;
     let bytes = journal(alloc, grants, 0)?;
     for len in from..=to {
         let Some(bytes) = bytes.get(..len) else {

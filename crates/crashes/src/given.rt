@@ -1,8 +1,8 @@
 //! The tables of files of which it is known what recovery answers.
 
-use crate::answer::{Answer, check_bytes, check_text};
-use crate::file::{Start, journal};
-use crate::sample::{CELL, ROOM};
+use crate::answer::{Answer, check_bytes};
+use crate::file::Start;
+use crate::sample::ROOM;
 use anyhow::{Context, Result};
 use std::alloc::Global;
 
@@ -50,21 +50,26 @@ const FILLS: [u8; 5] = [0, 1, 2, b'R', 255];
 
 /// Recovers the given files, and answers how many.
 pub fn check_given(alloc: Global) -> Result<u64> {
-    let mut files = 0u64;
+    let mut files = check_followed(alloc)?;
     for Given(start, answer) in GIVEN {
         let bytes = start.followed_by(alloc, 0, 0)?;
         check_bytes(alloc, &bytes, ROOM, answer).context(format_args!("{start:?}"))?;
         files = files.wrapping_add(1);
     }
-    for Followed(start, count, answer) in FOLLOWED {
-        check_followed(alloc, start, count, answer)?;
-        files = files.wrapping_add(FILLS.len() as u64);
-    }
-    check_other_cell(alloc)?;
-    Ok(files.wrapping_add(1))
+    Ok(files)
 }
 
-fn check_followed(alloc: Global, start: Start, count: usize, answer: Answer) -> Result<()> {
+// The files with bytes of any kind behind them.
+fn check_followed(alloc: Global) -> Result<u64> {
+    let mut files = 0u64;
+    for Followed(start, count, answer) in FOLLOWED {
+        check_fills(alloc, start, count, answer)?;
+        files = files.wrapping_add(FILLS.len() as u64);
+    }
+    Ok(files)
+}
+
+fn check_fills(alloc: Global, start: Start, count: usize, answer: Answer) -> Result<()> {
     for fill in FILLS {
         let bytes = start.followed_by(alloc, count, fill)?;
         check_bytes(alloc, &bytes, ROOM, answer).context(format_args!(
@@ -72,18 +77,4 @@ fn check_followed(alloc: Global, start: Start, count: usize, answer: Answer) -> 
         ))?;
     }
     Ok(())
-}
-
-// A journal of five grants, where the text that is given has another order of M2.
-fn check_other_cell(alloc: Global) -> Result<()> {
-    let mut text = *CELL;
-    text[106] = b'3';
-    check_text(
-        alloc,
-        &journal(alloc, 5, 0)?,
-        &text,
-        ROOM,
-        Answer::OtherCell(106),
-    )
-    .context("a cell of another order")
 }

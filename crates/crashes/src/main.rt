@@ -15,6 +15,7 @@ mod records;
 mod sample;
 mod silent_disk;
 mod stops;
+mod texts;
 mod torn;
 
 use anyhow::{Context, Result, bail};
@@ -27,6 +28,7 @@ use std::env;
 use std::process::ExitCode;
 use std::rt::{Clock, Env};
 use stops::{Stops, check_stops};
+use texts::check_texts;
 
 fn main(rt: HostRuntime) -> ExitCode {
     match run(&rt) {
@@ -59,6 +61,8 @@ fn check_all<R: Print + AllocGlobal>(rt: &R) -> Result<()> {
     println!(rt; "records both ways: {records}")?;
     let files = check_given(alloc)?;
     println!(rt; "given files: {files}")?;
+    let texts = check_texts(alloc)?;
+    println!(rt; "cell texts that are not the journal's: {texts}")?;
     let files = check_cuts(alloc, &EVERY_CUT)?;
     println!(rt; "a journal of five grants cut to each length: {files}")?;
     let files = check_cuts(alloc, &ROOMS)?;
