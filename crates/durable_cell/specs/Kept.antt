@@ -73,3 +73,10 @@ pub record KeepsParts {D : Type 0} (durable : DurableState D) (badge : Badge D) 
   pub few : journal.len + durable.limit ≤ 2 * MAX_ROOM + length durable.history
   pub history_room : durable.limit ≤ length durable.history + history_spare
   pub added_room : durable.limit ≤ length durable.history + added_spare
+
+-- all of it
+abbrev pub Keeps : {D : Type 0} → (D → Option (List ℕ)) → (D → List ℕ → Type 0) → (D → ℕ) → (D → ℕ → List ℕ → Type 0) → (D → ℕ)
+    → DurableState D → Badge D → CoreState → JournalState D → ℕ → ℕ → Type 0
+Keeps reads_as may_leave moment left_since faults durable badge core journal history_spare added_spare =
+    KeepsHistory durable × KeepsDisk reads_as may_leave moment left_since faults durable journal.disk
+    × KeepsParts durable badge core journal history_spare added_spare
