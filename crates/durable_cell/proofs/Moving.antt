@@ -1,7 +1,7 @@
 -- A disk on which one grant more was written, or whose writing failed.
 use Rattle.std.specs.Prelude.{Option, Some, None, IfSome, MatchOption}
 use Rattle.std.specs.Option.{option_to_list}
-use Rattle.std.proofs.Common.{◌≡◌, ◌⊎◌, inl, inr, ⊎_elim, ℕ, zero, suc, ◌+◌, ◌≤◌, List, [], ◌∷◌, ◌++◌, length, take, refl, sym, ◌∙◌, ap, subst, arith, append_assoc}
+use Rattle.std.proofs.Common.{◌≡◌, ◌⊎◌, inl, inr, ⊎_elim, ℕ, zero, suc, ◌≤◌, List, [], ◌∷◌, ◌++◌, length, take, refl, sym, ◌∙◌, ap, subst, arith, append_assoc}
 use Rattle.std.proofs.lemmas.List.{append-nil, take_all, take_at, take-append-le}
 use Rattle.cell_base.specs.declared.shifts.Entry.{Entry}
 use Rattle.cell_base.specs.declared.shifts.Grant.{Grant}

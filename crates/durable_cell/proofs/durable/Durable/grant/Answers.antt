@@ -1,6 +1,6 @@
 -- A grant that is written is one entry more, and so is one whose writing failed.
-use Rattle.std.specs.Prelude.{Option, Some, None}
-use Rattle.std.proofs.Common.{◌≡◌, ◌<◌, ◌+◌, List, [], ◌∷◌, ◌++◌, length, false, refl, sym, ◌∙◌, ap, subst, arith}
+use Rattle.std.specs.Prelude.{Some}
+use Rattle.std.proofs.Common.{[], ◌∷◌, ◌++◌, refl, sym, ◌∙◌, ap, subst, arith}
 use Rattle.std.proofs.lemmas.List.{append-nil}
 use Rattle.cell_base.specs.declared.requests.Reply.TheVariants.{Granted}
 use Rattle.cell_base.specs.declared.requests.Told.TheVariants.{Answered, Halted}

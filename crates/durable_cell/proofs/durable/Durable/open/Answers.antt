@@ -1,8 +1,5 @@
 -- The disk was only read until a journal is made on it.
-use Rattle.std.specs.Prelude.{None}
 use Rattle.std.proofs.Common.{ℕ, inr, sym, ap, subst}
-use Rattle.cell_base.specs.declared.cells.Cell.{Cell}
-use Rattle.cell_base.specs.Fits.{CellFits}
 use Rattle.admission_core.specs.CoreState.{CoreState}
 use Rattle.outside_io.specs.Causes.{Rose}
 use Rattle.durable_cell.specs.DurableState.{DurableState}
