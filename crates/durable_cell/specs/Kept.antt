@@ -7,7 +7,6 @@ use Rattle.cell_base.specs.declared.shifts.Entry.{Entry}
 use Rattle.cell_base.specs.declared.shifts.Grant.{Grant}
 use Rattle.cell_base.specs.Fits.{CellFits}
 use Rattle.cell_base.specs.Histories.{IsLegal, granted_entries}
-use Rattle.cell_base.specs.Policy.{IsAdmitted}
 use Rattle.admission_core.specs.CoreState.{CoreState}
 use Rattle.outside_io.specs.Causes.{Rose}
 use Rattle.outside_io.specs.Disk.{Turns, LeavesOnly}
@@ -73,3 +72,10 @@ pub record KeepsParts {D : Type 0} (durable : DurableState D) (badge : Badge D) 
   pub few : journal.len + durable.limit ≤ 2 * MAX_ROOM + length durable.history
   pub history_room : durable.limit ≤ length durable.history + history_spare
   pub added_room : durable.limit ≤ length durable.history + added_spare
+
+-- all of it
+abbrev pub Keeps : {D : Type 0} → (D → Option (List ℕ)) → (D → List ℕ → Type 0) → (D → ℕ) → (D → ℕ → List ℕ → Type 0) → (D → ℕ)
+    → DurableState D → Badge D → CoreState → JournalState D → ℕ → ℕ → Type 0
+Keeps reads_as may_leave moment left_since faults durable badge core journal history_spare added_spare =
+    KeepsHistory durable × KeepsDisk reads_as may_leave moment left_since faults durable journal.disk
+    × KeepsParts durable badge core journal history_spare added_spare

@@ -12,7 +12,9 @@ const LOAD: Request = Request::Load {
     job: JobId(7),
     kind: TypeId(0),
 };
+
 const PROCESS: Request = Request::Process { machine: ResId(0) };
+
 const UNLOAD: Request = Request::Unload { job: JobId(7) };
 
 fn may_be_sent<T: Send>(value: T) -> T {
@@ -49,10 +51,7 @@ fn opened(alloc: Global, disk: MemDisk, limit: u64) -> Result<Durable<MemDisk>, 
     }
 }
 
-fn ask(
-    durable: &mut Durable<MemDisk>,
-    request: &Request,
-) -> Result<Result<Reply, AskFault>, Fail> {
+fn ask(durable: &mut Durable<MemDisk>, request: &Request) -> Result<Result<Reply, AskFault>, Fail> {
     if !request_fits(durable.core().cell(), request) {
         return Err(Fail::from("the request fits"));
     }
@@ -91,8 +90,14 @@ fn a_failed_write_halts(rt: HostRuntime) -> Result<(), Fail> {
     let disk = MemDisk::new(alloc, b"", fails)?;
     let mut durable = opened(alloc, disk, 5)?;
     assert_eq!(rt; ask(&mut durable, &LOAD)?, Ok(Reply::Granted));
-    assert_eq!(rt; ask(&mut durable, &PROCESS)?, Err(AskFault::Device { at: 1 }));
-    assert_eq!(rt; ask(&mut durable, &UNLOAD)?, Err(AskFault::Halted { at: 1 }));
+    assert_eq!(rt;
+        ask(&mut durable, &PROCESS)?,
+        Err(AskFault::Device { at: 1 })
+    );
+    assert_eq!(rt;
+        ask(&mut durable, &UNLOAD)?,
+        Err(AskFault::Halted { at: 1 })
+    );
     let finished = durable.finish();
     let again = opened(alloc, finished.disk, 5)?;
     assert_eq!(rt; again.opening().len(), 1);
