@@ -1,9 +1,9 @@
 //! A journal of grants, to which one more is added at a time.
-ghost use Rattle.std.specs.Prelude.{◌≡◌, ℕ, ◌+◌, ◌*◌, ◌^◌, ◌<◌, ◌≤◌, List, true, false, Some, Ok, Err, [], ◌∷◌, ◌++◌, OnOk};
+ghost use Rattle.std.specs.Prelude.{◌≡◌, ℕ, ◌+◌, ◌*◌, ◌^◌, ◌<◌, ◌≤◌, List, true, false, Some, Ok, Err, [], ◌∷◌, ◌++◌, OnOk, ⊤};
 ghost use Rattle.cell_base.specs.declared.shifts.Grant.{Grant};
 ghost use Rattle.entry_codec.specs.Records.{HasRecord};
 ghost use Rattle.outside_io.specs.Causes.{Rose};
-ghost use Rattle.outside_io.specs.Disk.{LeavesOnly};
+ghost use Rattle.outside_io.specs.Disk.{Turns, LeavesOnly};
 ghost use Rattle.move_journal.specs.Disks.{Rests, Shows};
 ghost use Rattle.move_journal.specs.Journals.{StandsFor, IsBeforeOrAfter};
 ghost use Rattle.move_journal.specs.Kept.{IsOpen};
@@ -75,6 +75,7 @@ impl<D: Disk> Journal<D> {
         ensures same_len { result ≡ Err AppendFault.Device → self.new.len ≡ self.old.len }
 
         // What the disk holds at the return, and at each moment since the entry, where it told its bytes.
+        ensures tells { Turns (D.reads_as self.old.disk) (D.reads_as self.new.disk) (λ _ _. ⊤) }
         ensures stored { (file text : List ℕ) (grants : List Grant)
             → D.reads_as self.old.disk ≡ Some file → StandsFor file text grants
             → OnOk result (Shows D.reads_as D.may_leave self.new.disk (λ new. StandsFor new text (grants ++ grant.now ∷ []))) }

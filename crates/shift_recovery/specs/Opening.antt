@@ -37,6 +37,11 @@ Answers reads_as may_leave text (Refused disk why) = Rests reads_as may_leave di
 Answers reads_as may_leave text (Device disk) = ⊤
 Answers reads_as may_leave text (Memory disk) = ⊤
 
+-- no more grants are found than there is room for, whether the disk tells or not
+abbrev pub HasRoom : {D : Type 0} → ℕ → Opened D → Type 0
+HasRoom room (Found journal grants) = length grants ≤ room
+HasRoom room answer = ⊤
+
 -- the count rises where the answer is that the device failed, and stays with every other answer
 abbrev pub HasOpeningCause : {D : Type 0} → ℕ → ℕ → Opened D → Type 0
 HasOpeningCause before now (Device disk) = Rose before now
@@ -57,3 +62,8 @@ IsReading file text room (reading.Faulty why) = read_as file text room ≡ Err w
 abbrev pub IsSmall : Reading → Type 0
 IsSmall (reading.Found gate grants) = gate ≤ 2 ^ 33 + 17 * length grants
 IsSmall found = ⊤
+
+-- there are no more grants than room
+abbrev pub IsFew : ℕ → Reading → Type 0
+IsFew room (reading.Found gate grants) = length grants ≤ room
+IsFew room found = ⊤

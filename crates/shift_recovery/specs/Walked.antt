@@ -1,5 +1,5 @@
 -- What a walk over the gates of a file finds.
-use Rattle.std.specs.Prelude.{◌≡◌, ℕ, ◌+◌, ◌*◌, Option, IfSome, Result, Ok, Err, List, ◌++◌, length, drop}
+use Rattle.std.specs.Prelude.{◌≡◌, ℕ, ◌+◌, ◌*◌, ◌≤◌, Option, IfSome, Result, Ok, Err, List, ◌++◌, length, drop, ⊤}
 use Rattle.cell_base.specs.declared.shifts.Grant.{Grant}
 use Rattle.shift_recovery.specs.declared.faults.JournalFault.{JournalFault}
 use Rattle.shift_recovery.specs.declared.walks.Walked.{Walked}
@@ -16,3 +16,8 @@ abbrev pub IsWalkFrom : Option (List ℕ) → ℕ → ℕ → Walked → Type 0
 IsWalkFrom told first room (Closed gate grants) =
     (gate ≡ first + 17 * length grants) × IfSome told (λ file. grants_from room room first (drop first file) ≡ Ok grants)
 IsWalkFrom told first room (Faulty why) = IfSome told (λ file. grants_from room room first (drop first file) ≡ Err why)
+
+-- there are no more grants than room
+abbrev pub IsFew : ℕ → Walked → Type 0
+IsFew room (Closed gate grants) = length grants ≤ room
+IsFew room (Faulty why) = ⊤

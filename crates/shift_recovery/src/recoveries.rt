@@ -7,7 +7,7 @@ ghost use Rattle.move_journal.specs.Disks.{Rests};
 ghost use Rattle.move_journal.specs.Journals.{StandsFor};
 ghost use Rattle.shift_recovery.specs.Reads.{OnlyReads};
 ghost use Rattle.shift_recovery.specs.Readings.{read_as};
-ghost use Rattle.shift_recovery.specs.Opening.{disk_of, Answers, IsReading, IsSmall, IsAnswer, HasOpeningCause, IsFoundBy};
+ghost use Rattle.shift_recovery.specs.Opening.{disk_of, Answers, IsReading, IsSmall, IsFew, HasRoom, IsAnswer, HasOpeningCause, IsFoundBy};
 
 use crate::faults::{JournalFault, Stop};
 use crate::heads::{Head, read_head};
@@ -50,6 +50,7 @@ pub fn recover<D: Disk>(alloc: Global, disk: D, cell_text: &[u8], room: u64) -> 
     ensures reads { OnlyReads D.reads_as D.may_leave D.moment D.left_since disk (disk_of result) }
     ensures exact { IfSome (D.reads_as disk) (λ file. IsAnswer result (read_as file cell_text.now room)) }
     ensures found { Answers D.reads_as D.may_leave cell_text.now result }
+    ensures few { HasRoom room result }
     ensures cause { HasOpeningCause (D.faults disk) (D.faults (disk_of result)) result }
 
     // What the calls of a journal may leave is found.
@@ -91,6 +92,7 @@ fn read_journal<D: Disk>(
     ensures exact { IfOk result (λ reading. IfSome (D.reads_as disk.old)
         (λ file. IsReading file cell_text.now room reading)) }
     ensures small { IfOk result IsSmall }
+    ensures few { IfOk result (IsFew room) }
     ensures stable { OnOk result (IfSome (D.reads_as disk.new) (λ file. Only file (D.may_leave disk.new))) }
     ensures ok { OnOk result (D.faults disk.new ≡ D.faults disk.old) }
     ensures device { IsErrOf result Stop.Device → Rose (D.faults disk.old) (D.faults disk.new) }

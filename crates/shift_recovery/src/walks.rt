@@ -3,7 +3,7 @@ ghost use Rattle.std.specs.Prelude.{◌≡◌, ◌+◌, ◌≤◌, length, IfOk,
 ghost use Rattle.outside_io.specs.Causes.{Rose};
 ghost use Rattle.shift_recovery.specs.Reads.{OnlyReads};
 ghost use Rattle.shift_recovery.specs.Windows.{IsAt, Shows};
-ghost use Rattle.shift_recovery.specs.Walked.{IsWalkFrom};
+ghost use Rattle.shift_recovery.specs.Walked.{IsWalkFrom, IsFew};
 
 use crate::faults::{JournalFault, Stop};
 use crate::gates::gate_in;
@@ -34,6 +34,7 @@ pub(crate) fn walk<D: Disk>(
     requires shows { Shows (D.reads_as disk.old) first len window.at window.used window.kept.items }
     ensures reads { OnlyReads D.reads_as D.may_leave D.moment D.left_since disk.old disk.new }
     ensures walked { IfOk result (IsWalkFrom (D.reads_as disk.old) first room) }
+    ensures few { IfOk result (IsFew room) }
     ensures ok { OnOk result (D.faults disk.new ≡ D.faults disk.old) }
     ensures device { IsErrOf result Stop.Device → Rose (D.faults disk.old) (D.faults disk.new) }
     ensures memory { IsErrOf result Stop.Memory → D.faults disk.new ≡ D.faults disk.old }

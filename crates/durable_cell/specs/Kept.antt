@@ -1,0 +1,75 @@
+-- What a durable cell keeps.
+use Rattle.std.specs.Prelude.{◌≡◌, ◌⊎◌, ℕ, ◌+◌, ◌*◌, ◌≤◌, false, Option, None, IfSome, MatchOption, List, [], ◌∷◌, ◌++◌, length, map, take, ⊤}
+use Rattle.std.specs.Option.{option_map, option_to_list}
+use Rattle.atomic_table.specs.declared.badge.Badge.{Badge}
+use Rattle.cell_base.specs.declared.requests.Request.{Request}
+use Rattle.cell_base.specs.declared.shifts.Entry.{Entry}
+use Rattle.cell_base.specs.declared.shifts.Grant.{Grant}
+use Rattle.cell_base.specs.Fits.{CellFits}
+use Rattle.cell_base.specs.Histories.{IsLegal, granted_entries}
+use Rattle.cell_base.specs.Policy.{IsAdmitted}
+use Rattle.admission_core.specs.CoreState.{CoreState}
+use Rattle.outside_io.specs.Causes.{Rose}
+use Rattle.outside_io.specs.Disk.{Turns, LeavesOnly}
+use Rattle.move_journal.specs.Disks.{Shows}
+use Rattle.move_journal.specs.Journals.{StandsFor}
+use Rattle.move_journal.specs.Kept.{JournalState}
+use Rattle.durable_cell.specs.declared.replays.TheConstants.{MAX_ROOM}
+use Rattle.durable_cell.specs.Asked.{halted_in}
+use Rattle.durable_cell.specs.DurableState.{DurableState, first_parts, parts}
+use Rattle.durable_cell.specs.Replayed.{AreDue}
+
+-- who asked for what
+abbrev pub asked_by : Grant → ℕ × Request
+asked_by grant = (grant.session, grant.request)
+
+-- the same of an entry
+abbrev pub asked_in : Entry → ℕ × Request
+asked_in entry = (entry.session, entry.request)
+
+-- The history is one that a single thread can make, and the grants are those of its granted entries, in order; the shift numbers are
+-- those of the calls.
+pub record KeepsHistory {D : Type 0} (durable : DurableState D) : Type 0 where
+  pub fits : CellFits durable.cell
+  pub due : AreDue durable.cell durable.opening
+  pub legal : IsLegal durable.cell (first_parts durable) durable.history
+  pub added : map asked_by durable.added ≡ map asked_in (granted_entries durable.history)
+  pub unsure : option_map asked_by durable.unsure ≡ option_map asked_in (halted_in durable.history)
+  pub within : length durable.history ≤ durable.limit
+
+-- the grants since the opening, and behind them the one whose writing failed
+abbrev pub grants_since : {D : Type 0} → DurableState D → List Grant
+grants_since durable = durable.added ++ option_to_list durable.unsure
+
+-- the file stands for the grants of the opening and all that were added, with the one whose writing failed or without it
+abbrev pub StandsNow : {D : Type 0} → DurableState D → List ℕ → Type 0
+StandsNow durable file = StandsFor file durable.text (durable.opening ++ durable.added)
+    ⊎ StandsFor file durable.text (durable.opening ++ grants_since durable)
+
+-- the file stands for these grants, and some first ones of those since
+abbrev pub StandsForFirst : List ℕ → List Grant → List Grant → List ℕ → Type 0
+StandsForFirst text opening since file = (n : ℕ) × StandsFor file text (opening ++ take n since)
+
+-- the file stands for the grants of the opening and the first ones since
+abbrev pub StandsBetween : {D : Type 0} → DurableState D → List ℕ → Type 0
+StandsBetween durable file = StandsForFirst durable.text durable.opening (grants_since durable) file
+
+-- The disk as it now is: it tells where it told; its count rose exactly where a writing failed; what it reads as and what a crash may
+-- leave stand for what was granted; and each image since the opening was one of then or stands for a first part of it.
+pub record KeepsDisk {D : Type 0} (reads_as : D → Option (List ℕ)) (may_leave : D → List ℕ → Type 0) (moment : D → ℕ)
+    (left_since : D → ℕ → List ℕ → Type 0) (faults : D → ℕ) (durable : DurableState D) (disk : D) : Type 0 where
+  pub tells : Turns (reads_as durable.entry) (reads_as disk) (λ _ _. ⊤)
+  pub count : MatchOption durable.unsure (faults disk ≡ faults durable.entry) (λ _. Rose (faults durable.entry) (faults disk))
+  pub stands : Shows reads_as may_leave disk (StandsNow durable)
+  pub any_moment : IfSome (reads_as disk) (λ _. LeavesOnly moment left_since durable.entry disk
+      (λ file. may_leave durable.entry file ⊎ StandsBetween durable file))
+
+-- The badge has the disk of the opening, the core stands behind the history, the journal has all that was added and runs until a writing fails, and no shelf gets full.
+pub record KeepsParts {D : Type 0} (durable : DurableState D) (badge : Badge D) (core : CoreState) (journal : JournalState D)
+    (history_spare added_spare : ℕ) : Type 0 where
+  pub first : badge.views ≡ durable.entry ∷ []
+  pub state : core ≡ record { cell = durable.cell; parts = parts durable }
+  pub runs : durable.unsure ≡ None → journal.is_halted ≡ false
+  pub few : journal.len + durable.limit ≤ 2 * MAX_ROOM + length durable.history
+  pub history_room : durable.limit ≤ length durable.history + history_spare
+  pub added_room : durable.limit ≤ length durable.history + added_spare

@@ -1,0 +1,9 @@
+-- What the contracts cite.
+pub mod Asked
+pub mod DurableState
+pub mod Kept
+pub mod Made
+pub mod Openings
+pub mod Replayed
+pub mod Reserved
+pub mod Restored

@@ -1,0 +1,62 @@
+-- What the opening of a durable cell answers.
+use Rattle.std.specs.Prelude.{◌≡◌, ◌⊎◌, ℕ, Option, None, Result, Ok, Err, List, [], ⊤}
+use Rattle.cell_base.specs.declared.cells.Cell.{Cell}
+use Rattle.cell_base.specs.declared.shifts.Grant.{Grant}
+use Rattle.outside_io.specs.Causes.{Rose}
+use Rattle.shift_recovery.specs.declared.faults.JournalFault.{JournalFault}
+use Rattle.shift_recovery.specs.Reads.{OnlyReads}
+use Rattle.durable_cell.specs.declared.opening.Opening.{Opening}
+use Rattle.durable_cell.specs.declared.opening.Opening.TheVariants.{Open, Refused, Device, Memory}
+use Rattle.durable_cell.specs.DurableState.{DurableState}
+use Rattle.durable_cell.specs.Made.{IsUnmade}
+
+-- a durable cell of this cell and its text, on this disk, in which nothing was decided yet
+abbrev pub fresh : {D : Type 0} → Cell → List ℕ → D → List Grant → ℕ → DurableState D
+fresh cell text disk opening limit = record {
+  cell = cell;
+  text = text;
+  entry = disk;
+  opening = opening;
+  history = [];
+  added = [];
+  unsure = None;
+  limit = limit;
+}
+
+-- what is opened is such a cell
+abbrev pub IsNew : {D : Type 0} → Cell → List ℕ → D → ℕ → Opening D → Type 0
+IsNew cell text disk limit (Open durable) = durable ≡ fresh cell text disk durable.opening limit
+IsNew cell text disk limit (Refused other why) = ⊤
+IsNew cell text disk limit (Device other) = ⊤
+IsNew cell text disk limit (Memory other) = ⊤
+
+-- the answer is what the bytes open as
+abbrev pub IsAnswer : {D : Type 0} → Opening D → Result (List Grant) JournalFault → Type 0
+IsAnswer (Open durable) opened = opened ≡ Ok durable.opening
+IsAnswer (Refused disk why) opened = opened ≡ Err why
+IsAnswer (Device disk) opened = ⊤
+IsAnswer (Memory disk) opened = ⊤
+
+-- what is opened stands behind these grants, and the disk is not refused
+abbrev pub IsFound : {D : Type 0} → List Grant → Opening D → Type 0
+IsFound grants (Open durable) = durable.opening ≡ grants
+IsFound grants (Refused disk why) = ⊥
+IsFound grants (Device disk) = ⊤
+IsFound grants (Memory disk) = ⊤
+
+-- the count rises where the answer is that the device failed, and stays with every other answer; what is opened keeps that itself
+abbrev pub HasCause : {D : Type 0} → (D → ℕ) → D → Opening D → Type 0
+HasCause faults old (Open durable) = ⊤
+HasCause faults old (Refused disk why) = faults disk ≡ faults old
+HasCause faults old (Device disk) = Rose (faults old) (faults disk)
+HasCause faults old (Memory disk) = faults disk ≡ faults old
+
+-- A disk that is handed back was only read; or the device failed in the making of a journal on a blank one.
+abbrev pub Leaves : {D : Type 0} → (D → Option (List ℕ)) → (D → List ℕ → Type 0) → (D → ℕ) → (D → ℕ → List ℕ → Type 0) → D
+    → List ℕ → Opening D → Type 0
+Leaves reads_as may_leave moment left_since old text (Open durable) = ⊤
+Leaves reads_as may_leave moment left_since old text (Refused disk why) = OnlyReads reads_as may_leave moment left_since old disk
+Leaves reads_as may_leave moment left_since old text (Device disk) =
+    OnlyReads reads_as may_leave moment left_since old disk
+    ⊎ ((read : _) × OnlyReads reads_as may_leave moment left_since old read × IsUnmade reads_as may_leave moment left_since read text disk)
+Leaves reads_as may_leave moment left_since old text (Memory disk) = OnlyReads reads_as may_leave moment left_since old disk

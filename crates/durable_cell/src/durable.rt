@@ -1,0 +1,248 @@
+//! The durable cell.
+ghost use Rattle.std.specs.Prelude.{◌≡◌, ◌≤◌, ℕ, List as Sequence, Some, length, IfOk, IfSome};
+ghost use Rattle.cell_base.specs.declared.shifts.Grant.{Grant};
+ghost use Rattle.cell_base.specs.Fits.{CellFits, RequestFits};
+ghost use Rattle.cell_base.specs.Histories.{IsLegal};
+ghost use Rattle.cell_base.specs.Policy.{IsAdmitted};
+ghost use Rattle.move_journal.specs.Journals.{StandsFor};
+ghost use Rattle.durable_cell.specs.Asked.{Answers, entry};
+ghost use Rattle.durable_cell.specs.DurableState.{first_parts, parts};
+ghost use Rattle.durable_cell.specs.Kept.{KeepsHistory, KeepsDisk};
+ghost use Rattle.durable_cell.specs.Reserved.{IsReserved};
+ghost use Rattle.durable_cell.specs.Openings.{IsNew, IsAnswer, IsFound, HasCause, Leaves};
+ghost use Rattle.durable_cell.specs.Replayed.{AreDue, opened_as};
+
+use crate::entry_disk::keep_entry;
+use crate::{AskFault, Finished, MAX_ROOM, Opening, Restored, restore};
+use admission_core::Core;
+use atomic_table::Badge;
+use cell_base::{Cell, Entry, Grant, List, NoMemory, Reply, Request, Shelf, Told};
+use move_journal::{Journal, MAX_CELL_TEXT};
+use outside_io::Disk;
+use std::alloc::Global;
+use std::marker::Model;
+
+/// A core with the journal of its grants. Contracts see it as a `DurableState`. All memory is taken at the opening.
+#[derive(Drop)]
+pub struct Durable<D: Disk> {
+    /// The disk as it was handed to `open`, for contracts alone.
+    entry: Badge<D>,
+    core: Core,
+    text: List<u8>,
+    journal: Journal<D>,
+    opening: List<Grant>,
+    history: Shelf<Entry>,
+    added: Shelf<Grant>,
+    unsure: Option<Grant>,
+    limit: u64,
+}
+
+impl<D: Disk> Model for Durable<D> {
+    ghost use Rattle.durable_cell.specs.DurableState.{DurableState, seen};
+    ghost use Rattle.durable_cell.specs.Kept.{KeepsHistory, KeepsDisk, KeepsParts};
+
+    ghost Value = { DurableState D };
+
+    ghost view = { λ s. seen s.entry s.core s.text s.journal s.opening s.history.items s.added.items s.unsure s.limit };
+
+    ghost invariant = { λ s.
+        KeepsHistory (seen s.entry s.core s.text s.journal s.opening s.history.items s.added.items s.unsure s.limit)
+        × KeepsDisk D.reads_as D.may_leave D.moment D.left_since D.faults
+        (seen s.entry s.core s.text s.journal s.opening s.history.items s.added.items s.unsure s.limit) s.journal.disk
+        × KeepsParts (seen s.entry s.core s.text s.journal s.opening s.history.items s.added.items s.unsure s.limit)
+        s.entry s.core s.journal s.history.spare s.added.spare };
+}
+
+// The memory of a durable cell.
+struct Shelves {
+    text: List<u8>,
+    history: Shelf<Entry>,
+    added: Shelf<Grant>,
+}
+
+// A copy of the text, and room for so many entries and their grants.
+fn reserve(alloc: Global, cell_text: &[u8], limit: u64) -> Result<Shelves, NoMemory>
+    ensures { IfOk result (IsReserved cell_text.now limit) }
+{
+    Ok(Shelves {
+        text: List::copy_of(alloc, cell_text)?,
+        history: Shelf::with_room(alloc, limit)?,
+        added: Shelf::with_room(alloc, limit)?,
+    })
+}
+
+impl<D: Disk> Durable<D> {
+    /// The cell behind the grants that stand on a disk with this cell text, if there are at most `room` of them. At most `limit`
+    /// requests may be decided. A disk that holds no journal gets one of no grants, as the last step.
+    pub fn open(
+        alloc: Global,
+        cell: Cell,
+        cell_text: &[u8],
+        disk: D,
+        room: u64,
+        limit: u64,
+    ) -> Opening<D>
+        requires fits { CellFits cell }
+        requires text { length cell_text.now ≤ MAX_CELL_TEXT }
+        requires room { room ≤ MAX_ROOM }
+        requires limit { limit ≤ MAX_ROOM }
+        ensures new { IsNew cell cell_text.now disk limit result }
+        ensures exact { IfSome (D.reads_as disk) (λ file. IsAnswer result (opened_as cell file cell_text.now room)) }
+        ensures cause { HasCause D.faults disk result }
+        ensures leaves { Leaves D.reads_as D.may_leave D.moment D.left_since disk cell_text.now result }
+
+        // What a durable cell may leave is opened.
+        ensures stands { (file : Sequence ℕ) (grants : Sequence Grant) → D.reads_as disk ≡ Some file
+            → StandsFor file cell_text.now grants → AreDue cell grants → length grants ≤ room → IsFound grants result }
+    {
+        let Ok(entry) = keep_entry(alloc, &disk) else {
+            return Opening::Memory { disk };
+        };
+        match restore(alloc, cell, cell_text, disk, room) {
+            Restored::Open {
+                core,
+                stored,
+                grants,
+            } => {
+                let Ok(shelves) = reserve(alloc, cell_text, limit) else {
+                    return Opening::Memory {
+                        disk: stored.into_disk(),
+                    };
+                };
+                let Shelves {
+                    text,
+                    history,
+                    added,
+                } = shelves;
+                match stored.into_journal(cell_text) {
+                    Ok(journal) => Opening::Open(Durable {
+                        entry,
+                        core,
+                        text,
+                        journal,
+                        opening: grants,
+                        history,
+                        added,
+                        unsure: None,
+                        limit,
+                    }),
+                    Err(disk) => Opening::Device { disk },
+                }
+            }
+            Restored::Refused { disk, why } => Opening::Refused { disk, why },
+            Restored::Device { disk } => Opening::Device { disk },
+            Restored::Memory { disk } => Opening::Memory { disk },
+        }
+    }
+
+    /// Decides a request of a session in a shift. A grant is stable on the disk before it is applied and answered.
+    pub fn ask(&mut self, shift: u32, session: u16, request: &Request) -> Result<Reply, AskFault>
+        requires { RequestFits self.old.cell request.now }
+        ensures answer { Answers self.old shift session request.now result self.new }
+        ensures legal { IsLegal self.new.cell (first_parts self.new) self.new.history }
+        ensures within { length self.new.history ≤ self.new.limit }
+    {
+        let len = self.history.len();
+        if self.unsure.is_some() {
+            return Err(AskFault::Halted { at: len - 1 });
+        }
+        if len >= self.limit {
+            return Err(AskFault::Full { len });
+        }
+        let reply = self.core.decide(request);
+        if reply != Reply::Granted {
+            self.history
+                .push(entry(session, request, Told::Answered(reply)));
+            return Ok(reply);
+        }
+        let grant = Grant {
+            shift,
+            session,
+            request: *request,
+        };
+        match self.journal.append(&grant) {
+            Ok(()) => {
+                self.core.apply(request);
+                self.added.push(grant);
+                self.history
+                    .push(entry(session, request, Told::Answered(reply)));
+                Ok(reply)
+            }
+            Err(_) => {
+                self.unsure = Some(grant);
+                self.history.push(entry(session, request, Told::Halted));
+                Err(AskFault::Device { at: len })
+            }
+        }
+    }
+
+    /// The grants for which the disk stood at the opening.
+    pub fn opening(&self) -> &[Grant]
+        ensures { result.now ≡ self.now.opening }
+    {
+        self.opening.as_slice()
+    }
+
+    /// The decided requests since the opening, in their order.
+    pub fn history(&self) -> &[Entry]
+        ensures history { result.now ≡ self.now.history }
+        ensures kept { KeepsHistory self.now }
+    {
+        self.history.as_slice()
+    }
+
+    /// The number of decided requests since the opening.
+    pub fn len(&self) -> u64
+        ensures { result ≡ length self.now.history }
+    {
+        self.history.len()
+    }
+
+    /// The core, behind the history.
+    pub fn core(&self) -> &Core
+        ensures core { result.now ≡ record { cell = self.now.cell; parts = parts self.now } }
+        ensures admitted { IsAdmitted self.now.cell (parts self.now) }
+        ensures kept { KeepsHistory self.now }
+    {
+        let _cell = self.core.cell();
+        &self.core
+    }
+
+    /// Takes the durable cell apart. The disk stands for the grants of the opening and those since.
+    pub fn finish(self) -> Finished<D>
+        ensures core { result.core ≡ record { cell = self.cell; parts = parts self } }
+        ensures history { result.history ≡ self.history }
+        ensures after { result.after ≡ length self.opening }
+        ensures kept { KeepsHistory self }
+        ensures disk { KeepsDisk D.reads_as D.may_leave D.moment D.left_since D.faults self result.disk }
+    {
+        let Durable {
+            entry: _,
+            core,
+            text: _,
+            journal,
+            opening,
+            history,
+            added: _,
+            unsure: _,
+            limit: _,
+        } = self;
+        Finished {
+            disk: journal.into_disk(),
+            core,
+            history: history.into_list(),
+            after: opening.len(),
+        }
+    }
+}
+
+// A decided request.
+fn entry(session: u16, request: &Request, told: Told) -> Entry
+    ensures { result ≡ entry session request.now told }
+{
+    Entry {
+        session,
+        request: *request,
+        told,
+    }
+}

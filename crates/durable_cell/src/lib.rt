@@ -1,0 +1,39 @@
+//! A cell whose grants are on a disk: the core and the journal in one type, so that neither is ahead of the other.
+//!
+//! ```text
+//! let mut durable = match Durable::open(alloc, cell, cell_text, disk, room, limit) {
+//!     Opening::Open(durable) => durable,         // behind the grants that stand on the disk
+//!     Opening::Refused { disk, why } => ..,      // the file is damaged, of another cell, or of another program
+//!     Opening::Device { disk } => ..,
+//!     Opening::Memory { disk } => ..,
+//! };
+//! let reply = durable.ask(shift, session, &request)?;   // a grant is stable before it is answered
+//! let Finished { disk, core, history, after } = durable.finish();
+//! ```
+//!
+//! `open` recovers what stands on the disk, replays it, takes all memory, and last makes a journal where there is none. `ask`
+//! decides a request by the core; a request that is granted is written to the journal, and only then is it applied and
+//! answered. So whatever moment a crash comes at, what it leaves stands for the grants of the opening and the first ones
+//! since, and each grant that was answered is among them; `open` finds these again. Where the writing fails the history ends
+//! with a halt: nobody knows whether that one grant is on the disk, the core goes on without it, and every later `ask` is
+//! answered `Halted`, until the disk is opened again.
+//!
+//! `restore` is the first half of `open`: it reads a disk and replays its grants, and writes nothing.
+#![tactic(auto)]
+
+mod durable;
+mod entry_disk;
+mod fault;
+mod finished;
+mod opening;
+mod replays;
+mod restored;
+mod stored;
+
+pub use durable::Durable;
+pub use fault::AskFault;
+pub use finished::Finished;
+pub use opening::Opening;
+pub use replays::{MAX_ROOM, replay};
+pub use restored::{Restored, restore};
+pub use stored::Stored;

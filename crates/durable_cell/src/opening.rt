@@ -1,0 +1,16 @@
+//! What the opening of a durable cell answers.
+use crate::Durable;
+use outside_io::Disk;
+use shift_recovery::JournalFault;
+
+/// A durable cell, or the disk of which none could be made.
+#[derive(Drop)]
+pub enum Opening<D: Disk> {
+    Open(Durable<D>),
+    /// The file is no journal of this cell, has more grants than room, or one that is not granted in its turn.
+    Refused { disk: D, why: JournalFault },
+    /// The device failed.
+    Device { disk: D },
+    /// There was no memory.
+    Memory { disk: D },
+}
