@@ -4,23 +4,21 @@ ghost use Rattle.std.specs.String.{string_bytes};
 ghost use Rattle.outside_io.specs.Causes.{Rose};
 ghost use Rattle.outside_io.specs.Files.{IsThere};
 ghost use Rattle.outside_io.specs.Puts.{sink_told};
-ghost use Rattle.cell_program.specs.Commands.{Comes, Nothing, Check, Show, Solo, AreThere, files_of, task_of};
-ghost use Rattle.cell_program.specs.Telling.{HoldsBadCell, HoldsBadRecord, HoldsBadShift, IsAccepted, IsAnswered, IsCellRefused, IsDenied, IsFinished, IsPrinted, IsSecondRefused, ReadsAll, TakesAll};
-ghost use Rattle.cell_program.specs.CellEnds.{cell_end};
-ghost use Rattle.cell_program.specs.ShiftEnds.{shift_end};
+ghost use Rattle.cell_words.specs.Commands.{Comes, Nothing, Check, Show, Solo, AreThere, files_of, task_of};
+ghost use Rattle.cell_words.specs.Telling.{HoldsBadCell, HoldsBadRecord, HoldsBadShift, IsAccepted, IsAnswered, IsCellRefused, IsDenied, IsFinished, IsPrinted, IsSecondRefused, ReadsAll, TakesAll};
+ghost use Rattle.cell_words.specs.CellEnds.{cell_end};
+ghost use Rattle.cell_words.specs.ShiftEnds.{shift_end};
 ghost use Rattle.cell_file.specs.declared.faults.CellFault.{CellFault};
 ghost use Rattle.shift_file.specs.declared.faults.ShiftFault.{ShiftFault};
-ghost use Rattle.cell_program.specs.Ends.{Ends, IsDelivered, PutsLines};
-ghost use Rattle.cell_program.specs.Texts.{Outcome};
-ghost use Rattle.cell_program.specs.Told.{told_by};
+ghost use Rattle.cell_words.specs.Ends.{Ends, IsDelivered, PutsLines};
+ghost use Rattle.cell_words.specs.Texts.{Outcome};
+ghost use Rattle.cell_words.specs.Told.{told_by};
 
-use crate::early::Early;
-use crate::judging::{verdict_of_files, verdict_status};
-use crate::lines::{usage_line, verdict_line};
-use crate::printing::{print_line, print_text};
-use crate::showing::shown_of_files;
 use crate::solo::{print_run, run_of_files};
-use crate::words::{Command, command_of};
+use cell_words::{
+    Command, Early, command_of, print_line, print_text, shown_of_files, usage_line, verdict_line,
+    verdict_of_files, verdict_status,
+};
 use outside_io::{Disk, Files, Pace, Sink};
 use record_text::Line;
 use std::alloc::Global;

@@ -6,8 +6,8 @@ use Rattle.admission_core.specs.CoreState.{CoreState}
 use Rattle.cell_base.specs.declared.cells.Cell.{Cell}
 use Rattle.cell_base.specs.Plans.{plan_of}
 use Rattle.record_text.specs.Lines.{line_of, left_words}
-use Rattle.cell_program.specs.Blocks.{history_lines, plan_lines}
-use Rattle.cell_program.proofs.Delivered.{part_of_history, part_of_left, part_of_plan, whole_block}
+use Rattle.cell_words.specs.Blocks.{history_lines, plan_lines}
+use Rattle.cell_words.proofs.Delivered.{part_of_history, part_of_left, part_of_plan, whole_block}
 use Rattle.cell_program.proofs.solo.print_run.Goals as goal
 
 pub returns-in-Err-clause-part : goal.returns-in-Err-clause-part

@@ -1,0 +1,12 @@
+pub mod Blocks
+pub mod CellEnds
+pub mod Commands
+pub mod Ends
+pub mod Reading
+pub mod RecordEnds
+pub mod ShiftEnds
+pub mod SoloRecords
+pub mod Telling
+pub mod Texts
+pub mod Told
+pub mod Words

@@ -1,0 +1,57 @@
+//! Ends before a command prints what it is for.
+ghost use Rattle.std.specs.Prelude.{◌≡◌};
+ghost use Rattle.cell_words.specs.declared.early.Early.TheVariants.{Memory};
+ghost use Rattle.cell_words.specs.Reading.{unread_end};
+ghost use Rattle.cell_words.specs.Texts.{early_status};
+
+use crate::findings::Finding;
+use cell_base::NoMemory;
+use outside_io::FileFail;
+
+/// Why a command ends early. Each has a status and one line.
+#[derive(Clone, Copy, Debug, PartialEq, Eq)]
+pub enum Early {
+    /// A file could not be read.
+    ReadFault,
+    /// The cell file's bytes are refused.
+    CellRefused(Finding),
+    /// The shift file's bytes are refused.
+    ShiftRefused(Finding),
+    /// The record file's bytes are refused, at this line.
+    RecordRefused(u32),
+    /// Want of memory.
+    Memory,
+}
+
+impl Early {
+    /// The exit status.
+    pub fn status(&self) -> u8
+        ensures { result ≡ early_status self.now }
+    {
+        match self {
+            Early::ReadFault => 3,
+            Early::CellRefused(_) => 4,
+            Early::ShiftRefused(_) | Early::RecordRefused(_) => 5,
+            Early::Memory => 9,
+        }
+    }
+}
+
+impl From<FileFail> for Early {
+    ghost from_gives = { λ fail early. early ≡ unread_end fail };
+
+    fn from(fail: FileFail) -> Early {
+        match fail {
+            FileFail::Failed => Early::ReadFault,
+            FileFail::Memory => Early::Memory,
+        }
+    }
+}
+
+impl From<NoMemory> for Early {
+    ghost from_gives = { λ _ early. early ≡ Memory };
+
+    fn from(_: NoMemory) -> Early {
+        Early::Memory
+    }
+}
