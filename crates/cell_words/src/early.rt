@@ -19,6 +19,12 @@ pub enum Early {
     ShiftRefused(Finding),
     /// The record file's bytes are refused, at this line.
     RecordRefused(u32),
+    /// The word is no step of the cell.
+    StepRefused,
+    /// The journal's bytes are refused.
+    JournalRefused(Finding),
+    /// The device failed before a step was asked.
+    DeviceFault,
     /// Want of memory.
     Memory,
 }
@@ -31,7 +37,9 @@ impl Early {
         match self {
             Early::ReadFault => 3,
             Early::CellRefused(_) => 4,
-            Early::ShiftRefused(_) | Early::RecordRefused(_) => 5,
+            Early::ShiftRefused(_) | Early::RecordRefused(_) | Early::StepRefused => 5,
+            Early::JournalRefused(_) => 6,
+            Early::DeviceFault => 7,
             Early::Memory => 9,
         }
     }
