@@ -1,5 +1,5 @@
 -- What a disk tells of one call of the program.
-use Rattle.std.specs.Prelude.{◌≡◌, ◌⊎◌, ◌≤◌, ℕ, List, [], Option, IfSome, IsSome}
+use Rattle.std.specs.Prelude.{◌≡◌, ◌⊎◌, ℕ, List, [], Option, IfSome, IsSome, IsSomeAnd}
 use Rattle.outside_io.specs.Disk.{SameOutcomes}
 use Rattle.cell_base.specs.declared.shifts.Grant.{Grant}
 use Rattle.move_journal.specs.Blanks.{IsBlank}
@@ -44,31 +44,32 @@ pub record IsOnlyRead (disk : DiskTold) : Type 0 where
   pub leaves : (file : List ℕ) → disk.leaves_after file → disk.leaves file
   pub any_moment : (file : List ℕ) → disk.left file → disk.leaves file
 
--- a file that was blank now stands for no grants
-abbrev pub IsMade : DiskTold → List ℕ → List ℕ → Type 0
-IsMade disk text file = IfSome disk.reads IsBlank × StandsFor file text []
-
--- it reads as it did, or was blank and stands for no grants; and so does each file that a crash since entry might have left
-pub record StoodStill (text : List ℕ) (disk : DiskTold) : Type 0 where
-  pub reads : (disk.reads_after ≡ disk.reads) ⊎ IfSome disk.reads_after (IsMade disk text)
-  pub leaves : (file : List ℕ) → disk.leaves_after file → disk.leaves file ⊎ IsMade disk text file
-  pub any_moment : (file : List ℕ) → disk.left file → disk.leaves file ⊎ IsMade disk text file
-
 -- ---- for which grants it stands
 
--- where it tells, it reads as a file of which this holds, and a crash at the return leaves none of which it doesn't
+-- where it told, it still tells, and reads as a file of which this holds, and a crash now leaves none of which it doesn't
 abbrev pub IsNow : DiskTold → (List ℕ → Type 0) → Type 0
-IsNow disk P = IfSome disk.reads_after (λ file. P file × ((left : List ℕ) → disk.leaves_after left → P left))
+IsNow disk P =
+    IfSome disk.reads (λ _. IsSomeAnd disk.reads_after (λ file. P file × ((left : List ℕ) → disk.leaves_after left → P left)))
 
--- where it tells, a crash since entry might have left no file of which this doesn't hold
+-- where it told, a crash since entry might have left no file of which this doesn't hold
 abbrev pub IsAlways : DiskTold → (List ℕ → Type 0) → Type 0
-IsAlways disk P = IfSome disk.reads_after (λ _. (left : List ℕ) → disk.left left → P left)
+IsAlways disk P = IfSome disk.reads (λ _. (left : List ℕ) → disk.left left → P left)
+
+-- It was blank and stands for no grants; and so does each file since entry that a crash at entry might not have left.
+pub record StandsForNone (text : List ℕ) (disk : DiskTold) : Type 0 where
+  pub blank : IfSome disk.reads IsBlank
+  pub now : IsNow disk (λ file. StandsFor file text [])
+  pub any_moment : IsAlways disk (λ file. disk.leaves file ⊎ StandsFor file text [])
+
+-- an end before anything was added to its journal: it was only read, or none could be made where it was blank
+abbrev pub StoodStill : List ℕ → DiskTold → Type 0
+StoodStill text disk = IsOnlyRead disk ⊎ StandsForNone text disk
 
 -- it told at entry, and a crash then might have left no file but such as stand for these grants
 abbrev pub StoodFor : DiskTold → List ℕ → List Grant → Type 0
 StoodFor disk text grants = IsSome disk.reads × ((left : List ℕ) → disk.leaves left → StandsFor left text grants)
 
--- such a disk stands for them still, and did so at every moment since
+-- it stands for them now, and a crash since entry might have left no file that doesn't
 abbrev pub StandsStill : DiskTold → List ℕ → List Grant → Type 0
 StandsStill disk text grants =
     IsNow disk (λ file. StandsFor file text grants) × IsAlways disk (λ file. StandsFor file text grants)

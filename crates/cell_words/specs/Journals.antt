@@ -1,5 +1,5 @@
 -- The journal of a command: what it is opened as, and what `plan` and `why` make of its grants.
-use Rattle.std.specs.Prelude.{codes, ◌≡◌, ℕ, IfSome, Ok, Err, List, [], ◌∷◌, length, map}
+use Rattle.std.specs.Prelude.{codes, ◌≡◌, ℕ, IfSome, Result, Ok, Err, List, [], ◌∷◌, length, map}
 use Rattle.std.specs.Fmt.{decimal}
 use Rattle.std.specs.List.{concat}
 use Rattle.admission_core.specs.CoreState.{CoreState}
@@ -20,9 +20,11 @@ use Rattle.record_text.specs.Lines.{line_of, told_words}
 use Rattle.record_text.specs.Records.{text_of_record}
 use Rattle.refusal_reason.specs.Reasons.{reason}
 use Rattle.shift_recovery.specs.declared.faults.JournalFault.{JournalFault}
-use Rattle.cell_words.specs.Blocks.{Lines, planned_block}
+use Rattle.cell_words.specs.Blocks.{Lines, block_of, planned_block}
 use Rattle.cell_words.specs.DiskTold.{DiskTold}
+use Rattle.cell_words.specs.Texts.{Outcome, done, early_outcome}
 use Rattle.cell_words.specs.declared.asking_why.Answer.{Answer}
+use Rattle.cell_words.specs.declared.early.Early.{Early}
 use Rattle.cell_words.specs.declared.journals.Behind.{Behind}
 use Rattle.cell_words.specs.declared.reading.CellFile.{CellFile}
 
@@ -53,6 +55,11 @@ pub record IsPlanRecord (cell : Cell) (grants : List Grant) (lines : Lines) : Ty
   pub drains : let left = replay cell grants in Drains cell left (plan_of cell left)
   pub printed : let left = replay cell grants in lines ≡ planned_block cell 0 (length grants) [] (length left) (plan_of cell left)
   pub text : let left = replay cell grants in concat lines ≡ text_of_record cell left 0 (length grants) [] (plan_of cell left)
+
+-- what `plan` prints: the plan of the state behind the grants, or the early end
+abbrev pub plan_outcome : Result Behind Early → Outcome
+plan_outcome (Ok behind) = done (block_of behind.core 0 behind.grants [])
+plan_outcome (Err early) = early_outcome early
 
 -- ---- `why`
 
@@ -89,3 +96,8 @@ abbrev pub IsAnsweredBehind : DiskTold → CellFile → Request → Answer → T
 IsAnsweredBehind disk held request answer =
     (grants : List Grant) × IsOpenedWith disk held.cell held.text.items grants
     × IsAnswered (record { cell = held.cell; parts = replay held.cell grants }) request answer
+
+-- what `why` prints: the answer, or the early end
+abbrev pub why_outcome : Result Answer Early → Outcome
+why_outcome (Ok answer) = done (answer_lines answer.core.cell answer.reply answer.jobs)
+why_outcome (Err early) = early_outcome early

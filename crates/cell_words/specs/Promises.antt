@@ -11,7 +11,7 @@ use Rattle.cell_words.specs.Ends.{Ends, PutsLines}
 use Rattle.cell_words.specs.JournalEnds.{journal_end}
 use Rattle.cell_words.specs.Serving.{DiskServes, HoldsBadCell, HoldsBadJournal, HoldsBadRecord, HoldsBadShift, IsAccepted, IsAnswered, IsFinished, NamesNoStep, ReadsAll, TakesAll}
 use Rattle.cell_words.specs.ShiftEnds.{shift_end}
-use Rattle.cell_words.specs.Telling.{IsCellRefused, IsDenied, IsDeviceFault, IsDrainHalted, IsJournalRefused, IsPrinted, IsSecondRefused, KeepsPrefix}
+use Rattle.cell_words.specs.Telling.{IsCellRefused, IsDenied, IsDeviceFault, IsDrainHalted, IsJournalRefused, IsPrinted, IsSecondRefused, KeepsPrefix, ReadsOnly}
 use Rattle.cell_words.specs.Told.{Told}
 use Rattle.cell_words.specs.declared.early.Early.TheVariants.{StepRefused}
 

@@ -1,5 +1,5 @@
 //! What a step would be told in the state behind a journal's grants, and which jobs stand in its way.
-ghost use Rattle.std.specs.Prelude.{◌≡◌, ◌⊎◌, [], map, IfOk, IfErr, IsErrOf, OnOk, OnErr};
+ghost use Rattle.std.specs.Prelude.{◌≡◌, ◌≤◌, ◌⊎◌, length, map, IfOk, IfErr, IsErrOf, OnOk, OnErr};
 ghost use Rattle.outside_io.specs.Causes.{HasCause};
 ghost use Rattle.outside_io.specs.Files.{IsThere};
 ghost use Rattle.outside_io.specs.Puts.{TookAll, TookSome, sink_told};
@@ -7,11 +7,10 @@ ghost use Rattle.cell_base.specs.Fits.{CellFits, RequestFits};
 ghost use Rattle.cell_file.specs.declared.reading.TheConstants.{MAX_CELL_BYTES};
 ghost use Rattle.record_text.specs.Fitting.{ToldFits};
 ghost use Rattle.cell_base.specs.declared.requests.Told.TheVariants.{Answered};
-ghost use Rattle.cell_words.specs.Commands.{EndsAtJournal, MayComeOf, MayComeReading, OwesWhy};
+ghost use Rattle.cell_words.specs.Commands.{EndsAtJournal, MayComeReading, OwesWhy};
 ghost use Rattle.cell_words.specs.DiskTold.{IsOnlyRead, disk_told};
-ghost use Rattle.cell_words.specs.Ends.{Ends};
-ghost use Rattle.cell_words.specs.Journals.{IsAnswered, IsAnsweredBehind, answer_lines, job_line};
-ghost use Rattle.cell_words.specs.Texts.{done, early_outcome};
+ghost use Rattle.cell_words.specs.Ends.{Ends, IsDelivered};
+ghost use Rattle.cell_words.specs.Journals.{IsAnswered, IsAnsweredBehind, answer_lines, job_line, why_outcome};
 ghost use Rattle.cell_words.specs.declared.early.Early.TheVariants.{Memory, ReadFault};
 
 use crate::early::Early;
@@ -46,19 +45,13 @@ pub fn run_why<F: Files, K: Sink, D: Disk>(
     step: &str,
     disk: D,
 ) -> Ended<D>
-    ensures ends { let disk = disk_told D.reads_as D.may_leave D.moment D.left_since D.faults disk result.disk in Ends
-        (MayComeReading disk (OwesWhy (F.holds files.old) (F.faults files.old) (F.faults files.new) disk cell.now step.now))
+    ensures ends { let disk = disk_told D.reads_as D.may_leave D.moment D.left_since D.faults disk result.disk in
+        Ends (MayComeReading disk (OwesWhy (F.holds files.old) (F.faults files.old) (F.faults files.new) disk cell.now step.now))
         (sink_told K.taken K.was_put K.faults out.old out.new) result.status }
     ensures sound { F.is_sound files.old → IsThere (F.holds files.old) cell.now → result.status ≡ 3 → ⊥ }
 {
     let OnJournal { made, disk } = answer_of_files(alloc, files, cell, step, disk);
-    let status = match made {
-        Ok(answer) => match print_answer(out, &answer) {
-            Ok(()) => 0,
-            Err(_) => 8,
-        },
-        Err(early) => finish_early(out, &early),
-    };
+    let status = print_made(out, &made);
     Ended { status, disk }
 }
 
@@ -70,20 +63,20 @@ fn answer_of_files<F: Files, D: Disk>(
     step: &str,
     disk: D,
 ) -> OnJournal<Answer, D>
-    ensures answer { IfOk result.made (λ answer.
-        OwesWhy (F.holds files.old) (F.faults files.old) (F.faults files.new)
-        (disk_told D.reads_as D.may_leave D.moment D.left_since D.faults disk result.disk) cell.now step.now
-        (done (answer_lines answer.core.cell answer.reply answer.jobs))) }
+    ensures comes { let disk = disk_told D.reads_as D.may_leave D.moment D.left_since D.faults disk result.disk in
+        MayComeReading disk (OwesWhy (F.holds files.old) (F.faults files.old) (F.faults files.new) disk cell.now step.now)
+        (why_outcome result.made) }
     ensures fits { IfOk result.made (λ answer. ToldFits answer.core.cell (Answered answer.reply)) }
-    ensures early { IfErr result.made (λ early. MayComeOf
-        (OwesWhy (F.holds files.old) (F.faults files.old) (F.faults files.new)
-        (disk_told D.reads_as D.may_leave D.moment D.left_since D.faults disk result.disk) cell.now step.now) (early_outcome early)) }
-    ensures only_read { IsOnlyRead (disk_told D.reads_as D.may_leave D.moment D.left_since D.faults disk result.disk) }
     ensures sound { F.is_sound files.old → IsThere (F.holds files.old) cell.now → IsErrOf result.made ReadFault → ⊥ }
 {
     let held = match read_cell_text(alloc, files, cell) {
         Ok(held) => held,
-        Err(early) => return OnJournal { made: Err(early), disk },
+        Err(early) => {
+            return OnJournal {
+                made: Err(early),
+                disk,
+            };
+        }
     };
     match read_step(&held.cell, step.as_bytes()) {
         Ok(request) => answer_of_journal(alloc, held, &request, disk),
@@ -91,6 +84,21 @@ fn answer_of_files<F: Files, D: Disk>(
             made: Err(Early::from(fault)),
             disk,
         },
+    }
+}
+
+// Prints the answer, or the early end, and answers its status, or 8 where the sink fails.
+fn print_made<K: Sink>(out: &mut K, made: &Result<Answer, Early>) -> u8
+    requires { IfOk made.now (λ answer. ToldFits answer.core.cell (Answered answer.reply)) }
+    ensures delivered { IsDelivered (sink_told K.taken K.was_put K.faults out.old out.new) (why_outcome made.now) result }
+    ensures unread { result ≡ 3 → IsErrOf made.now ReadFault }
+{
+    match made {
+        Ok(answer) => match print_answer(out, answer) {
+            Ok(()) => 0,
+            Err(_) => 8,
+        },
+        Err(early) => finish_early(out, early),
     }
 }
 

@@ -1,6 +1,6 @@
 //! Ends before a command prints what it is for.
 ghost use Rattle.std.specs.Prelude.{◌≡◌};
-ghost use Rattle.cell_words.specs.declared.early.Early.TheVariants.{Memory};
+ghost use Rattle.cell_words.specs.declared.early.Early.TheVariants.{Memory, ReadFault};
 ghost use Rattle.cell_words.specs.Reading.{unread_end};
 ghost use Rattle.cell_words.specs.Texts.{early_status};
 
@@ -32,7 +32,8 @@ pub enum Early {
 impl Early {
     /// The exit status.
     pub fn status(&self) -> u8
-        ensures { result ≡ early_status self.now }
+        ensures status { result ≡ early_status self.now }
+        ensures unread { result ≡ 3 → self.now ≡ ReadFault }
     {
         match self {
             Early::ReadFault => 3,
