@@ -7,7 +7,9 @@ use Rattle.cell_base.specs.declared.cells.Cell.{Cell}
 use Rattle.cell_base.specs.declared.places.Field.TheVariants.{Whole}
 use Rattle.toml_walk.specs.Documents.{top, short}
 use Rattle.toml_walk.specs.declared.faults.DocumentFault.TheVariants.{TooMany}
-use Rattle.cell_file.specs.Walk.{cell_of}
+use Rattle.cell_base.specs.Faults.{◌>>=◌}
+use Rattle.cell_file.specs.Faults.{looked}
+use Rattle.cell_file.specs.Walk.{cell_of, cell_of_text}
 use Rattle.shift_file.specs.Walk.{shift_of}
 use Rattle.cell_base.specs.declared.shifts.Shift.{Shift}
 use Rattle.toml_walk.specs.Outcomes.{GivesOr}
@@ -25,7 +27,9 @@ use Rattle.record_text.specs.declared.record.RecordFault.TheVariants.{Bad, Memor
 use Rattle.cell_words.specs.RecordEnds.{record_read, record_end}
 use Rattle.cell_words.specs.CellEnds.{cell_end}
 use Rattle.cell_words.specs.ShiftEnds.{shift_end}
-use Rattle.cell_words.specs.Reading.{GivenBy, EndsEarly, Unread, Refused, ByMemory}
+use Rattle.cell_words.specs.Reading.{GivenBy, EndsEarly, IsCellFile, Unread, Refused, ByMemory, cell_file_read}
+use Rattle.cell_words.specs.declared.early.Early.{Early}
+use Rattle.cell_words.specs.declared.reading.CellFile.{CellFile}
 use Rattle.cell_words.specs.Told.{HoldsOf, IsMadeOfFile}
 
 too_many : (most : ℕ) (bytes : List ℕ) → most < length bytes → short most bytes ≡ Err (TooMany (top Whole) (most + 1))
@@ -66,15 +70,40 @@ shift_of-take : (cell : Cell) (bytes : List ℕ) → shift_of cell (take (MAX_SH
 unfolding shift_of
 shift_of-take cell bytes = rw short-take refl
 
+-- a text that is longer than the limit is no cell
+cell_short : (cell : Cell) (bytes : List ℕ) → Ok cell ≡ cell_of bytes → length bytes ≤ MAX_CELL_BYTES
+unfolding cell_of
+cell_short cell bytes is = elim (cases_lt MAX_CELL_BYTES (length bytes)) [
+  | inl long ↦ let fault = is ∙ ap (λ first. looked first >>= cell_of_text) (too_many MAX_CELL_BYTES bytes long) in absurd (cc)
+  | inr fits ↦ fits
+]
+
+-- a file that is cut off is too long
+uncut : (most : ℕ) (bytes : List ℕ) → length (take (most + 1) bytes) ≤ most → take (most + 1) bytes ≡ bytes
+uncut most bytes short = elim (cases_lt most (length bytes)) [
+  | inl long ↦ absurd (omega (arith, long, short, length-take (most + 1) bytes))
+  | inr fits ↦ take_all (most + 1) bytes (omega (arith, fits))
+]
+
+-- a cell that was made of the bytes that were read was made of the whole file
+text_uncut : (held : CellFile) (bytes : List ℕ) → cell_file_read (take (MAX_CELL_BYTES + 1) bytes) (Ok held) → cell_file_read bytes (Ok held)
+text_uncut held bytes is =
+    subst (λ (read : List ℕ). cell_file_read read (Ok held))
+    (uncut MAX_CELL_BYTES bytes (cell_short held.cell (take (MAX_CELL_BYTES + 1) bytes) is.0)) is
+
 -- a value that was given is that of the walk
 given : {X F : Type 0} (memory : F) (x : X) (walk : Result X F) → GivesOr memory (Ok x) walk → Ok x ≡ walk
 given memory x walk (inl is) = absurd (cc)
 given memory x walk (inr is) = is
 
 module _ (names : Option Names) (name read : List ℕ) where
-  pub cell_made : (cell : Cell) → IsReadOf names name MAX_CELL_BYTES read → GivesOr CellMemory (Ok cell) (cell_of read)
-      → IsMadeOfFile names name cell_of (Ok cell)
-  cell_made cell is gives = made_of_read cell_of MAX_CELL_BYTES cell_of-take names name read (Ok cell) is (given CellMemory cell _ gives)
+  pub cell_made : (held : CellFile) → IsReadOf names name MAX_CELL_BYTES read → GivesOr CellMemory (Ok held.cell) (cell_of read)
+      → held.text.items ≡ read → IsCellFile names name held × (length read ≤ MAX_CELL_BYTES)
+  cell_made held is gives text_is =
+      let made = given CellMemory held.cell (cell_of read) gives in (
+        held_of_read (λ bytes. cell_file_read bytes (Ok held)) MAX_CELL_BYTES (text_uncut held) names name read is (made, text_is),
+        cell_short held.cell read made,
+      )
 
   pub shift_made : (cell : Cell) (shift : Shift) → IsReadOf names name MAX_SHIFT_BYTES read
       → GivesOr ShiftMemory (Ok shift) (shift_of cell read) → IsMadeOfFile names name (shift_of cell) (Ok shift)
@@ -83,7 +112,7 @@ module _ (names : Option Names) (name read : List ℕ) where
 
   module _ (faults faults_after : ℕ) where
     pub cell_unmade : (fault : CellFault) → IsReadOf names name MAX_CELL_BYTES read → GivesOr CellMemory (Err fault) (cell_of read)
-        → EndsEarly names name (GivenBy cell_of) cell_end faults faults_after (cell_end fault)
+        → EndsEarly names name cell_file_read cell_end faults faults_after (cell_end fault)
     cell_unmade fault is (inl starved) = let same : fault ≡ CellMemory = cc in Unread (ByMemory (ap cell_end same))
     cell_unmade fault is (inr walk) =
         Refused fault (made_of_read cell_of MAX_CELL_BYTES cell_of-take names name read (Err fault) is walk) refl
@@ -96,13 +125,6 @@ module _ (names : Option Names) (name read : List ℕ) where
         Refused fault (made_of_read (shift_of cell) MAX_SHIFT_BYTES (shift_of-take cell) names name read (Err fault) is walk) refl
 
 -- ---- records
-
--- a file that is cut off is too long
-uncut : (most : ℕ) (bytes : List ℕ) → length (take (most + 1) bytes) ≤ most → take (most + 1) bytes ≡ bytes
-uncut most bytes short = elim (cases_lt most (length bytes)) [
-  | inl long ↦ absurd (omega (arith, long, short, length-take (most + 1) bytes))
-  | inr fits ↦ take_all (most + 1) bytes (omega (arith, fits))
-]
 
 record_uncut : (cell : Cell) (blocks : List Block) (bytes : List ℕ) → IsRecordOf cell (take (MAX_RECORD_BYTES + 1) bytes) blocks
     → IsRecordOf cell bytes blocks
@@ -126,3 +148,26 @@ module _ (names : Option Names) (name read : List ℕ) (cell : Cell) (is : IsRea
   record_unmade faults faults_after (Bad line) refused =
       Refused (Bad line)
       (held_of_read (λ bytes. RefusedAt cell bytes (Bad line)) MAX_RECORD_BYTES (bad_uncut cell line) names name read is refused) refl
+
+-- ---- a cell without its text
+
+module _ (names : Option Names) (name : List ℕ) where
+  -- where the files tell, what holds of the bytes holds of them in other words
+  pub held_weaker : (P Q : List ℕ → Type 0) → ((bytes : List ℕ) → P bytes → Q bytes) → HoldsOf names name P → HoldsOf names name Q
+  held_weaker P Q weaker holds = in_names names holds
+    where
+      in_held : (held : Option (List ℕ)) → IsSomeAnd held P → IsSomeAnd held Q
+      in_held None is = absurd is
+      in_held (Some bytes) is = weaker bytes is
+
+      in_names : (names : Option Names) → HoldsOf names name P → HoldsOf names name Q
+      in_names None is = tt
+      in_names (Some held) is = in_held (held name) is
+
+  pub cell_alone : (held : CellFile) → IsCellFile names name held → IsMadeOfFile names name cell_of (Ok held.cell)
+  cell_alone held is = held_weaker (λ bytes. cell_file_read bytes (Ok held)) (λ bytes. Ok held.cell ≡ cell_of bytes) (λ bytes both. both.0) is
+
+  pub ends_alone : (faults faults_after : ℕ) (early : Early) → EndsEarly names name cell_file_read cell_end faults faults_after early
+      → EndsEarly names name (GivenBy cell_of) cell_end faults faults_after early
+  ends_alone faults faults_after early (Unread is) = Unread is
+  ends_alone faults faults_after early (Refused fault made is) = Refused fault made is

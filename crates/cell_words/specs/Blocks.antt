@@ -3,6 +3,8 @@ use Rattle.std.specs.Prelude.{ℕ, List, ◌∷◌, ◌++◌, length, map}
 use Rattle.cell_base.specs.declared.cells.Cell.{Cell}
 use Rattle.cell_base.specs.declared.requests.Request.{Request}
 use Rattle.cell_base.specs.declared.shifts.Entry.{Entry}
+use Rattle.cell_base.specs.Plans.{plan_of}
+use Rattle.admission_core.specs.CoreState.{CoreState}
 use Rattle.record_text.specs.Lines.{line_of, head_words, entry_words, left_words, plan_words}
 use Rattle.step_text.specs.Steps.{request_words}
 
@@ -30,3 +32,7 @@ plan_lines cell plan = line_of (plan_words (length plan)) ∷ map (step_line cel
 unfoldable pub planned_block : Cell → ℕ → ℕ → List Entry → ℕ → List Request → Lines
 planned_block cell shift grants history left plan =
     history_lines cell shift grants history ++ line_of (left_words left) ∷ plan_lines cell plan
+
+-- the same of the parts that a core holds, and of their plan
+abbrev pub block_of : CoreState → ℕ → ℕ → List Entry → Lines
+block_of core shift grants history = planned_block core.cell shift grants history (length core.parts) (plan_of core.cell core.parts)

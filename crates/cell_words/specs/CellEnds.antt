@@ -4,7 +4,7 @@ use Rattle.cell_file.specs.declared.faults.CellFault.{CellFault}
 use Rattle.cell_file.specs.declared.faults.CellFault.TheVariants.{NotToml, WrongKey, WrongKind, BadName, BadNumber, Repeated, UnknownName, TooMany, Empty, MixedOrders, TooManyUnits, Memory as Starved}
 use Rattle.cell_words.specs.declared.early.Early.{Early}
 use Rattle.cell_words.specs.declared.early.Early.TheVariants.{CellRefused, Memory}
-use Rattle.cell_words.specs.Texts.{plain, at}
+use Rattle.cell_words.specs.Texts.{plain, at, counted}
 
 -- the end at a fault of a cell file
 abbrev pub cell_end : CellFault → Early
@@ -18,5 +18,5 @@ cell_end (UnknownName place) = CellRefused (at 7 place)
 cell_end (TooMany place count) = CellRefused (record { number = 8; place = Some place; count = Some count })
 cell_end (Empty place) = CellRefused (at 9 place)
 cell_end MixedOrders = CellRefused (plain 10)
-cell_end (TooManyUnits count) = CellRefused (record { number = 11; place = None; count = Some count })
+cell_end (TooManyUnits count) = CellRefused (counted 11 count)
 cell_end Starved = Memory

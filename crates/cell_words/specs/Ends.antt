@@ -4,14 +4,18 @@ use Rattle.std.specs.List.{concat}
 use Rattle.outside_io.specs.Causes.{Rose}
 use Rattle.outside_io.specs.Puts.{SinkTold, TookAll, TookSome}
 use Rattle.outside_io.specs.Sink.{AppendsPrefix}
-use Rattle.cell_words.specs.Told.{Told}
 use Rattle.cell_words.specs.Texts.{Outcome, early_outcome}
+use Rattle.cell_words.specs.declared.early.Early.{Early}
 use Rattle.cell_words.specs.declared.early.Early.TheVariants.{Memory}
 
--- an outcome comes about where it is owed, or where memory is wanting
-pub data MayCome (owed : Outcome → Type 0) (outcome : Outcome) : Type 0 where
-  IsOwed : owed outcome → MayCome owed outcome
-  MemoryWanted : outcome ≡ early_outcome Memory → MayCome owed outcome
+-- the outcome is that of this early end
+abbrev pub IsEarly : Outcome → Early → Type 0
+IsEarly outcome early = outcome ≡ early_outcome early
+
+-- what is owed comes about, or memory is wanting and the program ends
+pub data MayCome (ends : Early → Type 0) (owed : Type 0) : Type 0 where
+  IsOwed : owed → MayCome ends owed
+  MemoryWanted : ends Memory → MayCome ends owed
 
 -- the sink took each line whole, by one put, or the first ones, and then it failed and the status is 8
 pub data IsDelivered (told : SinkTold) (outcome : Outcome) (status : ℕ) : Type 0 where
@@ -19,10 +23,10 @@ pub data IsDelivered (told : SinkTold) (outcome : Outcome) (status : ℕ) : Type
   SinkFailed : status ≡ 8 → TookSome told outcome.lines → Rose told.faults told.faults_after → IsDelivered told outcome status
 
 -- the end of a call: an outcome that may come, and that was delivered
-pub record Ends (may_come : Outcome → Type 0) (told : Told) (status : ℕ) : Type 0 where
+pub record Ends (may_come : Outcome → Type 0) (told : SinkTold) (status : ℕ) : Type 0 where
   pub outcome : Outcome
   pub comes : may_come outcome
-  pub delivered : IsDelivered told.sink outcome status
+  pub delivered : IsDelivered told outcome status
 
 -- Every put is one line: with each status but 8 the lines of its outcome were put in turn, and with 8 the first ones of an
 -- outcome that may come, of whose text a first part was taken.

@@ -1,9 +1,15 @@
 pub mod Blocks
 pub mod CellEnds
 pub mod Commands
+pub mod DiskTold
+pub mod Drains
 pub mod Ends
+pub mod JournalEnds
+pub mod Journals
+pub mod Promises
 pub mod Reading
 pub mod RecordEnds
+pub mod Serving
 pub mod ShiftEnds
 pub mod SoloRecords
 pub mod Telling

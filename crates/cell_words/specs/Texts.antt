@@ -13,7 +13,7 @@ use Rattle.shift_checker.specs.declared.verdict.Verdict.TheVariants.{Yes, No}
 use Rattle.shift_checker.specs.declared.verdict.Why.{Why}
 use Rattle.shift_checker.specs.declared.verdict.Why.TheVariants.{After, Reply, Left, Step, Parts}
 use Rattle.cell_words.specs.declared.early.Early.{Early}
-use Rattle.cell_words.specs.declared.early.Early.TheVariants.{ReadFault, CellRefused, ShiftRefused, RecordRefused, Memory}
+use Rattle.cell_words.specs.declared.early.Early.TheVariants.{ReadFault, CellRefused, ShiftRefused, RecordRefused, StepRefused, JournalRefused, DeviceFault, Memory}
 use Rattle.cell_words.specs.declared.findings.Finding.{Finding}
 
 -- a status, and the lines that are printed with it, each with its newline
@@ -93,11 +93,15 @@ plain number = record { number = number; place = None; count = None }
 abbrev pub at : ℕ → Place → Finding
 at number place = record { number = number; place = Some place; count = None }
 
+-- a fault with a count, or with one offset
+abbrev pub counted : ℕ → ℕ → Finding
+counted number count = record { number = number; place = None; count = Some count }
+
 -- ---- outcomes
 
 -- the built commands with their words
 abbrev pub usage_text : List ℕ
-usage_text = codes "usage: solo CELL SHIFT, check CELL RECORD, show CELL" ++ 10 ∷ []
+usage_text = codes "usage: solo CELL SHIFT, plan CELL JOURNAL, drain CELL JOURNAL, why CELL JOURNAL STEP, check CELL RECORD, show CELL" ++ 10 ∷ []
 
 -- words that are no built command
 abbrev pub usage : Outcome
@@ -109,6 +113,9 @@ early_status ReadFault = 3
 early_status (CellRefused finding) = 4
 early_status (ShiftRefused finding) = 5
 early_status (RecordRefused line) = 5
+early_status StepRefused = 5
+early_status (JournalRefused finding) = 6
+early_status DeviceFault = 7
 early_status Memory = 9
 
 -- the line of an early end
@@ -117,6 +124,9 @@ early_text ReadFault = codes "read fault" ++ 10 ∷ []
 early_text (CellRefused finding) = refusal_text (codes "cell") finding
 early_text (ShiftRefused finding) = refusal_text (codes "shift") finding
 early_text (RecordRefused line) = line_of (codes "record" ∷ codes "refused" ∷ decimal line ∷ [])
+early_text StepRefused = codes "step refused" ++ 10 ∷ []
+early_text (JournalRefused finding) = refusal_text (codes "journal") finding
+early_text DeviceFault = codes "device fault" ++ 10 ∷ []
 early_text Memory = codes "want of memory" ++ 10 ∷ []
 
 -- both

@@ -1,23 +1,25 @@
 -- What the outside tells of one call of the program.
 use Rattle.std.specs.Prelude.{◌≡◌, ℕ, List, Option, Some, None, IsSomeAnd, ⊤}
 use Rattle.outside_io.specs.Files.{Names}
-use Rattle.outside_io.specs.Puts.{SinkTold, sink_told}
+use Rattle.outside_io.specs.Puts.{SinkTold}
+use Rattle.cell_words.specs.DiskTold.{DiskTold}
 
--- what each name holds, the counts of the files' faults before the call and after it, and what the sink tells
+-- what each name holds, the counts of the files' faults before the call and after it, and what the sink and the disk tell
 pub record Told : Type 1 where
   pub names : Option Names
   pub file_faults : ℕ
   pub file_faults_after : ℕ
   pub sink : SinkTold
+  pub disk : DiskTold
 
--- the same, by the meanings of the files and of the sink
-abbrev pub told_by : {F K : Type 0} → (F → Option Names) → (F → ℕ) → (K → Option (List ℕ)) → (K → List ℕ → K → Type 0) → (K → ℕ)
-    → F → F → K → K → Told
-told_by holds file_faults taken was_put sink_faults files files_after out out_after = record {
+-- the same, by the meanings of the files
+abbrev pub told_by : {F : Type 0} → (F → Option Names) → (F → ℕ) → F → F → SinkTold → DiskTold → Told
+told_by holds file_faults files files_after sink disk = record {
   names = holds files;
   file_faults = file_faults files;
   file_faults_after = file_faults files_after;
-  sink = sink_told taken was_put sink_faults out out_after;
+  sink = sink;
+  disk = disk;
 }
 
 -- where the files tell, this holds of the bytes of a name

@@ -1,6 +1,6 @@
 //! Ends before a command prints what it is for.
 ghost use Rattle.std.specs.Prelude.{◌≡◌};
-ghost use Rattle.cell_words.specs.declared.early.Early.TheVariants.{Memory};
+ghost use Rattle.cell_words.specs.declared.early.Early.TheVariants.{Memory, ReadFault};
 ghost use Rattle.cell_words.specs.Reading.{unread_end};
 ghost use Rattle.cell_words.specs.Texts.{early_status};
 
@@ -19,6 +19,12 @@ pub enum Early {
     ShiftRefused(Finding),
     /// The record file's bytes are refused, at this line.
     RecordRefused(u32),
+    /// The word is no step of the cell.
+    StepRefused,
+    /// The journal's bytes are refused.
+    JournalRefused(Finding),
+    /// The device failed before a step was asked.
+    DeviceFault,
     /// Want of memory.
     Memory,
 }
@@ -26,12 +32,15 @@ pub enum Early {
 impl Early {
     /// The exit status.
     pub fn status(&self) -> u8
-        ensures { result ≡ early_status self.now }
+        ensures status { result ≡ early_status self.now }
+        ensures unread { result ≡ 3 → self.now ≡ ReadFault }
     {
         match self {
             Early::ReadFault => 3,
             Early::CellRefused(_) => 4,
-            Early::ShiftRefused(_) | Early::RecordRefused(_) => 5,
+            Early::ShiftRefused(_) | Early::RecordRefused(_) | Early::StepRefused => 5,
+            Early::JournalRefused(_) => 6,
+            Early::DeviceFault => 7,
             Early::Memory => 9,
         }
     }

@@ -3,13 +3,17 @@ ghost use Rattle.std.specs.Prelude.{◌≡◌};
 ghost use Rattle.cell_words.specs.CellEnds.{cell_end};
 ghost use Rattle.cell_words.specs.RecordEnds.{record_end};
 ghost use Rattle.cell_words.specs.ShiftEnds.{shift_end};
-ghost use Rattle.cell_words.specs.Texts.{plain, at};
+ghost use Rattle.cell_words.specs.JournalEnds.{journal_end};
+ghost use Rattle.cell_words.specs.Texts.{plain, at, counted};
+ghost use Rattle.cell_words.specs.declared.early.Early.TheVariants.{StepRefused};
 
 use crate::early::Early;
 use cell_base::Place;
 use cell_file::CellFault;
 use record_text::RecordFault;
 use shift_file::ShiftFault;
+use shift_recovery::JournalFault;
+use step_text::StepFault;
 
 /// A fault as its line shows it. Faults are numbered from 1 for each kind of file.
 #[derive(Clone, Copy, Debug, PartialEq, Eq)]
@@ -39,6 +43,16 @@ fn at(number: u8, place: Place) -> Finding
     }
 }
 
+fn counted(number: u8, count: u64) -> Finding
+    ensures { result ≡ counted number count }
+{
+    Finding {
+        number,
+        place: None,
+        count: Some(count),
+    }
+}
+
 impl From<CellFault> for Early {
     ghost from_gives = { λ fault early. early ≡ cell_end fault };
 
@@ -58,11 +72,7 @@ impl From<CellFault> for Early {
             },
             CellFault::Empty { place } => at(9, place),
             CellFault::MixedOrders => plain(10),
-            CellFault::TooManyUnits { count } => Finding {
-                number: 11,
-                place: None,
-                count: Some(u64::from(count)),
-            },
+            CellFault::TooManyUnits { count } => counted(11, u64::from(count)),
             CellFault::Memory => return Early::Memory,
         };
         Early::CellRefused(finding)
@@ -86,16 +96,8 @@ impl From<ShiftFault> for Early {
                 place: Some(place),
                 count: Some(u64::from(count)),
             },
-            ShiftFault::TooLong { count } => Finding {
-                number: 9,
-                place: None,
-                count: Some(u64::from(count)),
-            },
-            ShiftFault::TooManyAsks { count } => Finding {
-                number: 10,
-                place: None,
-                count: Some(count),
-            },
+            ShiftFault::TooLong { count } => counted(9, u64::from(count)),
+            ShiftFault::TooManyAsks { count } => counted(10, count),
             ShiftFault::Memory => return Early::Memory,
         };
         Early::ShiftRefused(finding)
@@ -110,5 +112,26 @@ impl From<RecordFault> for Early {
             RecordFault::Bad { line } => Early::RecordRefused(line),
             RecordFault::Memory => Early::Memory,
         }
+    }
+}
+
+impl From<StepFault> for Early {
+    ghost from_gives = { λ _ early. early ≡ StepRefused };
+
+    fn from(_: StepFault) -> Early {
+        Early::StepRefused
+    }
+}
+
+impl From<JournalFault> for Early {
+    ghost from_gives = { λ fault early. early ≡ journal_end fault };
+
+    fn from(fault: JournalFault) -> Early {
+        Early::JournalRefused(match fault {
+            JournalFault::NotAJournal => plain(1),
+            JournalFault::OtherCell { at } => counted(2, at),
+            JournalFault::Damaged { at } => counted(3, at),
+            JournalFault::Long { len } => counted(4, len),
+        })
     }
 }

@@ -13,20 +13,27 @@
 //! ```
 #![tactic(auto)]
 
+mod asking_why;
 mod early;
+mod ends;
 mod findings;
+mod journals;
 mod judging;
 mod lines;
+mod plans;
 mod printing;
 mod reading;
 mod showing;
 mod words;
 
+pub use asking_why::run_why;
 pub use early::Early;
+pub use ends::{Ended, finish, finish_early};
 pub use findings::Finding;
-pub use judging::{verdict_of_files, verdict_status};
-pub use lines::{usage_line, verdict_line};
-pub use printing::{print_history, print_line, print_plan, print_text};
-pub use reading::{read_cell_file, read_record_file, read_shift_file};
-pub use showing::{Shown, shown_of_files};
+pub use judging::run_check;
+pub use lines::usage_line;
+pub use plans::run_plan;
+pub use printing::print_block;
+pub use reading::{read_cell_file, read_shift_file};
+pub use showing::run_show;
 pub use words::{Command, command_of};

@@ -2,13 +2,14 @@
 ghost use Rattle.std.specs.Prelude.{◌≡◌, ◌+◌, ◌≤◌, ◌++◌, [], length, IfSome};
 ghost use Rattle.std.specs.Option.{option_map, option_map_or};
 ghost use Rattle.record_text.specs.Spaced.{spaced};
+ghost use Rattle.cell_words.specs.Journals.{job_line};
 ghost use Rattle.cell_words.specs.Texts.{section_word, item_words, field_word, field_words, number_words, place_words, finding_words, refusal_text, usage_text, early_text, verdict_text, why_word};
 ghost use Rattle.cell_words.specs.declared.early.Early.TheVariants.{RecordRefused};
 ghost use Rattle.shift_checker.specs.declared.verdict.Verdict.TheVariants.{No};
 
 use crate::early::Early;
 use crate::findings::Finding;
-use cell_base::{Field, Place, Section};
+use cell_base::{Field, JobId, Place, Section};
 use record_text::Line;
 use shift_checker::{Verdict, Why};
 
@@ -16,7 +17,7 @@ use shift_checker::{Verdict, Why};
 pub fn usage_line() -> Line
     ensures { result ≡ usage_text }
 {
-    Line::of_word(b"usage: solo CELL SHIFT, check CELL RECORD, show CELL").end()
+    Line::of_word(b"usage: solo CELL SHIFT, plan CELL JOURNAL, drain CELL JOURNAL, why CELL JOURNAL STEP, check CELL RECORD, show CELL").end()
 }
 
 impl Early {
@@ -29,14 +30,26 @@ impl Early {
             Early::CellRefused(finding) => refusal_line(b"cell", finding),
             Early::ShiftRefused(finding) => refusal_line(b"shift", finding),
             Early::RecordRefused(line) => record_line(*line),
+            Early::StepRefused => Line::of_word(b"step refused").end(),
+            Early::JournalRefused(finding) => refusal_line(b"journal", finding),
+            Early::DeviceFault => Line::of_word(b"device fault").end(),
             Early::Memory => Line::of_word(b"want of memory").end(),
         }
     }
 }
 
+/// The line of a job that stands in the way of a request.
+pub fn job_line(job: JobId) -> Line
+    ensures { result ≡ job_line job }
+{
+    let mut line = Line::of_word(b"job");
+    line.number(job.0);
+    line.end()
+}
+
 // The line of a refused file of this kind.
 fn refusal_line(file: &[u8], finding: &Finding) -> Line
-    requires { length file.now ≤ 5 }
+    requires { length file.now ≤ 7 }
     ensures { result ≡ refusal_text file.now finding.now }
 {
     let mut line = Line::of_word(file);
@@ -88,7 +101,7 @@ fn why_word(why: Why) -> &'static [u8]
 }
 
 fn add_finding(line: &mut Line, finding: &Finding)
-    requires { length line.old ≤ 13 }
+    requires { length line.old ≤ 15 }
     ensures words { line.new ≡ line.old ++ spaced (finding_words finding.now) }
     ensures len { length line.new ≤ 120 }
 {

@@ -6,12 +6,13 @@ ghost use Rattle.outside_io.specs.Puts.{TookAll, TookSome, sink_told};
 ghost use Rattle.cell_base.specs.Plans.{plan_of};
 ghost use Rattle.refusal_reason.specs.Shown.{IsLine};
 ghost use Rattle.record_text.specs.Fitting.{EntryFits};
-ghost use Rattle.cell_words.specs.Blocks.{Lines, entry_line, step_line, history_lines, plan_lines};
+ghost use Rattle.cell_words.specs.Blocks.{Lines, block_of, entry_line, step_line, history_lines, plan_lines};
 
+use admission_core::Core;
 use cell_base::{Cell, Entry};
 use drain_planner::Drainer;
 use outside_io::{Failed, Sink};
-use record_text::{Line, head_line, plan_line, write_entry, write_step};
+use record_text::{Line, head_line, left_line, plan_line, write_entry, write_step};
 use refusal_reason::first_line;
 
 /// Puts one line.
@@ -82,8 +83,31 @@ fn print_entries<K: Sink>(out: &mut K, cell: &Cell, entries: &[Entry]) -> Result
     Ok(())
 }
 
-/// Puts how many steps the plan has, and the line of each, up to the first that the sink doesn't take. It takes no memory.
-pub fn print_plan<K: Sink>(out: &mut K, drainer: &mut Drainer) -> Result<(), Failed>
+/// Puts a block with a plan: the history of a shift behind so many grants, the parts that it left in a core, and their plan,
+/// up to the first line that the sink doesn't take. It takes no memory.
+pub fn print_block<K: Sink>(
+    out: &mut K,
+    core: Core,
+    shift: u32,
+    grants: u64,
+    entries: &[Entry],
+) -> Result<(), Failed>
+    requires { All (EntryFits core.cell) entries.now }
+    ensures whole { OnOk result (TookAll (sink_told K.taken K.was_put K.faults out.old out.new) (block_of core shift grants entries.now)) }
+    ensures part { OnErr result (TookSome (sink_told K.taken K.was_put K.faults out.old out.new) (block_of core shift grants entries.now)) }
+    ensures cause { HasCause (K.faults out.old) (K.faults out.new) result }
+{
+    if let Err(failed) = print_history(out, core.cell(), shift, grants, entries) {
+        return Err(failed);
+    }
+    if let Err(failed) = print_line(out, &left_line(core.parts_left())) {
+        return Err(failed);
+    }
+    print_plan(out, &mut Drainer::new(core))
+}
+
+// Puts how many steps the plan has, and the line of each.
+fn print_plan<K: Sink>(out: &mut K, drainer: &mut Drainer) -> Result<(), Failed>
     ensures whole { OnOk result
         (TookAll (sink_told K.taken K.was_put K.faults out.old out.new) (plan_lines drainer.old.cell (plan_of drainer.old.cell drainer.old.parts))) }
     ensures part { OnErr result

@@ -1,15 +1,16 @@
 //! The files of a command: read, and made a cell, a shift or the blocks of a record.
-ghost use Rattle.std.specs.Prelude.{◌≡◌, ◌≤◌, Ok, OnOk, IfOk, IfErr, IsErrOf};
+ghost use Rattle.std.specs.Prelude.{◌≡◌, ◌≤◌, length, Ok, OnOk, IfOk, IfErr, IsErrOf};
 ghost use Rattle.outside_io.specs.Files.{IsThere, IsReadOf};
 ghost use Rattle.cell_base.specs.Fits.{CellFits, ShiftFits};
 ghost use Rattle.cell_file.specs.Walk.{cell_of};
+ghost use Rattle.cell_file.specs.declared.reading.TheConstants.{MAX_CELL_BYTES};
 ghost use Rattle.shift_file.specs.Walk.{shift_of};
 ghost use Rattle.record_text.specs.BadLines.{IsRecordOf};
 ghost use Rattle.record_text.specs.Blocks.{AreWellFormed};
 ghost use Rattle.cell_words.specs.CellEnds.{cell_end};
 ghost use Rattle.cell_words.specs.ShiftEnds.{shift_end};
 ghost use Rattle.cell_words.specs.RecordEnds.{record_read, record_end};
-ghost use Rattle.cell_words.specs.Reading.{EndsEarly, GivenBy, IsUnread};
+ghost use Rattle.cell_words.specs.Reading.{EndsEarly, GivenBy, IsCellFile, IsUnread, cell_file_read};
 ghost use Rattle.cell_words.specs.Told.{HoldsOf, IsMadeOfFile};
 ghost use Rattle.cell_words.specs.declared.early.Early.TheVariants.{ReadFault};
 
@@ -41,6 +42,33 @@ fn read_named<F: Files>(
     Ok(bytes)
 }
 
+/// A cell, and the text that it was read from: the bytes of its file.
+#[derive(Drop)]
+pub struct CellFile {
+    pub cell: Cell,
+    pub text: Vec<u8>,
+}
+
+/// The cell of a file with its text, or the end in its place.
+pub fn read_cell_text<F: Files>(alloc: Global, files: &mut F, name: &str) -> Result<CellFile, Early>
+    ensures read { IfOk result (IsCellFile (F.holds files.old) name.now) }
+    ensures fits { IfOk result (λ held. CellFits held.cell) }
+    ensures short { IfOk result (λ held. length held.text.items ≤ MAX_CELL_BYTES) }
+    ensures kept { OnOk result (F.faults files.new ≡ F.faults files.old) }
+    ensures same { F.holds files.new ≡ F.holds files.old }
+    ensures stays_sound { F.is_sound files.old → F.is_sound files.new }
+    ensures early { IfErr result
+        (EndsEarly (F.holds files.old) name.now cell_file_read cell_end (F.faults files.old) (F.faults files.new)) }
+    ensures sound { F.is_sound files.old → IsThere (F.holds files.old) name.now
+        → IsErrOf result ReadFault → ⊥ }
+{
+    let text = read_named(alloc, files, name, MAX_CELL_BYTES)?;
+    match read_cell(alloc, &text) {
+        Ok(cell) => Ok(CellFile { cell, text }),
+        Err(fault) => Err(Early::from(fault)),
+    }
+}
+
 /// The cell of a file, or the end in its place.
 pub fn read_cell_file<F: Files>(alloc: Global, files: &mut F, name: &str) -> Result<Cell, Early>
     ensures read { IfOk result (λ cell.
@@ -54,10 +82,9 @@ pub fn read_cell_file<F: Files>(alloc: Global, files: &mut F, name: &str) -> Res
     ensures sound { F.is_sound files.old → IsThere (F.holds files.old) name.now
         → IsErrOf result ReadFault → ⊥ }
 {
-    let bytes = read_named(alloc, files, name, MAX_CELL_BYTES)?;
-    match read_cell(alloc, &bytes) {
-        Ok(cell) => Ok(cell),
-        Err(fault) => Err(Early::from(fault)),
+    match read_cell_text(alloc, files, name) {
+        Ok(held) => Ok(held.cell),
+        Err(early) => Err(early),
     }
 }
 
