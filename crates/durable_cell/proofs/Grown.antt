@@ -31,7 +31,8 @@ grants_of_one shift entry = by_test (was_granted entry.told)
     by_test false = refl
 
 -- and so does its halt
-unsure_of_one : (shift : ℕ) (entry : Entry) → option_map asked_by (unsure_grant shift (entry ∷ [])) ≡ option_map asked_in (halted_in (entry ∷ []))
+unsure_of_one : (shift : ℕ) (entry : Entry) → option_map asked_by (unsure_grant shift (entry ∷ []))
+    ≡ option_map asked_in (halted_in (entry ∷ []))
 unsure_of_one shift entry = by_test (is_halt entry)
   where
     by_test : (halt : Bool) → option_map asked_by (option_map (grant_of shift) (cond halt (Some entry) None))
@@ -43,7 +44,8 @@ pub keeps_history : {D : Type 0} (durable : DurableState D) (shift : ℕ) (entry
     → length durable.history < durable.limit → IsToldRightly durable.cell (parts durable) entry.request entry.told []
     → KeepsHistory (with_entry durable shift entry)
 keeps_history durable shift entry keeps none room right =
-    let no_halt : halted_in durable.history ≡ None = beside_none asked_by asked_in durable.unsure (halted_in durable.history) keeps.unsure none in
+    let no_halt : halted_in durable.history ≡ None = beside_none asked_by asked_in durable.unsure
+    (halted_in durable.history) keeps.unsure none in
     record {
       fits = keeps.fits;
       due = keeps.due;
@@ -83,12 +85,14 @@ pub kept_is : {D : Type 0} (badge : Badge D) (disk other : D) → badge.views �
 kept_is badge disk other is = ap (λ (views : List _). slice_index_or views 0 other) is
 
 pub seen_more : {D : Type 0} (badge : Badge D) (disk : D) (core new_core : CoreState) (text : List ℕ) (journal new_journal : JournalState D)
-    (opening : List Grant) (history new_history : List Entry) (added new_added : List Grant) (unsure new_unsure : Option Grant) (limit shift : ℕ)
+    (opening : List Grant) (history new_history : List Entry) (added new_added : List Grant) (unsure new_unsure : Option Grant)
+    (limit shift : ℕ)
     (entry : Entry) → badge.views ≡ disk ∷ [] → new_core.cell ≡ core.cell → new_history ≡ history ++ entry ∷ []
     → new_added ≡ added ++ grants shift (entry ∷ []) → new_unsure ≡ unsure_grant shift (entry ∷ [])
     → seen badge new_core text new_journal opening new_history new_added new_unsure limit
     ≡ with_entry (seen badge core text journal opening history added unsure limit) shift entry
-seen_more badge disk core new_core text journal new_journal opening history new_history added new_added unsure new_unsure limit shift entry first
+seen_more badge disk core new_core text journal new_journal opening history new_history added new_added unsure new_unsure limit shift
+    entry first
     cell_is history_is added_is unsure_is = λ i. record {
       cell = cell_is i;
       text = text;

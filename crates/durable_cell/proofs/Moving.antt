@@ -44,13 +44,17 @@ first_of_more text opening added grant file stands =
 
 either_first : (text : List ℕ) (opening added : List Grant) (grant : Grant) (file : List ℕ)
     → IsBeforeOrAfter text (opening ++ added) grant file → StandsForFirst text opening (added ++ grant ∷ []) file
-either_first text opening added grant file (inl before) =
-    (length added, subst (λ (gs : List Grant). StandsFor file text (opening ++ gs)) (sym (take_at added (grant ∷ []) (length added) refl)) before)
+either_first text opening added grant file (inl before) = (
+  length added,
+  subst (λ (gs : List Grant). StandsFor file text (opening ++ gs)) (sym (take_at added (grant ∷ [])
+      (length added) refl)) before,
+)
 either_first text opening added grant file (inr after) =
     let all = added ++ grant ∷ [] in (
       length all,
       subst (λ (gs : List Grant). StandsFor file text gs)
-          (append_assoc opening added (grant ∷ []) ∙ ap (λ (gs : List Grant). opening ++ gs) (sym (take_all (length all) all (omega arith)))) after,
+          (append_assoc opening added (grant ∷ []) ∙ ap (λ (gs : List Grant). opening ++ gs) (sym (take_all (length all) all
+          (omega arith)))) after,
     )
 
 module _ {D : Type 0} (reads_as : D → Option (List ℕ)) (may_leave : D → List ℕ → Type 0) (moment : D → ℕ)
@@ -72,7 +76,8 @@ module _ {D : Type 0} (reads_as : D → Option (List ℕ)) (may_leave : D → Li
       let wider : (file : List ℕ) → may_leave entry file ⊎ StandsForFirst text opening since file → P file =
       λ file. ⊎_elim (λ was. inl was) (λ stands. inr (first_of_more text opening added grant file
       (subst (λ (gs : List Grant). StandsForFirst text opening gs file) is_since stands))) in
-      subst (λ (gs : List Grant). LeavesOnly moment left_since entry new (λ file. may_leave entry file ⊎ StandsForFirst text opening gs file))
+      subst (λ (gs : List Grant). LeavesOnly moment left_since entry new (λ file. may_leave entry file
+      ⊎ StandsForFirst text opening gs file))
       (sym is_longer)
       (followed moment left_since entry disk new P (widened moment left_since entry disk _ P before wider)
       (widened moment left_since disk new _ P after (λ file stands. inr (either_first text opening added grant file stands))))
@@ -120,7 +125,8 @@ module _ {D : Type 0} (reads_as : D → Option (List ℕ)) (may_leave : D → Li
       (record durable { history = history; added = durable.added ++ grant ∷ []; unsure = None }) new
   disk_has_more durable disk new history grant none keeps appends fed stored = record {
     tells = turns_on (reads_as durable.entry) (reads_as disk) (reads_as new) keeps.tells appends.tells;
-    count = fed ∙ subst (λ (u : Option Grant). MatchOption u (faults disk ≡ faults durable.entry) (λ _. Rose (faults durable.entry) (faults disk)))
+    count = fed ∙ subst (λ (u : Option Grant). MatchOption u (faults disk
+        ≡ faults durable.entry) (λ _. Rose (faults durable.entry) (faults disk)))
         none keeps.count;
     stands = where_told (reads_as new) (λ file. Stands file × ((c : List ℕ) → may_leave new c → Stands c)) (λ now is_now.
         let old = turned_back _ _ _ now is_now appends.tells in

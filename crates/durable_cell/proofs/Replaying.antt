@@ -108,7 +108,8 @@ stands_opened cell file text room grants due (inr found) =
     ap (replayed_reading cell text) found ∙ due_replayed cell text grants due
 
 -- what is replayed is answered
-pub replay_found : {D : Type 0} (old : CoreState) (text : List ℕ) (journal : JournalState D) (found grants : List Grant) (answer : Restored D)
+pub replay_found : {D : Type 0} (old : CoreState) (text : List ℕ) (journal : JournalState D) (found grants : List Grant)
+    (answer : Restored D)
     → IsReplay old text journal found answer → replayed old.cell text found ≡ Ok grants → IsFound grants answer
 replay_found old text journal found grants (Open core held given) replay is = cc
 replay_found old text journal found grants (Refused disk why) replay is = cc

@@ -63,7 +63,8 @@ pub record KeepsDisk {D : Type 0} (reads_as : D → Option (List ℕ)) (may_leav
   pub any_moment : IfSome (reads_as disk) (λ _. LeavesOnly moment left_since durable.entry disk
       (λ file. may_leave durable.entry file ⊎ StandsBetween durable file))
 
--- The badge has the disk of the opening, the core stands behind the history, the journal has all that was added and runs until a writing fails, and no shelf gets full.
+-- The badge has the disk of the opening, the core stands behind the history, the journal runs until a writing fails, and no shelf gets
+-- full.
 pub record KeepsParts {D : Type 0} (durable : DurableState D) (badge : Badge D) (core : CoreState) (journal : JournalState D)
     (history_spare added_spare : ℕ) : Type 0 where
   pub first : badge.views ≡ durable.entry ∷ []

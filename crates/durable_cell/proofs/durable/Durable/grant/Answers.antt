@@ -63,7 +63,8 @@ invariant_of-self-in-Err g c =
     let device = device_alone c.in-Err.field-0 i.journal.is_halted c.in-Err.ensures.halted_only running in
     let more = seen_more i.entry old.entry i.core i.core i.text i.journal c.append.new.self i.opening i.history.items
     c.push-in-Err.new.self.items i.added.items i.added.items i.unsure (Some grant) i.limit grant.shift e v.2.first refl
-    (c.push-in-Err.ensures.items ∙ ap (λ (x : Entry). i.history.items ++ x ∷ []) c.entry-in-Err.ensures) (sym (append-nil i.added.items)) refl in
+    (c.push-in-Err.ensures.items ∙ ap (λ (x : Entry). i.history.items ++ x ∷ []) c.entry-in-Err.ensures) (sym
+    (append-nil i.added.items)) refl in
     subst (λ (d : DurableState _). Keeps g.D.Disk.reads_as g.D.Disk.may_leave g.D.Disk.moment g.D.Disk.left_since g.D.Disk.faults d
     i.entry i.core c.append.new.self c.push-in-Err.new.self.spare i.added.spare) (sym more) (
       keeps_history old grant.shift e v.0 goes.none goes.room (goes.right, refl),

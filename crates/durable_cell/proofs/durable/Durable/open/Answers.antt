@@ -20,7 +20,8 @@ invariant_of-result g c =
     subst (λ (d : DurableState _). Keeps g.D.Disk.reads_as g.D.Disk.may_leave g.D.Disk.moment g.D.Disk.left_since g.D.Disk.faults d
     c.in-Ok.entry core journal shelves.history.spare shelves.added.spare) (sym is_fresh) (
       history_opened cell text disk grants limit c.requires.fits is_core.due,
-      disk_opened g.D.Disk.reads_as g.D.Disk.may_leave g.D.Disk.moment g.D.Disk.left_since g.D.Disk.faults disk (disk_stored c.in-Open.stored)
+      disk_opened g.D.Disk.reads_as g.D.Disk.may_leave g.D.Disk.moment g.D.Disk.left_since g.D.Disk.faults disk
+          (disk_stored c.in-Open.stored)
           cell text grants limit journal c.in-Open.ensures.reads c.in-Open.ensures.cause made,
       parts_opened cell text disk grants limit c.args.room c.in-Ok.entry core journal shelves.history.spare shelves.added.spare
           c.in-Ok.ensures is_core c.requires.room c.requires.limit made.len made.runs reserved.history_room reserved.added_room,
