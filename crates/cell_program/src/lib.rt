@@ -9,15 +9,17 @@
 //! let ended = cell_main(&rt, alloc, &words, &mut files, &mut out, NullDisk, &FreePace);
 //! ```
 //!
-//! `DirFiles` and `OutSink` are the files and the standard output of the running program. They count their faults and
-//! tell nothing of content.
+//! `DirFiles`, `OutSink` and `FileDisk` are the files, the standard output and the journal's file of the running program. They
+//! count their faults and tell nothing of content.
 #![tactic(auto)]
 
 mod dir_files;
+mod file_disk;
 mod out_sink;
 mod solo;
 mod top;
 
 pub use dir_files::DirFiles;
+pub use file_disk::FileDisk;
 pub use out_sink::OutSink;
 pub use top::{Ended, cell_main};

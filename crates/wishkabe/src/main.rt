@@ -1,8 +1,10 @@
-//! The program `wishkabe`: runs the command that its words name, over the files of the current folder and standard output.
+//! The program `wishkabe`: runs the command that its words name, over the files of the current folder, a journal's file and standard
+//! output.
 #![tactic(auto)]
 
-use cell_program::{DirFiles, OutSink, cell_main};
-use outside_io::{FreePace, NullDisk};
+use cell_program::{DirFiles, FileDisk, OutSink, cell_main};
+use outside_io::FreePace;
+use std::fs::File;
 use std::io::{BufWriter, Write};
 use std::process::ExitCode;
 use std::rt::{Env, Files};
@@ -20,7 +22,7 @@ fn main(rt: HostRuntime) -> ExitCode {
 }
 
 // Runs the command, and answers its status, or 8 where what it printed could not be written.
-fn run_over<R: Env + AllocGlobal + Files + Threads + Wait + Sync, W: Write + Drop>(
+fn run_over<R: Env + AllocGlobal + Files<File = File> + Threads + Wait + Sync, W: Write + Drop>(
     rt: &R,
     writer: W,
 ) -> u8 {
@@ -28,10 +30,24 @@ fn run_over<R: Env + AllocGlobal + Files + Threads + Wait + Sync, W: Write + Dro
     let mut files = DirFiles::new(rt);
     let mut out = OutSink::new(writer);
     let alloc = rt.alloc();
-    let ended = cell_main(rt, alloc, &words, &mut files, &mut out, NullDisk, &FreePace);
+    let disk = FileDisk::new(rt, alloc, journal_in(&words));
+    let ended = cell_main(rt, alloc, &words, &mut files, &mut out, disk, &FreePace);
     match out.flush() {
         Ok(()) => ended.status,
         Err(_) => 8,
+    }
+}
+
+// The word that names a command's journal: the last one, but for `why` the third. Where it isn't there it is the empty name, which
+// no file has.
+fn journal_in(words: &[String]) -> &str {
+    match words {
+        [verb, rest @ ..] if verb.as_str() == "why" => match rest {
+            [_, journal, ..] => journal.as_str(),
+            _ => "",
+        },
+        [.., last] => last.as_str(),
+        [] => "",
     }
 }
 

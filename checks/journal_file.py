@@ -1,0 +1,67 @@
+"""Journals as the document of formats has them, read and written apart from the program.
+
+A journal is a gate 1, the name `RUNCELL1`, the length of the cell text, the text, and then for each grant a gate 1 and sixteen bytes,
+up to the first gate that isn't 1. Resources and types are numbered as the cell file has them.
+"""
+import struct
+import tomllib
+
+NAME = b"RUNCELL1"
+KINDS = {"load": 1, "process": 2, "move": 3, "unload": 4}
+
+
+class Numbers:
+    """The numbers of a cell's resources and types."""
+
+    def __init__(self, text):
+        cell = tomllib.loads(text.decode())
+        self.resources = {one["name"]: number for number, one in enumerate(cell["resource"])}
+        self.types = {one["name"]: number for number, one in enumerate(cell["type"])}
+
+
+def entry(numbers, step, session, shift):
+    """The sixteen bytes of a step that was granted to a session in a shift."""
+    words = step.split(" ")
+    kind = KINDS[words[0]]
+    job = 0 if words[0] == "process" else int(words[1])
+    argument = 0
+    if words[0] == "load":
+        argument = numbers.types[words[2]]
+    if words[0] == "process":
+        argument = numbers.resources[words[1]]
+    if words[0] == "move" and len(words) == 3:
+        argument = int(words[2])
+    return struct.pack(">BBHIII", kind, 0, session, shift, job, argument)
+
+
+def journal(text, entries):
+    """The bytes of a journal of these entries."""
+    head = b"\x01" + NAME + struct.pack(">I", len(text)) + text
+    return head + b"".join(b"\x01" + one for one in entries) + b"\x00"
+
+
+def entries_in(data, text):
+    """The entries of a journal of this text; none where the file is blank, and None where it is no journal."""
+    if len(data) < 2 or data[0] == 0 or (data[0] != 1 and data[1:9] == NAME):
+        return []
+    head = b"\x01" + NAME + struct.pack(">I", len(text)) + text
+    if data[: len(head)] != head:
+        return None
+    found = []
+    at = len(head)
+    while at < len(data) and data[at] == 1:
+        if at + 18 > len(data):
+            return None
+        found.append(data[at + 1 : at + 17])
+        at += 17
+    return found if at < len(data) else None
+
+
+def granted(numbers, lines, shift):
+    """The entries of the lines of a record that say `granted`."""
+    found = []
+    for line in lines:
+        words = line.split(" ")
+        if words[-1] == "granted":
+            found.append(entry(numbers, " ".join(words[1:-1]), int(words[0]), shift))
+    return found
