@@ -11,7 +11,7 @@ use Rattle.policy_laws.proofs.Work.{first_branch_path-next, work_behind-next}
 use Rattle.policy_laws.proofs.Limits.{length-route_of}
 
 module _ (cell : Cell) where
-  length-path_within : (n : ℕ) (s : Stage) → length (path_within cell n s) ≤ n
+  pub length-path_within : (n : ℕ) (s : Stage) → length (path_within cell n s) ≤ n
   length-path_within zero s = omega arith
   length-path_within (suc n) s = at (successor cell s 0) (length-path_within n)
     where
