@@ -24,18 +24,21 @@ use Rattle.step_text.specs.Steps.{step_of}
 use Rattle.step_text.specs.declared.faults.StepFault.{StepFault}
 use Rattle.cell_words.specs.Blocks.{block_of, planned_block}
 use Rattle.cell_words.specs.CellEnds.{cell_end}
-use Rattle.cell_words.specs.Commands.{AfterJournal, EndsAtJournal, FileRead, JournalFailed, JournalFaulty, JournalOpened, MayComeOf, NoStep, OwesPlan, OwesWhy, StepRead}
+use Rattle.cell_words.specs.Commands.{AfterJournal, EndsAtJournal, FileRead, JournalFailed, JournalFaulty, JournalOpened, DrainMade, MayComeOf, MayComeWriting, NoStep, OwesDrain, OwesPlan, OwesWhy, StepRead}
 use Rattle.cell_words.specs.DiskTold.{DiskTold, IsUntouched}
-use Rattle.cell_words.specs.Ends.{IsOwed}
+use Rattle.cell_words.specs.Drains.{drain_outcome}
+use Rattle.cell_words.specs.Ends.{IsOwed, MemoryWanted}
 use Rattle.cell_words.specs.Journals.{IsAnsweredBehind, IsBehind, IsBehindJournal, IsPlanRecord, answer_lines, jobs_counted, plan_outcome, why_outcome}
 use Rattle.cell_words.specs.Reading.{EndsEarly, IsCellFile, cell_file_read}
 use Rattle.cell_words.specs.Texts.{Outcome, done, early_outcome}
 use Rattle.cell_words.specs.declared.asking_why.Answer.{Answer}
+use Rattle.cell_words.specs.declared.drains.Drain.{Drain}
 use Rattle.cell_words.specs.declared.early.Early.{Early}
 use Rattle.cell_words.specs.declared.early.Early.TheVariants.{Memory, StepRefused}
 use Rattle.cell_words.specs.declared.journals.Behind.{Behind}
 use Rattle.cell_words.specs.declared.reading.CellFile.{CellFile}
 use Rattle.cell_words.proofs.BlockTexts.{planned_text}
+use Rattle.cell_words.proofs.Disks.{read_untouched}
 use Rattle.cell_words.proofs.Owed.{early_in, is_early, owed_or_starved}
 
 -- ---- the state behind grants
@@ -160,3 +163,27 @@ module _ (names : Option Names) (faults faults_after : ℕ) (disk : DiskTold) (c
             → IfErr made (λ early. (early ≡ Memory) ⊎ EndsAtJournal disk held early) → MayComeOf Owes (why_outcome made)
         why_made (Ok answer) is early = IsOwed (why_done answer is)
         why_made (Err why) is early = why_at_journal why early
+
+  -- ---- `drain`
+
+  abbrev OwesDrained : Outcome → Type 0
+  OwesDrained = OwesDrain names faults faults_after disk cell_name
+
+  -- the cell was not read
+  pub drain_at_cell : (early : Early) → EndsEarly names cell_name cell_file_read cell_end faults faults_after early → IsUntouched disk
+      → MayComeWriting disk OwesDrained (early_outcome early)
+  unfolding OwesDrain
+  drain_at_cell early ends still =
+      elim (early_in names faults faults_after cell_name cell_file_read cell_end _ _ early (λ end is. (is_early early end is, still)) ends) [
+        | inl is ↦ MemoryWanted (is_early early Memory is, read_untouched disk still)
+        | inr owed ↦ IsOwed owed
+      ]
+
+  -- the drain, or an end at the journal
+  pub drain_made : (held : CellFile) → IsCellFile names cell_name held → (made : Result Drain Early) → DrainMade disk held made
+      → MayComeWriting disk OwesDrained (drain_outcome made)
+  unfolding OwesDrain
+  drain_made held read (Ok drain) is = IsOwed (FileRead held read (JournalOpened is.0 is.1 is.2))
+  drain_made held read (Err early) (inl starved) = MemoryWanted (is_early early Memory starved.0, starved.1)
+  drain_made held read (Err early) (inr ends) =
+      IsOwed (FileRead held read (journal_in disk held _ _ early (λ end is. (is_early early end is, ends.1)) ends.0))

@@ -19,7 +19,7 @@ use Rattle.cell_words.specs.CellEnds.{cell_end}
 use Rattle.cell_words.specs.ShiftEnds.{shift_end}
 use Rattle.cell_words.specs.RecordEnds.{record_end, record_read}
 use Rattle.cell_words.specs.DiskTold.{DiskTold, IsUntouched, IsOnlyRead, StoodStill}
-use Rattle.cell_words.specs.Drains.{IsDrained, IsHalted}
+use Rattle.cell_words.specs.Drains.{IsDrained, IsDrainOf, IsHalted}
 use Rattle.cell_words.specs.Ends.{IsEarly, MayCome}
 use Rattle.cell_words.specs.JournalEnds.{journal_end}
 use Rattle.cell_words.specs.Journals.{IsOpenedWith, IsRefusedBy, IsPlanRecord, why_lines}
@@ -27,8 +27,9 @@ use Rattle.cell_words.specs.Reading.{GivenBy, cell_file_read}
 use Rattle.cell_words.specs.SoloRecords.{IsSoloRecord}
 use Rattle.cell_words.specs.Texts.{Outcome, done, usage, verdict_outcome}
 use Rattle.cell_words.specs.Told.{Told, HoldsOf}
+use Rattle.cell_words.specs.declared.drains.Drain.{Drain as RunDrain}
 use Rattle.cell_words.specs.declared.early.Early.{Early}
-use Rattle.cell_words.specs.declared.early.Early.TheVariants.{ReadFault, StepRefused, DeviceFault}
+use Rattle.cell_words.specs.declared.early.Early.TheVariants.{ReadFault, StepRefused, DeviceFault, Memory}
 use Rattle.cell_words.specs.declared.reading.CellFile.{CellFile}
 
 -- what the words ask for; a journal is no file but the disk
@@ -182,6 +183,14 @@ OwesDrain names faults faults_after disk cell_name outcome =
     (λ grants. IsDrained disk held.cell held.text.items grants outcome ⊎ IsHalted disk held.cell held.text.items grants outcome)
     (IsBeforeSteps disk held.text.items outcome))
     (IsBeforeDisk disk outcome)
+
+-- how the drain of a cell that was read ends
+abbrev pub DrainMade : DiskTold → CellFile → Result RunDrain Early → Type 0
+DrainMade disk held (Ok drain) =
+    (grants : List Grant) × IsOpenedWith disk held.cell held.text.items grants
+    × IsDrainOf disk held.cell held.text.items grants drain
+DrainMade disk held (Err early) =
+    ((early ≡ Memory) × IsOnlyRead disk) ⊎ (EndsAtJournal disk held early × StoodStill held.text.items disk)
 
 -- ---- what may come
 

@@ -1,17 +1,20 @@
 //! The plan behind a journal's grants, asked step by step, each grant written to the journal.
-ghost use Rattle.std.specs.Prelude.{◌≡◌, ◌≤◌, true, false, length, IfOk, IsErrOf};
+ghost use Rattle.std.specs.Prelude.{◌≡◌, ◌≤◌, length, IfOk, IsErrOf, IsOk};
 ghost use Rattle.std.specs.List.{All};
 ghost use Rattle.outside_io.specs.Files.{IsThere};
 ghost use Rattle.outside_io.specs.Puts.{sink_told};
 ghost use Rattle.cell_base.specs.Fits.{CellFits};
-ghost use Rattle.cell_base.specs.Plans.{plan_of, work};
+ghost use Rattle.cell_base.specs.Policy.{IsAdmitted};
 ghost use Rattle.cell_file.specs.declared.reading.TheConstants.{MAX_CELL_BYTES};
 ghost use Rattle.durable_cell.specs.DurableState.{first_parts};
+ghost use Rattle.durable_cell.specs.Kept.{KeepsHistory};
+ghost use Rattle.durable_cell.specs.Replayed.{AreDue};
 ghost use Rattle.record_text.specs.Fitting.{EntryFits};
-ghost use Rattle.cell_words.specs.Commands.{DrainMayCome, MayComeWriting, OwesDrain};
+ghost use Rattle.cell_words.specs.Commands.{DrainMade, MayComeWriting, OwesDrain};
 ghost use Rattle.cell_words.specs.DiskTold.{disk_told};
-ghost use Rattle.cell_words.specs.Drains.{IsNew, after_steps, drain_outcome, HaltsIn, IsDrainOf};
+ghost use Rattle.cell_words.specs.Drains.{IsAsked, IsDrainOf, IsFresh, drain_outcome, end_of};
 ghost use Rattle.cell_words.specs.Ends.{Ends, IsDelivered};
+ghost use Rattle.cell_words.specs.declared.drains.TheConstants.{MAX_PLAN};
 ghost use Rattle.cell_words.specs.declared.early.Early.TheVariants.{ReadFault};
 
 use crate::early::Early;
@@ -52,7 +55,7 @@ pub fn run_drain<F: Files, K: Sink, D: Disk>(
     ensures sound { F.is_sound files.old → IsThere (F.holds files.old) cell.now → result.status ≡ 3 → ⊥ }
 {
     let OnJournal { made, disk } = drain_of_files(alloc, files, cell, disk);
-    let status = print_made(out, &made);
+    let status = print_made(out, made);
     Ended { status, disk }
 }
 
@@ -84,10 +87,11 @@ fn drain_journal<D: Disk>(alloc: Global, held: CellFile, disk: D) -> OnJournal<D
     requires short { length held.text.items ≤ MAX_CELL_BYTES }
     ensures made { DrainMade (disk_told D.reads_as D.may_leave D.moment D.left_since D.faults disk result.disk) held result.made }
     ensures fits { IfOk result.made (λ drain. All (EntryFits drain.core.cell) drain.history) }
+    ensures read { IsErrOf result.made ReadFault → ⊥ }
 {
     let CellFile { cell, text } = held;
     match Durable::open(alloc, cell, &text, disk, MAX_ROOM, MAX_PLAN) {
-        Opening::Open(durable) => drain(durable),
+        Opening::Open(durable) => ask_all(durable),
         Opening::Refused { disk, why } => OnJournal {
             made: Err(Early::from(why)),
             disk,
@@ -104,7 +108,16 @@ fn drain_journal<D: Disk>(alloc: Global, held: CellFile, disk: D) -> OnJournal<D
 }
 
 // Asks the steps of the plan, and takes the durable cell apart.
-fn drain<D: Disk>(mut durable: Durable<D>) -> OnJournal<Drain, D> {
+fn ask_all<D: Disk>(mut durable: Durable<D>) -> OnJournal<Drain, D>
+    requires fresh { IsFresh durable }
+    requires room { durable.limit ≡ MAX_PLAN }
+    ensures made { IfOk result.made (λ drain.
+        IsDrainOf (disk_told D.reads_as D.may_leave D.moment D.left_since D.faults durable.entry result.disk)
+        durable.cell durable.text durable.opening drain) }
+    ensures due { AreDue durable.cell durable.opening }
+    ensures fits { IfOk result.made (λ drain. All (EntryFits drain.core.cell) drain.history) }
+    ensures ok { IsOk result.made }
+{
     let has_halted = ask_steps(&mut durable);
     let Finished {
         disk,
@@ -125,14 +138,17 @@ fn drain<D: Disk>(mut durable: Durable<D>) -> OnJournal<Drain, D> {
 
 // Asks each step of the plan as session 0 of shift 0, up to the first whose writing fails. Answers whether there was one.
 fn ask_steps<D: Disk>(durable: &mut Durable<D>) -> bool
-    requires new { IsNew durable.old }
-    requires room { work durable.old.cell (first_parts durable.old) ≤ durable.old.limit }
-    ensures whole { result ≡ false → durable.new ≡ after_steps durable.old (plan_of durable.old.cell (first_parts durable.old)) }
-    ensures halted { result ≡ true → HaltsIn durable.old durable.new }
+    requires fresh { IsFresh durable.old }
+    requires room { durable.old.limit ≡ MAX_PLAN }
+    ensures asked { IsAsked durable.old result durable.new }
+    ensures admitted { IsAdmitted durable.old.cell (first_parts durable.old) }
+    ensures kept { KeepsHistory durable.old }
 {
+    let _admitted = durable.core();
     while let Some(step) = durable.core().plan_step() {
-        if durable.ask(0, 0, &step).is_err() {
-            return true;
+        match durable.ask(0, 0, &step) {
+            Ok(_) => {}
+            Err(_) => return true,
         }
     }
     false
@@ -144,15 +160,32 @@ fn print_made<K: Sink>(out: &mut K, made: Result<Drain, Early>) -> u8
     ensures delivered { IsDelivered (sink_told K.taken K.was_put K.faults out.old out.new) (drain_outcome made) result }
     ensures unread { result ≡ 3 → IsErrOf made ReadFault }
 {
-    let drain = match made {
-        Ok(drain) => drain,
-        Err(early) => return finish_early(out, &early),
-    };
-    let Drain { core, after, history, has_halted } = drain;
-    let (printed, status) = if has_halted {
-        (print_history(out, core.cell(), 0, after, history.as_slice()), 7)
-    } else {
-        (print_block(out, core, 0, after, history.as_slice()), 0)
-    };
-    ..
+    match made {
+        Ok(drain) => print_drain(out, drain),
+        Err(early) => finish_early(out, &early),
+    }
+}
+
+// Prints the record of the drain.
+fn print_drain<K: Sink>(out: &mut K, drain: Drain) -> u8
+    requires { All (EntryFits drain.core.cell) drain.history }
+    ensures delivered { IsDelivered (sink_told K.taken K.was_put K.faults out.old out.new) (end_of drain) result }
+    ensures other { result ≡ 3 → ⊥ }
+{
+    let Drain {
+        core,
+        after,
+        history,
+        has_halted,
+    } = drain;
+    if has_halted {
+        return match print_history(out, core.cell(), 0, after, history.as_slice()) {
+            Ok(()) => 7,
+            Err(_) => 8,
+        };
+    }
+    match print_block(out, core, 0, after, history.as_slice()) {
+        Ok(()) => 0,
+        Err(_) => 8,
+    }
 }

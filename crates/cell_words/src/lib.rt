@@ -14,6 +14,7 @@
 #![tactic(auto)]
 
 mod asking_why;
+mod drains;
 mod early;
 mod ends;
 mod findings;
@@ -27,6 +28,7 @@ mod showing;
 mod words;
 
 pub use asking_why::run_why;
+pub use drains::run_drain;
 pub use early::Early;
 pub use ends::{Ended, finish, finish_early};
 pub use findings::Finding;
