@@ -57,6 +57,5 @@ abbrev pub Leaves : {D : Type 0} → (D → Option (List ℕ)) → (D → List �
 Leaves reads_as may_leave moment left_since old text (Open durable) = ⊤
 Leaves reads_as may_leave moment left_since old text (Refused disk why) = OnlyReads reads_as may_leave moment left_since old disk
 Leaves reads_as may_leave moment left_since old text (Device disk) =
-    OnlyReads reads_as may_leave moment left_since old disk
-    ⊎ ((read : _) × OnlyReads reads_as may_leave moment left_since old read × IsUnmade reads_as may_leave moment left_since read text disk)
+    OnlyReads reads_as may_leave moment left_since old disk ⊎ IsUnmade reads_as may_leave moment left_since old text disk
 Leaves reads_as may_leave moment left_since old text (Memory disk) = OnlyReads reads_as may_leave moment left_since old disk

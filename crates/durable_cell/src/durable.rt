@@ -3,9 +3,11 @@ ghost use Rattle.std.specs.Prelude.{◌≡◌, ◌≤◌, ℕ, List as Sequence,
 ghost use Rattle.cell_base.specs.declared.shifts.Grant.{Grant};
 ghost use Rattle.cell_base.specs.Fits.{CellFits, RequestFits};
 ghost use Rattle.cell_base.specs.Histories.{IsLegal};
+ghost use Rattle.cell_base.specs.Outcomes.{reply_to};
 ghost use Rattle.cell_base.specs.Policy.{IsAdmitted};
+ghost use Rattle.cell_base.specs.declared.requests.Reply.TheVariants.{Granted};
 ghost use Rattle.move_journal.specs.Journals.{StandsFor};
-ghost use Rattle.durable_cell.specs.Asked.{Answers, entry};
+ghost use Rattle.durable_cell.specs.Asked.{Answers, GoesOn, entry};
 ghost use Rattle.durable_cell.specs.DurableState.{first_parts, parts};
 ghost use Rattle.durable_cell.specs.Kept.{KeepsHistory, KeepsDisk};
 ghost use Rattle.durable_cell.specs.Reserved.{IsReserved};
@@ -19,6 +21,7 @@ use atomic_table::Badge;
 use cell_base::{Cell, Entry, Grant, List, NoMemory, Reply, Request, Shelf, Told};
 use move_journal::{Journal, MAX_CELL_TEXT};
 use outside_io::Disk;
+use policy_laws::refusal_law;
 use std::alloc::Global;
 use std::marker::Model;
 
@@ -149,29 +152,46 @@ impl<D: Disk> Durable<D> {
         if len >= self.limit {
             return Err(AskFault::Full { len });
         }
-        let reply = self.core.decide(request);
-        if reply != Reply::Granted {
-            self.history
-                .push(entry(session, request, Told::Answered(reply)));
-            return Ok(reply);
-        }
-        let grant = Grant {
-            shift,
-            session,
-            request: *request,
-        };
-        match self.journal.append(&grant) {
-            Ok(()) => {
-                self.core.apply(request);
-                self.added.push(grant);
+        match self.core.decide(request) {
+            Reply::Granted => self.grant(Grant {
+                shift,
+                session,
+                request: *request,
+            }),
+            Reply::Refused(why) => {
+                refusal_law(self.core.cell());
+                let reply = Reply::Refused(why);
                 self.history
                     .push(entry(session, request, Told::Answered(reply)));
                 Ok(reply)
             }
+        }
+    }
+
+    // Writes a grant, and then applies it. Where the writing fails it stays out of the core, and the history ends.
+    fn grant(&mut self, grant: Grant) -> Result<Reply, AskFault>
+        requires fits { RequestFits self.old.cell grant.request }
+        requires goes_on { GoesOn self.old }
+        requires granted { reply_to self.old.cell (parts self.old) grant.request ≡ Granted }
+        ensures answer { Answers self.old grant.shift grant.session grant.request result self.new }
+        ensures legal { IsLegal self.new.cell (first_parts self.new) self.new.history }
+        ensures within { length self.new.history ≤ self.new.limit }
+    {
+        match self.journal.append(&grant) {
+            Ok(()) => {
+                let told = Told::Answered(Reply::Granted);
+                self.core.apply(&grant.request);
+                self.added.push(grant);
+                self.history
+                    .push(entry(grant.session, &grant.request, told));
+                Ok(Reply::Granted)
+            }
             Err(_) => {
+                let at = self.history.len();
                 self.unsure = Some(grant);
-                self.history.push(entry(session, request, Told::Halted));
-                Err(AskFault::Device { at: len })
+                self.history
+                    .push(entry(grant.session, &grant.request, Told::Halted));
+                Err(AskFault::Device { at })
             }
         }
     }

@@ -37,3 +37,6 @@ pub use opening::Opening;
 pub use replays::{MAX_ROOM, replay};
 pub use restored::{Restored, restore};
 pub use stored::Stored;
+
+#[cfg(test)]
+mod tests;
