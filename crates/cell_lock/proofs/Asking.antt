@@ -53,9 +53,11 @@ added {D} p q shift a b e by sees is = record {
 still : {D : Type 0} (p q : Standing D) (a b : DurableState D) → Sees p q a b → b ≡ a
     → (halted_at q.seen ≡ halted_at a.history) × (length q.seen ≡ length a.history) × (q.mine ≡ p.mine)
 still {D} p q a b sees same =
-    let seen : q.seen ≡ a.history = sees.seen ∙ ap (λ (x : DurableState D). x.history) same in
-    (ap halted_at seen, ap (λ (l : List Entry). length l) seen,
-        sees.own ∙ (ap (λ (x : DurableState D). entries_of p.number x.history) same ∙ sym sees.before))
+    let seen : q.seen ≡ a.history = sees.seen ∙ ap (λ (x : DurableState D). x.history) same in (
+      ap halted_at seen,
+      ap (λ (l : List Entry). length l) seen,
+      sees.own ∙ (ap (λ (x : DurableState D). entries_of p.number x.history) same ∙ sym sees.before),
+    )
 
 pub asked : {D : Type 0} (p q : Standing D) (shift : ℕ) (request : Request) (answer : Result Reply AskFault) (a b : DurableState D)
     → IsPrefix p.seen a.history → p.mine ≡ entries_of p.number a.history → q.seen ≡ b.history → q.mine ≡ entries_of p.number b.history

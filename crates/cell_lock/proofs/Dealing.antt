@@ -160,7 +160,7 @@ module _ {D : Type 0} (o p : Opening D) (id n count : ℕ) (s : State (DurableSt
         turn = turn_moves o k.log s.words s.homes s.views (first_views ++ Right ∷ [])
             (λ i u t e.
             let ne : i ≢ id = λ same. (let was : true ≡ false = sym t ∙ ap (λ (y : View D). y.has_turn)
-                (some-injective u X (sym e ∙ (ap (get_elem? s.views) same ∙ at))) in absurd (cc)) in
+            (some-injective u X (sym e ∙ (ap (get_elem? s.views) same ∙ at))) in absurd (cc)) in
             at_longer first_views (Right ∷ []) i u (set_else s.views id i Left ne ∙ e))
             (λ i u t e. ⊎_elim
             (λ z. ⊎_elim (λ y. let no : false ≡ u.has_turn = ap (λ (q : View D). q.has_turn) y.1 in absurd (cc)) (λ y. y.1)

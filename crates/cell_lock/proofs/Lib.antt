@@ -5,3 +5,4 @@ pub mod Dealing
 pub mod Seats
 pub mod Asking
 pub mod Gathering
+pub mod Passes

@@ -22,10 +22,10 @@ impl<D: Disk> Model for Pass<D> {
     ghost Value = { Standing D };
 
     ghost view = { λ p. record {
-        lock = lock_of p.seat;
-        number = p.number;
-        seen = seen_of p.seat.me.0;
-        mine = mine_of p.seat.me.0;
+      lock = lock_of p.seat;
+      number = p.number;
+      seen = seen_of p.seat.me.0;
+      mine = mine_of p.seat.me.0;
     } };
 
     ghost invariant = { λ p. IsResting p.seat.me × (p.seat.me.0.first ≡ p.number) };

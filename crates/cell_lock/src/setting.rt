@@ -1,5 +1,5 @@
 //! How a table is laid and its passes are dealt, and how they come together again.
-ghost use Rattle.std.specs.Prelude.{◌≡◌, ◌+◌, ◌-◌, ◌<◌, ◌≤◌, false, None, [], ◌∷◌, length, IfOk, IfErr};
+ghost use Rattle.std.specs.Prelude.{◌≡◌, ◌+◌, ◌-◌, ◌<◌, ◌≤◌, false, [], ◌∷◌, length, IfOk, IfErr};
 ghost use Rattle.cell_lock.specs.Openings.{opening_of};
 ghost use Rattle.cell_lock.specs.Views.{stock, passing, gathered, IsStock};
 ghost use Rattle.cell_lock.specs.Standing.{new_pass, new_passes, AreNumbered};
@@ -41,7 +41,7 @@ pub(crate) fn lay<D: Disk>(
     shift: u32,
     passes: u16,
 ) -> Result<(Board<D>, Place<D>), (Durable<D>, NoMemory)>
-    requires { (durable.history ≡ []) × (durable.added ≡ []) × (durable.unsure ≡ None) }
+    requires { durable.history ≡ [] }
     ensures wide { IfOk result (λ laid. IsWide laid.0.shared.table_id) }
     ensures key { IfOk result (λ laid.
         opening_of laid.0.shared.key.durable.value laid.0.shared.key.shift laid.0.shared.key.passes
@@ -51,6 +51,7 @@ pub(crate) fn lay<D: Disk>(
     ensures seat { IfOk result (λ laid. laid.1.me ≡ (stock (opening_of durable shift passes) 1 passes, [])) }
     ensures back { IfErr result (λ back. back.0 ≡ durable) }
 {
+    let _history = durable.history();
     let key = Key {
         durable: Snapshot::of(&durable),
         shift,
@@ -116,7 +117,11 @@ fn gather_one<D: Disk>(top: &Top<D>, pass: Pass<D>, host: Place<D>) -> Place<D>
 }
 
 /// Takes in all passes, the last one first.
-pub(crate) fn gather<D: Disk>(top: &Top<D>, mut host: Place<D>, mut passes: List<Pass<D>>) -> Place<D>
+pub(crate) fn gather<D: Disk>(
+    top: &Top<D>,
+    mut host: Place<D>,
+    mut passes: List<Pass<D>>,
+) -> Place<D>
     requires table { (host.table_id ≡ top.now.table_id) × IsWide top.now.table_id }
     requires host { host.me ≡ (gathering host.me.0.opening (length passes + 1) [], []) }
     requires passes { AreNumbered (lock_of host) 1 passes }

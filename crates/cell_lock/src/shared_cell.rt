@@ -1,5 +1,5 @@
 //! The lock.
-ghost use Rattle.std.specs.Prelude.{◌≡◌, ℕ, ◌≤◌, None, [], length, IfOk, IfErr, All};
+ghost use Rattle.std.specs.Prelude.{◌≡◌, ℕ, ◌≤◌, [], length, IfOk, IfErr, All};
 ghost use mathlib.Core.List.{IsPrefix};
 ghost use Rattle.cell_base.specs.Fits.{RequestFits};
 ghost use Rattle.cell_base.specs.Histories.{IsLegal, after, entries_of, grants};
@@ -21,6 +21,7 @@ use std::marker::Model;
 use std::sync::Wait;
 
 /// A durable cell under a lock. Contracts see it as what names it and what it was opened with.
+#[derive(Drop)]
 pub struct SharedCell<D: Disk> {
     table: Board<D>,
     shift: u32,
@@ -35,8 +36,8 @@ impl<D: Disk> Model for SharedCell<D> {
     ghost Value = { LockId D };
 
     ghost view = { λ c. record {
-        table = c.table.shared.table_id;
-        opening = opening_of c.table.shared.key.durable.value c.table.shared.key.shift c.table.shared.key.passes;
+      table = c.table.shared.table_id;
+      opening = opening_of c.table.shared.key.durable.value c.table.shared.key.shift c.table.shared.key.passes;
     } };
 
     ghost invariant = { λ c. IsWide c.table.shared.table_id × (c.table.shared.key.shift ≡ c.shift) };
@@ -51,7 +52,7 @@ impl<D: Disk> SharedCell<D> {
         shift: u32,
         passes: u16,
     ) -> Result<(SharedCell<D>, List<Pass<D>>), (Durable<D>, NoMemory)>
-        requires new { (durable.history ≡ []) × (durable.added ≡ []) × (durable.unsure ≡ None) }
+        requires new { durable.history ≡ [] }
         ensures lock { IfOk result (λ opened. opened.0.opening ≡ opening_of durable shift passes) }
         ensures passes { IfOk result (λ opened. opened.1 ≡ new_passes opened.0 1 passes) }
         ensures back { IfErr result (λ back. back.0 ≡ durable) }
