@@ -8,7 +8,7 @@ use cell_base::{
     Cell, JobId, JobType, List, Name, Request, ResId, Resource, Step, TypeId, cell_fits,
     request_fits,
 };
-use durable_cell::{Durable, Finished, Opening};
+use durable_cell::{Durable, Opening};
 use outside_io::{Disk, MemDisk};
 use std::alloc::Global;
 use std::sync::Wait;
@@ -95,37 +95,57 @@ fn ask_often<R: Wait>(rt: &R, cell: &SharedCell<MemDisk>, mut pass: Pass<MemDisk
     pass
 }
 
-#[test]
-fn two_ask_at_once(rt: HostRuntime) -> Result<(), Fail> {
-    let alloc = rt.alloc();
+fn both_ask_often<R: Threads + Wait + Sync>(
+    rt: &R,
+    cell: &SharedCell<MemDisk>,
+    one: Pass<MemDisk>,
+    two: Pass<MemDisk>,
+) -> (Pass<MemDisk>, Pass<MemDisk>)
+    requires { (one.lock ≡ cell.now) × (two.lock ≡ cell.now) }
+    ensures { KeepsName one result.0 × KeepsName two result.1 }
+{
+    join(
+        rt,
+        move || ask_often(rt, cell, one),
+        move || ask_often(rt, cell, two),
+    )
+}
+
+fn history_of_two<R: Threads + Wait + Sync>(rt: &R, alloc: Global) -> Result<u64, Fail> {
     let disk = MemDisk::new(alloc, b"", List::new(alloc))?;
     let (cell, one, two) = lock(alloc, disk)?;
-    let shared = &cell;
-    let handle = &rt;
-    let (mut one, two) = join(
-        &rt,
-        move || ask_often(handle, shared, one),
-        move || ask_often(handle, shared, two),
-    );
-    assert_eq!(rt; cell.peek_plan_step(&rt, &mut one), None);
+    let (one, two) = both_ask_often(rt, &cell, one, two);
     let mut passes = List::new(alloc);
     passes.try_push(one)?;
     passes.try_push(two)?;
-    let durable = cell.close(passes);
-    assert_eq!(rt; durable.len(), 2000);
+    Ok(cell.close(passes).len())
+}
+
+#[test]
+fn two_ask_at_once(rt: HostRuntime) -> Result<(), Fail> {
+    assert_eq!(rt; history_of_two(&rt, rt.alloc())?, 2000);
     Ok(())
+}
+
+fn first_step<R: Wait>(rt: &R, alloc: Global, disk: MemDisk) -> Result<Option<Request>, Fail> {
+    let (cell, mut one, _) = lock(alloc, disk)?;
+    Ok(cell.peek_plan_step(rt, &mut one))
+}
+
+fn with_a_part(alloc: Global) -> Result<MemDisk, Fail> {
+    let mut durable = durable(alloc, MemDisk::new(alloc, b"", List::new(alloc))?)?;
+    if !request_fits(durable.core().cell(), &LOAD) || durable.ask(1, 1, &LOAD).is_err() {
+        return Err(Fail::from("loaded"));
+    }
+    Ok(durable.finish().disk)
 }
 
 #[test]
 fn a_part_is_brought_on(rt: HostRuntime) -> Result<(), Fail> {
     let alloc = rt.alloc();
-    let disk = MemDisk::new(alloc, b"", List::new(alloc))?;
-    let mut first = durable(alloc, disk)?;
-    assert!(rt; request_fits(first.core().cell(), &LOAD));
-    assert!(rt; first.ask(1, 1, &LOAD).is_ok());
-    let Finished { disk, .. } = first.finish();
-    let (cell, mut one, _) = lock(alloc, disk)?;
+    let blank = MemDisk::new(alloc, b"", List::new(alloc))?;
     let process = Request::Process { machine: ResId(0) };
-    assert_eq!(rt; cell.peek_plan_step(&rt, &mut one), Some(process));
+    assert_eq!(rt; first_step(&rt, alloc, blank)?, None);
+    assert_eq!(rt; first_step(&rt, alloc, with_a_part(alloc)?)?, Some(process));
     Ok(())
 }
