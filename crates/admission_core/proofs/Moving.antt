@@ -1,5 +1,5 @@
 -- What is known of the part of a job, and of the replies to what it asks for.
-use Rattle.std.proofs.Common.{◌≡◌, ℕ, ◌<◌, Bool, true, false, ◌&&◌, cond, List, [], ◌∷◌, ◌++◌, length, map, All, Contains, Option, Some, None, find, ap, refl, sym, ◌∙◌, subst, arith}
+use Rattle.std.proofs.Common.{◌≡◌, ℕ, ◌<◌, Bool, true, false, ◌&&◌, cond, List, [], ◌∷◌, length, Contains, Option, Some, None, find, ap, refl, sym, ◌∙◌, arith}
 use Rattle.std.specs.List.{list_any, range_with_len}
 use Rattle.std.specs.Option.{option_map, option_map_or}
 use Rattle.std.proofs.lemmas.Option.{none-some, same_Some}
@@ -9,7 +9,7 @@ use Rattle.cell_base.specs.declared.cells.ResId.{ResId}
 use Rattle.cell_base.specs.declared.requests.JobId.{JobId}
 use Rattle.cell_base.specs.declared.requests.Part.{Part}
 use Rattle.cell_base.specs.declared.requests.Refusal.TheVariants.{Saturated}
-use Rattle.cell_base.specs.declared.requests.Reply.TheVariants.{Granted, Refused}
+use Rattle.cell_base.specs.declared.requests.Reply.TheVariants.{Granted}
 use Rattle.cell_base.specs.Masks.{has_bit}
 use Rattle.cell_base.specs.Stages.{IsStage, stage_of, capacity_of}
 use Rattle.cell_base.specs.Neighborhoods.{count}
@@ -19,7 +19,6 @@ use Rattle.policy_laws.proofs.Lists.{find-Contains, find_passes, list_any-Contai
 use Rattle.policy_laws.proofs.Parts.{part_of-found}
 use Rattle.neighborhood_counts.specs.Counts.{Counted, first_full, is_full}
 use Rattle.part_table.specs.declared.standing.Standing.{Standing}
-use Rattle.part_table.specs.Parts.{is_waiting}
 use Rattle.admission_core.specs.Replies.{reply_at}
 
 -- a part that is found is of its job, stands in the state, and at a stage

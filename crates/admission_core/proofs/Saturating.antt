@@ -1,15 +1,14 @@
 -- The first full neighborhood of a mask is the first that would hold too many parts.
-use Rattle.std.proofs.Common.{◌≡◌, ℕ, ◌+◌, ◌^◌, ◌<◌, ◌≤◌, ap₂, refl, Bool, true, false, cond, ◌&&◌, nat_lt, nat_le, max, List, [], ◌∷◌, ◌++◌, length, All, Contains, Option, find, get_or, ap, sym, ◌∙◌, ⊎_elim, arith}
+use Rattle.std.proofs.Common.{◌≡◌, ℕ, ◌+◌, ◌<◌, ◌≤◌, ap₂, refl, Bool, true, false, cond, ◌&&◌, nat_lt, nat_le, max, List, [], ◌∷◌, ◌++◌, length, Contains, find, get_or, ap, sym, ◌∙◌, ⊎_elim, arith}
 use Rattle.std.specs.List.{range_with_len}
 use Rattle.std.specs.Int.{bit_at}
-use Rattle.std.proofs.lemmas.Bool.{cases_lt, lt-ltb, le-ltb, le-leb, lt-leb, eqb-true, eq-eqb, both_ways}
-use Rattle.std.proofs.lemmas.Nat.Bits.{bit_at-lt}
+use Rattle.std.proofs.lemmas.Bool.{cases_lt, lt-ltb, le-ltb, le-leb, lt-leb}
 use Rattle.cell_base.specs.declared.cells.Cell.{Cell}
 use Rattle.cell_base.specs.declared.requests.Part.{Part}
 use Rattle.cell_base.specs.Masks.{has_bit, bits_only_of}
 use Rattle.cell_base.specs.Stages.{Stage, stage_of, capacity_of}
-use Rattle.cell_base.specs.Neighborhoods.{leads, mask_of, count}
-use Rattle.cell_base.specs.Policy.{IsAdmitted, HaveDistinctJobs, first_over}
+use Rattle.cell_base.specs.Neighborhoods.{mask_of, count}
+use Rattle.cell_base.specs.Policy.{HaveDistinctJobs, first_over}
 use Rattle.cell_base.specs.Outcomes.{without}
 use Rattle.cell_base.specs.Fits.{CellFits}
 use Rattle.cell_base.proofs.Admission.{all_numbers}

@@ -1,15 +1,15 @@
 -- Parts with the resources on which they stand: what is found among them, and the one that is finished.
-use Rattle.std.proofs.Common.{◌≡◌, ◌≢◌, ℕ, ◌==◌, Bool, true, false, not, ◌&&◌, cond, List, [], ◌∷◌, ◌++◌, length, map, arith, All, Contains, Option, Some, None, find, ap, ap₂, refl, sym, ◌∙◌, subst}
+use Rattle.std.proofs.Common.{◌≡◌, ◌≢◌, ◌==◌, Bool, true, false, not, ◌&&◌, cond, List, [], ◌∷◌, ◌++◌, map, arith, All, Some, find, ap, ap₂, refl, sym, ◌∙◌, subst}
 use Rattle.std.specs.Option.{option_map}
 use Rattle.std.proofs.lemmas.Option.{none-some, same_Some}
 use Rattle.std.proofs.lemmas.List.{length-map, get_or-map, map-append}
-use Rattle.std.proofs.lemmas.List.Elements.{All-cons, All-head, All-tail, All-weaker, All-contains, All-push, All-filter, All-map}
+use Rattle.std.proofs.lemmas.List.Elements.{All-head, All-tail, All-weaker, All-contains, All-push, All-filter, All-map}
 use Rattle.cell_base.specs.declared.cells.Cell.{Cell}
 use Rattle.cell_base.specs.declared.cells.ResId.{ResId}
 use Rattle.cell_base.specs.declared.requests.JobId.{JobId}
 use Rattle.cell_base.specs.declared.requests.Part.{Part}
 use Rattle.cell_base.specs.Stages.{stage_of, resource_at}
-use Rattle.cell_base.specs.Policy.{is_of_job, HaveDistinctJobs}
+use Rattle.cell_base.specs.Policy.{HaveDistinctJobs}
 use Rattle.cell_base.specs.Outcomes.{is_waiting_on, finish_first}
 use Rattle.cell_base.specs.Plans.{place_of}
 use Rattle.policy_laws.proofs.Lists.{find_agree, find-Contains}

@@ -1,6 +1,5 @@
 -- The numbers that run along with the parts, after each change.
 use Rattle.std.proofs.Common.{◌≡◌, ℕ, ◌+◌, ◌*◌, ◌<◌, ◌≤◌, Bool, true, false, cond, List, [], ◌∷◌, ◌++◌, length, All, Contains, find, get_or, Some, ap, sym, ◌∙◌, arith}
-use Rattle.std.specs.List.{sum_by}
 use Rattle.std.specs.Int.{bit_at}
 use Rattle.std.proofs.lemmas.List.Elements.{All-weaker}
 use Rattle.std.proofs.lemmas.List.Sums.{sum_by_push, sum_by-le}
@@ -15,7 +14,7 @@ use Rattle.cell_base.specs.Plans.{work_of, work}
 use Rattle.cell_base.specs.Fits.{CellFits}
 use Rattle.policy_laws.proofs.Masks.{bit_at-mask_of}
 use Rattle.policy_laws.proofs.Parts.{sum_by-without, sum_by-finish_first}
-use Rattle.policy_laws.proofs.States.{share, count_push, count-without, count-finish_first}
+use Rattle.policy_laws.proofs.States.{count_push, count-without, count-finish_first}
 use Rattle.policy_laws.proofs.Work.{work_of-finished}
 use Rattle.policy_laws.proofs.Walks.{work_from-few}
 use Rattle.neighborhood_counts.specs.Counts.{Counted}

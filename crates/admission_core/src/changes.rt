@@ -65,8 +65,7 @@ fn finish_first_on(table: &LeadTable, tally: &mut Tally, machine: ResId)
     ensures tallied { IsTallied table.now tally.new }
 {
     let _cell = table.cell();
-    if let Some(job) = tally.parts.first_waiting(machine) {
-        tally.parts.finish(job);
+    if let Some(_) = tally.parts.finish_first(machine) {
         tally.work -= 1;
     }
 }

@@ -1,8 +1,4 @@
-mod BlockTexts
-mod Cuts
-mod Delivered
 mod Fitted
-mod Wording
 mod Owed
 mod Refusals
 mod Statuses

@@ -8,21 +8,21 @@ use Rattle.cell_file.specs.declared.faults.CellFault.{CellFault}
 use Rattle.cell_file.specs.Walk.{cell_of}
 use Rattle.shift_file.specs.declared.faults.ShiftFault.{ShiftFault}
 use Rattle.shift_file.specs.Walk.{shift_of}
-use Rattle.cell_program.specs.CellEnds.{cell_end}
-use Rattle.cell_program.specs.ShiftEnds.{shift_end}
-use Rattle.cell_program.specs.Commands.{Task, Nothing, Solo, Check, Show, Comes, AfterFile, OwesCheck, OwesShow, OwesSolo, FileFailed, FileRefused, FileRead, IsDone}
-use Rattle.cell_program.specs.RecordEnds.{record_end, record_read}
-use Rattle.cell_program.specs.Telling.{HoldsBadCell, HoldsBadRecord, HoldsBadShift, IsAnswered, TakesAll}
+use Rattle.cell_words.specs.CellEnds.{cell_end}
+use Rattle.cell_words.specs.ShiftEnds.{shift_end}
+use Rattle.cell_words.specs.Commands.{Task, Nothing, Solo, Check, Show, Comes, AfterFile, OwesCheck, OwesShow, OwesSolo, FileFailed, FileRefused, FileRead, IsDone}
+use Rattle.cell_words.specs.RecordEnds.{record_end, record_read}
+use Rattle.cell_words.specs.Telling.{HoldsBadCell, HoldsBadRecord, HoldsBadShift, IsAnswered, TakesAll}
 use Rattle.record_text.specs.BadLines.{IsRecordOf, RefusedAt}
 use Rattle.record_text.specs.declared.blocks.Block.{Block}
 use Rattle.record_text.specs.declared.record.RecordFault.TheVariants.{Bad, Memory as RecordMemory}
 use Rattle.shift_checker.specs.Judging.{judge}
-use Rattle.cell_program.specs.Ends.{IsOwed, MemoryWanted, Whole, SinkFailed, Ends}
-use Rattle.cell_program.specs.Reading.{GivenBy}
-use Rattle.cell_program.specs.Texts.{Outcome, early_outcome, verdict_outcome}
-use Rattle.cell_program.specs.Told.{Told, HoldsOf, IsMadeOfFile, TellsOf}
-use Rattle.cell_program.specs.declared.early.Early.{Early}
-use Rattle.cell_program.specs.declared.early.Early.TheVariants.{Memory}
+use Rattle.cell_words.specs.Ends.{IsOwed, MemoryWanted, Whole, SinkFailed, Ends}
+use Rattle.cell_words.specs.Reading.{GivenBy}
+use Rattle.cell_words.specs.Texts.{Outcome, early_outcome, verdict_outcome}
+use Rattle.cell_words.specs.Told.{Told, HoldsOf, IsMadeOfFile, TellsOf}
+use Rattle.cell_words.specs.declared.early.Early.{Early}
+use Rattle.cell_words.specs.declared.early.Early.TheVariants.{Memory}
 use Rattle.cell_program.proofs.Statuses.{status_of}
 
 -- what is held has one value

@@ -11,12 +11,12 @@ use Rattle.cell_file.specs.declared.faults.CellFault.{CellFault}
 use Rattle.cell_file.specs.declared.faults.CellFault.TheVariants.{NotToml, WrongKey, WrongKind, BadName, BadNumber, Repeated, UnknownName, TooMany, Empty, MixedOrders, TooManyUnits, Memory}
 use Rattle.shift_file.specs.declared.faults.ShiftFault.{ShiftFault}
 use Rattle.shift_file.specs.declared.faults.ShiftFault.TheVariants.{NotToml as ShiftNotToml, WrongKey as ShiftWrongKey, WrongKind as ShiftWrongKind, BadStep, BadNumber as ShiftBadNumber, UnknownName as ShiftUnknownName, Empty as ShiftEmpty, TooMany as ShiftTooMany, TooLong, TooManyAsks, Memory as ShiftMemory}
-use Rattle.cell_program.specs.CellEnds.{cell_end}
-use Rattle.cell_program.specs.ShiftEnds.{shift_end}
-use Rattle.cell_program.specs.Commands.{Task, Nothing, Solo, Check, Show, Comes, AreThere, AfterFile, OwesCheck, OwesShow, OwesSolo, FileFailed, FileRefused, FileRead, IsDone, files_of}
-use Rattle.cell_program.specs.Reading.{GivenBy}
-use Rattle.cell_program.specs.RecordEnds.{record_end, record_read}
-use Rattle.cell_program.specs.Telling.{IsAccepted, IsCellRefused, IsDenied, IsFinished, IsPrinted, IsSecondRefused, ReadsAll}
+use Rattle.cell_words.specs.CellEnds.{cell_end}
+use Rattle.cell_words.specs.ShiftEnds.{shift_end}
+use Rattle.cell_words.specs.Commands.{Task, Nothing, Solo, Check, Show, Comes, AreThere, AfterFile, OwesCheck, OwesShow, OwesSolo, FileFailed, FileRefused, FileRead, IsDone, files_of}
+use Rattle.cell_words.specs.Reading.{GivenBy}
+use Rattle.cell_words.specs.RecordEnds.{record_end, record_read}
+use Rattle.cell_words.specs.Telling.{IsAccepted, IsCellRefused, IsDenied, IsFinished, IsPrinted, IsSecondRefused, ReadsAll}
 use Rattle.record_text.specs.BadLines.{IsRecordOf}
 use Rattle.record_text.specs.declared.blocks.Block.{Block}
 use Rattle.record_text.specs.declared.record.RecordFault.TheVariants.{Bad, Memory as RecordMemory}
@@ -24,9 +24,9 @@ use Rattle.refusal_reason.specs.Shown.{show_lines}
 use Rattle.shift_checker.specs.Judging.{judge}
 use Rattle.shift_checker.specs.declared.verdict.Verdict.{Verdict}
 use Rattle.shift_checker.specs.declared.verdict.Verdict.TheVariants.{Yes, No}
-use Rattle.cell_program.specs.Ends.{IsOwed, MemoryWanted, Whole, SinkFailed, Ends, PutsLines}
-use Rattle.cell_program.specs.Texts.{Outcome, done, early_outcome, verdict_outcome}
-use Rattle.cell_program.specs.Told.{Told, HoldsOf, IsMadeOfFile}
+use Rattle.cell_words.specs.Ends.{IsOwed, MemoryWanted, Whole, SinkFailed, Ends, PutsLines}
+use Rattle.cell_words.specs.Texts.{Outcome, done, early_outcome, verdict_outcome}
+use Rattle.cell_words.specs.Told.{Told, HoldsOf, IsMadeOfFile}
 
 -- what each status of an outcome tells
 record Tells (told : Told) (task : Task) (outcome : Outcome) : Type 0 where

@@ -1,13 +1,2 @@
-pub mod Blocks
-pub mod CellEnds
-pub mod Commands
-pub mod Ends
 pub mod OutSink
-pub mod Reading
-pub mod RecordEnds
 pub mod Runs
-pub mod ShiftEnds
-pub mod Telling
-pub mod Texts
-pub mod Told
-pub mod Words

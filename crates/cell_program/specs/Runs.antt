@@ -1,20 +1,16 @@
 -- A shift that ran on one thread, and the lines of its record.
-use Rattle.std.specs.Prelude.{◌≡◌, ℕ, List, [], length}
-use Rattle.std.specs.List.{concat}
+use Rattle.std.specs.Prelude.{◌≡◌, ℕ, List, []}
 use Rattle.cell_base.specs.declared.cells.Cell.{Cell}
 use Rattle.cell_base.specs.declared.shifts.Entry.{Entry}
 use Rattle.cell_base.specs.declared.shifts.Shift.{Shift}
 use Rattle.cell_base.specs.Histories.{after}
-use Rattle.cell_base.specs.Plans.{Drains, plan_of}
 use Rattle.cell_base.specs.Rounds.{IsRoundRobin}
-use Rattle.record_text.specs.Records.{text_of_record}
-use Rattle.cell_program.specs.Blocks.{planned_block}
+use Rattle.cell_words.specs.Blocks.{block_of}
 use Rattle.cell_program.specs.declared.solo.SoloRun.{SoloRun}
 
 -- the lines that a run prints: its history behind no grants, and the plan that empties the cell
 abbrev pub lines_of_run : SoloRun → List (List ℕ)
-lines_of_run run =
-    planned_block run.core.cell run.number 0 run.history.items (length run.core.parts) (plan_of run.core.cell run.core.parts)
+lines_of_run run = block_of run.core run.number 0 run.history.items
 
 -- a run of a shift on the empty cell
 pub record IsSoloRun (cell : Cell) (shift : Shift) (run : SoloRun) : Type 0 where
@@ -22,13 +18,3 @@ pub record IsSoloRun (cell : Cell) (shift : Shift) (run : SoloRun) : Type 0 wher
   pub numbered : run.number ≡ shift.number
   pub rounds : IsRoundRobin cell [] shift run.history.items
   pub left : run.core.parts ≡ after cell [] run.history.items
-
--- The record of a shift that runs on the empty cell: the history of its sessions in rounds, and the plan of the state
--- behind it, which drains that state. Its lines one behind the other are the text of that record.
-pub record IsSoloRecord (cell : Cell) (shift : Shift) (lines : List (List ℕ)) : Type 0 where
-  pub history : List Entry
-  pub rounds : IsRoundRobin cell [] shift history
-  pub drains : let behind = after cell [] history in Drains cell behind (plan_of cell behind)
-  pub printed : let behind = after cell [] history in
-      lines ≡ planned_block cell shift.number 0 history (length behind) (plan_of cell behind)
-  pub text : concat lines ≡ text_of_record cell [] shift.number 0 history (plan_of cell (after cell [] history))

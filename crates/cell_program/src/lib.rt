@@ -14,17 +14,9 @@
 #![tactic(auto)]
 
 mod dir_files;
-mod early;
-mod findings;
-mod judging;
-mod lines;
 mod out_sink;
-mod printing;
-mod reading;
-mod showing;
 mod solo;
 mod top;
-mod words;
 
 pub use dir_files::DirFiles;
 pub use out_sink::OutSink;

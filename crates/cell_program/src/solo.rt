@@ -7,21 +7,16 @@ ghost use Rattle.outside_io.specs.Puts.{TookAll, TookSome, sink_told};
 ghost use Rattle.cell_base.specs.declared.limits.TheConstants.{MAX_STEPS, MAX_ASKS};
 ghost use Rattle.cell_base.specs.Fits.{CellFits, ShiftFits, steps_of};
 ghost use Rattle.record_text.specs.Fitting.{EntryFits};
-ghost use Rattle.cell_program.specs.Commands.{OwesSolo};
-ghost use Rattle.cell_program.specs.Ends.{MayCome};
+ghost use Rattle.cell_words.specs.Commands.{MayComeOf, OwesSolo};
 ghost use Rattle.cell_program.specs.Runs.{IsSoloRun, lines_of_run};
-ghost use Rattle.cell_program.specs.Texts.{done, early_outcome};
-ghost use Rattle.cell_program.specs.declared.early.Early.TheVariants.{ReadFault};
+ghost use Rattle.cell_words.specs.Texts.{done, early_outcome};
+ghost use Rattle.cell_words.specs.declared.early.Early.TheVariants.{ReadFault};
 
-use crate::early::Early;
-use crate::printing::{print_history, print_line, print_plan};
-use crate::reading::{read_cell_file, read_shift_file};
 use admission_core::Core;
 use cell_base::{Cell, Entry, NoMemory, Shelf, Shift};
 use cell_sessions::solo;
-use drain_planner::Drainer;
+use cell_words::{Early, print_block, read_cell_file, read_shift_file};
 use outside_io::{Failed, Files, Sink};
-use record_text::left_line;
 use std::alloc::Global;
 
 /// A shift that ran: the core behind it, its number and its history.
@@ -70,7 +65,7 @@ pub fn run_of_files<F: Files>(
         OwesSolo (F.holds files.old) (F.faults files.old) (F.faults files.new) cell.now shift.now
         (done (lines_of_run run))) }
     ensures fits { IfOk result (λ run. All (EntryFits run.core.cell) run.history.items) }
-    ensures early { IfErr result (λ early. MayCome
+    ensures early { IfErr result (λ early. MayComeOf
         (OwesSolo (F.holds files.old) (F.faults files.old) (F.faults files.new) cell.now shift.now)
         (early_outcome early)) }
     ensures sound { F.is_sound files.old → IsThere (F.holds files.old) cell.now
@@ -93,11 +88,5 @@ pub fn print_run<K: Sink>(out: &mut K, run: SoloRun) -> Result<(), Failed>
         number,
         history,
     } = run;
-    if let Err(failed) = print_history(out, core.cell(), number, 0, history.as_slice()) {
-        return Err(failed);
-    }
-    if let Err(failed) = print_line(out, &left_line(core.parts_left())) {
-        return Err(failed);
-    }
-    print_plan(out, &mut Drainer::new(core))
+    print_block(out, core, number, 0, history.as_slice())
 }

@@ -4,23 +4,18 @@ ghost use Rattle.std.specs.String.{string_bytes};
 ghost use Rattle.outside_io.specs.Causes.{Rose};
 ghost use Rattle.outside_io.specs.Files.{IsThere};
 ghost use Rattle.outside_io.specs.Puts.{sink_told};
-ghost use Rattle.cell_program.specs.Commands.{Comes, Nothing, Check, Show, Solo, AreThere, files_of, task_of};
-ghost use Rattle.cell_program.specs.Telling.{HoldsBadCell, HoldsBadRecord, HoldsBadShift, IsAccepted, IsAnswered, IsCellRefused, IsDenied, IsFinished, IsPrinted, IsSecondRefused, ReadsAll, TakesAll};
-ghost use Rattle.cell_program.specs.CellEnds.{cell_end};
-ghost use Rattle.cell_program.specs.ShiftEnds.{shift_end};
+ghost use Rattle.cell_words.specs.Commands.{Comes, Nothing, Check, Show, Solo, AreThere, files_of, task_of};
+ghost use Rattle.cell_words.specs.Telling.{HoldsBadCell, HoldsBadRecord, HoldsBadShift, IsAccepted, IsAnswered, IsCellRefused, IsDenied, IsFinished, IsPrinted, IsSecondRefused, ReadsAll, TakesAll};
+ghost use Rattle.cell_words.specs.CellEnds.{cell_end};
+ghost use Rattle.cell_words.specs.ShiftEnds.{shift_end};
 ghost use Rattle.cell_file.specs.declared.faults.CellFault.{CellFault};
 ghost use Rattle.shift_file.specs.declared.faults.ShiftFault.{ShiftFault};
-ghost use Rattle.cell_program.specs.Ends.{Ends, IsDelivered, PutsLines};
-ghost use Rattle.cell_program.specs.Texts.{Outcome};
-ghost use Rattle.cell_program.specs.Told.{told_by};
+ghost use Rattle.cell_words.specs.Ends.{Ends, IsDelivered, PutsLines};
+ghost use Rattle.cell_words.specs.Texts.{Outcome};
+ghost use Rattle.cell_words.specs.Told.{told_by};
 
-use crate::early::Early;
-use crate::judging::{verdict_of_files, verdict_status};
-use crate::lines::{usage_line, verdict_line};
-use crate::printing::{print_line, print_text};
-use crate::showing::shown_of_files;
 use crate::solo::{print_run, run_of_files};
-use crate::words::{Command, command_of};
+use cell_words::{Command, Early, command_of, print_line, print_text, shown_of_files, usage_line, verdict_line, verdict_of_files, verdict_status};
 use outside_io::{Disk, Files, Pace, Sink};
 use record_text::Line;
 use std::alloc::Global;
@@ -45,62 +40,16 @@ pub fn cell_main<R: Threads + Wait + Sync, F: Files, K: Sink, D: Disk + Send, P:
     disk: D,
     _pace: &P,
 ) -> Ended<D>
-    // Some outcome may come of the words, and is what the sink was given, with its status.
-    ensures ends { let told = told_by F.holds F.faults K.taken K.was_put K.faults files.old files.new out.old out.new in
-        Ends (Comes told (task_of (map string_bytes words.now))) told result.status }
+    // By name, in `Promises`: what each status tells, what is refused where nothing outside fails, and what is done to the disk.
+    ensures promises { let disk = disk_told D.reads_as D.may_leave D.moment D.left_since D.faults disk result.disk in
+        let sink = sink_told K.taken K.was_put K.faults out.old out.new in
+        Promises (told_by F.holds F.faults files.old files.new sink disk) (F.is_sound files.old)
+        (task_of (map string_bytes words.now)) result.status }
 
-    // Every line of the output is one put, in its turn.
-    ensures lines { let told = told_by F.holds F.faults K.taken K.was_put K.faults files.old files.new out.old out.new in
-        PutsLines (Comes told (task_of (map string_bytes words.now))) told.sink result.status }
-
-    // Status 0: the files stand for what the command needs, and its answer was taken: the record of a shift, with the one
-    // history in rounds and the plan that drains the state behind it; or `yes` for a record that is right; or the
-    // neighborhoods of a cell. Status 1: the record is not right, and the line that fails was taken, with why.
-    ensures done { let told = told_by F.holds F.faults K.taken K.was_put K.faults files.old files.new out.old out.new in
-        result.status ≡ 0 → IsPrinted told (task_of (map string_bytes words.now)) }
-    ensures denied { let told = told_by F.holds F.faults K.taken K.was_put K.faults files.old files.new out.old out.new in
-        result.status ≡ 1 → IsDenied told (task_of (map string_bytes words.now)) }
-
-    // Status 2 exactly where the words are no built command, unless the sink fails.
-    ensures no_command { result.status ≡ 2 → task_of (map string_bytes words.now) ≡ Nothing }
-    ensures usage { task_of (map string_bytes words.now) ≡ Nothing → (result.status ≡ 2) ⊎ (result.status ≡ 8) }
-
-    ensures read_fault { result.status ≡ 3 → Rose (F.faults files.old) (F.faults files.new) }
-    ensures cell_refused { let told = told_by F.holds F.faults K.taken K.was_put K.faults files.old files.new out.old out.new in
-        result.status ≡ 4 → IsCellRefused told (task_of (map string_bytes words.now)) }
-    ensures second_refused { let told = told_by F.holds F.faults K.taken K.was_put K.faults files.old files.new out.old out.new in
-        result.status ≡ 5 → IsSecondRefused told (task_of (map string_bytes words.now)) }
-    ensures sink_fault { result.status ≡ 8 → Rose (K.faults out.old) (K.faults out.new) }
-
-    // Sound files that hold what the command names give no read fault.
-    ensures sound { F.is_sound files.old
-        → AreThere (F.holds files.old) (files_of (task_of (map string_bytes words.now)))
-        → result.status ≡ 3 → ⊥ }
-
-    // Where nothing outside fails, what the files hold decides: a refused cell is answered by its fault, and so are a
-    // refused shift and a refused record, for a cell that isn't; else it is done. Memory may be wanting in the place of each.
-    ensures refuses_cell { let told = told_by F.holds F.faults K.taken K.was_put K.faults files.old files.new out.old out.new in
-        let task = task_of (map string_bytes words.now) in
-        (fault : CellFault) → HoldsBadCell told task fault → ReadsAll told (F.is_sound files.old) task → TakesAll told
-        → IsAnswered told (cell_end fault) result.status }
-    ensures refuses_shift { let told = told_by F.holds F.faults K.taken K.was_put K.faults files.old files.new out.old out.new in
-        let task = task_of (map string_bytes words.now) in
-        (fault : ShiftFault) → HoldsBadShift told task fault → ReadsAll told (F.is_sound files.old) task → TakesAll told
-        → IsAnswered told (shift_end fault) result.status }
-    ensures refuses_record { let told = told_by F.holds F.faults K.taken K.was_put K.faults files.old files.new out.old out.new in
-        let task = task_of (map string_bytes words.now) in
-        HoldsBadRecord told task → ReadsAll told (F.is_sound files.old) task → TakesAll told
-        → (result.status ≡ 5) ⊎ (result.status ≡ 9) }
-    ensures complete { let told = told_by F.holds F.faults K.taken K.was_put K.faults files.old files.new out.old out.new in
-        let task = task_of (map string_bytes words.now) in
-        IsAccepted told task → ReadsAll told (F.is_sound files.old) task → TakesAll told
-        → IsFinished task result.status ⊎ (result.status ≡ 9) }
-
-    // No command so far touches the disk.
-    ensures disk { result.disk ≡ disk }
+    // A command without a journal hands the disk back as it was.
+    ensures untouched { HasNoJournal (task_of (map string_bytes words.now)) → result.disk ≡ disk }
 {
-    let status = run_command(alloc, words, files, out);
-    Ended { status, disk }
+    run_command(alloc, words, files, out, disk)
 }
 
 // Finds the command and runs it.

@@ -48,7 +48,7 @@ impl Drainer {
         ensures cell { self.new.cell ≡ self.old.cell }
     {
         let step = self.core.plan_step()?;
-        self.core.ask(&step);
+        self.core.apply(&step);
         Some(step)
     }
 

@@ -5,16 +5,18 @@ use Rattle.std.proofs.Common.{◌≡◌, ◌⊎◌, inl, inr, ℕ, ◌+◌, ◌-
 use Rattle.std.proofs.lemmas.List.{map-append, length_push}
 use Rattle.std.proofs.lemmas.List.Elements.{filter-append}
 use Rattle.atomic_table.specs.declared.badge.Badge.{Badge}
-use Rattle.cell_base.specs.declared.cells.Cell.{Cell}
 use Rattle.cell_base.specs.declared.requests.Part.{Part}
 use Rattle.cell_base.specs.declared.shifts.Entry.{Entry}
 use Rattle.cell_base.specs.declared.shifts.Grant.{Grant}
+use Rattle.cell_base.specs.declared.requests.Reply.TheVariants.{Granted}
+use Rattle.cell_base.specs.declared.requests.Request.{Request}
+use Rattle.cell_base.specs.Outcomes.{reply_to}
 use Rattle.cell_base.specs.Histories.{was_granted, state_after_entry, IsToldRightly, granted_entries, grants}
 use Rattle.admission_core.specs.CoreState.{CoreState}
 use Rattle.move_journal.specs.Kept.{JournalState}
 use Rattle.move_journal.specs.declared.journal.AppendFault.{AppendFault}
 use Rattle.move_journal.specs.declared.journal.AppendFault.TheVariants.{Halted, Device}
-use Rattle.durable_cell.specs.Asked.{is_halt, halted_at, halted_in, grant_of, unsure_grant, with_entry}
+use Rattle.durable_cell.specs.Asked.{is_halt, halted_at, halted_in, grant_of, unsure_grant, with_entry, GoesOn}
 use Rattle.durable_cell.specs.DurableState.{DurableState, first_parts, parts, kept_disk, seen}
 use Rattle.durable_cell.specs.Kept.{KeepsHistory, KeepsParts, asked_by, asked_in}
 use Rattle.durable_cell.proofs.Halts.{after-push, legal-push, halted_in-push, halted_at-none, halted_at-last, halted_has_entry, beside_none, beside_some}
@@ -29,7 +31,8 @@ grants_of_one shift entry = by_test (was_granted entry.told)
     by_test false = refl
 
 -- and so does its halt
-unsure_of_one : (shift : ℕ) (entry : Entry) → option_map asked_by (unsure_grant shift (entry ∷ [])) ≡ option_map asked_in (halted_in (entry ∷ []))
+unsure_of_one : (shift : ℕ) (entry : Entry) → option_map asked_by (unsure_grant shift (entry ∷ []))
+    ≡ option_map asked_in (halted_in (entry ∷ []))
 unsure_of_one shift entry = by_test (is_halt entry)
   where
     by_test : (halt : Bool) → option_map asked_by (option_map (grant_of shift) (cond halt (Some entry) None))
@@ -41,7 +44,8 @@ pub keeps_history : {D : Type 0} (durable : DurableState D) (shift : ℕ) (entry
     → length durable.history < durable.limit → IsToldRightly durable.cell (parts durable) entry.request entry.told []
     → KeepsHistory (with_entry durable shift entry)
 keeps_history durable shift entry keeps none room right =
-    let no_halt : halted_in durable.history ≡ None = beside_none asked_by asked_in durable.unsure (halted_in durable.history) keeps.unsure none in
+    let no_halt : halted_in durable.history ≡ None = beside_none asked_by asked_in durable.unsure
+    (halted_in durable.history) keeps.unsure none in
     record {
       fits = keeps.fits;
       due = keeps.due;
@@ -81,25 +85,27 @@ pub kept_is : {D : Type 0} (badge : Badge D) (disk other : D) → badge.views �
 kept_is badge disk other is = ap (λ (views : List _). slice_index_or views 0 other) is
 
 pub seen_more : {D : Type 0} (badge : Badge D) (disk : D) (core new_core : CoreState) (text : List ℕ) (journal new_journal : JournalState D)
-    (opening : List Grant) (history new_history : List Entry) (added new_added : List Grant) (unsure new_unsure : Option Grant) (limit shift : ℕ)
+    (opening : List Grant) (history new_history : List Entry) (added new_added : List Grant) (unsure new_unsure : Option Grant)
+    (limit shift : ℕ)
     (entry : Entry) → badge.views ≡ disk ∷ [] → new_core.cell ≡ core.cell → new_history ≡ history ++ entry ∷ []
     → new_added ≡ added ++ grants shift (entry ∷ []) → new_unsure ≡ unsure_grant shift (entry ∷ [])
     → seen badge new_core text new_journal opening new_history new_added new_unsure limit
     ≡ with_entry (seen badge core text journal opening history added unsure limit) shift entry
-seen_more badge disk core new_core text journal new_journal opening history new_history added new_added unsure new_unsure limit shift entry first
+seen_more badge disk core new_core text journal new_journal opening history new_history added new_added unsure new_unsure limit shift
+    entry first
     cell_is history_is added_is unsure_is = λ i. record {
-  cell = cell_is i;
-  text = text;
-  entry = (kept_is badge disk new_journal.disk first ∙ sym (kept_is badge disk journal.disk first)) i;
-  opening = opening;
-  history = history_is i;
-  added = added_is i;
-  unsure = unsure_is i;
-  limit = limit;
-}
+      cell = cell_is i;
+      text = text;
+      entry = (kept_is badge disk new_journal.disk first ∙ sym (kept_is badge disk journal.disk first)) i;
+      opening = opening;
+      history = history_is i;
+      added = added_is i;
+      unsure = unsure_is i;
+      limit = limit;
+    }
 
 -- where the history holds no halt no writing has failed
-pub none_unsure : {D : Type 0} (durable : DurableState D) → KeepsHistory durable → halted_at durable.history ≡ None → durable.unsure ≡ None
+none_unsure : {D : Type 0} (durable : DurableState D) → KeepsHistory durable → halted_at durable.history ≡ None → durable.unsure ≡ None
 none_unsure durable keeps no_halt = by_case (beside_some asked_by asked_in durable.unsure (halted_in durable.history) keeps.unsure)
   where
     by_case : (durable.unsure ≡ None) ⊎ ((y : Entry) × (halted_in durable.history ≡ Some y)) → durable.unsure ≡ None
@@ -108,6 +114,21 @@ none_unsure durable keeps no_halt = by_case (beside_some asked_by asked_in durab
         let last = halted_at-last durable.cell (first_parts durable) durable.history halt.0 (length durable.history - 1)
         (halted_has_entry durable.history halt.0 halt.1) keeps.legal halt.1 in
         absurd (cc)
+
+-- no writing has failed, there is room, and the request is granted
+pub record GrantsNext {D : Type 0} (durable : DurableState D) (request : Request) : Type 0 where
+  pub none : durable.unsure ≡ None
+  pub room : length durable.history < durable.limit
+  pub right : reply_to durable.cell (parts durable) request ≡ Granted
+
+-- what a caller knows of the cell that he sees
+pub goes_before : {D : Type 0} (durable now : DurableState D) (request : Request) → KeepsHistory durable → durable ≡ now → GoesOn now
+    → reply_to now.cell (parts now) request ≡ Granted → GrantsNext durable request
+goes_before durable now request keeps same goes granted = record {
+  none = none_unsure durable keeps (subst (λ (d : DurableState _). halted_at d.history ≡ None) (sym same) goes.no_halt);
+  room = subst (λ (d : DurableState _). length d.history < d.limit) (sym same) goes.has_room;
+  right = subst (λ (d : DurableState _). reply_to d.cell (parts d) request ≡ Granted) (sym same) granted;
+}
 
 abbrev err : AppendFault → Result (Unit {0}) AppendFault
 err fault = Err fault

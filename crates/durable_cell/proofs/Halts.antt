@@ -2,7 +2,7 @@
 use Rattle.std.specs.Prelude.{Option, Some, None, Bool, true, false, cond}
 use Rattle.std.specs.List.{position_from}
 use Rattle.std.specs.Option.{option_map}
-use Rattle.std.proofs.Common.{◌≡◌, ◌⊎◌, inl, inr, ℕ, ◌+◌, ◌-◌, List, [], ◌∷◌, ◌++◌, length, refl, sym, ◌∙◌, ap, arith}
+use Rattle.std.proofs.Common.{◌≡◌, ◌⊎◌, inl, inr, ℕ, ◌+◌, ◌-◌, List, [], ◌∷◌, ◌++◌, length, refl, ◌∙◌, ap, arith}
 use Rattle.std.proofs.lemmas.Iterator.Adapters.{position_from-zero}
 use Rattle.cell_base.specs.declared.cells.Cell.{Cell}
 use Rattle.cell_base.specs.declared.requests.Part.{Part}
@@ -26,7 +26,8 @@ no_halt first entries is = by_test (is_halt first) (halted_in entries) is
     by_test true later is = absurd (cc)
     by_test false later is = (refl, is)
 
-pub halted_in-push : (entries : List Entry) (entry : Entry) → halted_in entries ≡ None → halted_in (entries ++ entry ∷ []) ≡ halted_in (entry ∷ [])
+pub halted_in-push : (entries : List Entry) (entry : Entry) → halted_in entries ≡ None → halted_in (entries ++ entry ∷ [])
+    ≡ halted_in (entry ∷ [])
 halted_in-push [] entry none = refl
 halted_in-push (first ∷ entries) entry none =
     let both = no_halt first entries none in
@@ -62,7 +63,8 @@ halts_last : (cell : Cell) (parts : List Part) (at last : ℕ) (entries : List E
     → IsLegal cell parts entries → halted_in entries ≡ Some entry → position_from is_halt at entries ≡ Some last
 halts_last cell parts at last [] entry len legal is = absurd (cc)
 halts_last cell parts at last (first ∷ entries) entry len legal is = by_told first.told legal.0 is
-    (λ found. halts_last cell (state_after_entry cell parts first.request first.told) (at + 1) last entries entry (omega (arith, len)) legal.1 found)
+    (λ found. halts_last cell (state_after_entry cell parts first.request first.told) (at + 1) last entries entry (omega
+    (arith, len)) legal.1 found)
   where
     by_told : (told : Told) → IsToldRightly cell parts first.request told entries
         → cond (was_halted told) (Some first) (halted_in entries) ≡ Some entry
@@ -87,7 +89,8 @@ halted_has_entry [] entry is = absurd (cc)
 halted_has_entry (first ∷ entries) entry is = omega arith
 
 -- an option that stands beside another
-pub beside_none : {A B C : Type 0} (f : A → C) (g : B → C) (a : Option A) (b : Option B) → option_map f a ≡ option_map g b → a ≡ None → b ≡ None
+pub beside_none : {A B C : Type 0} (f : A → C) (g : B → C) (a : Option A) (b : Option B) → option_map f a ≡ option_map g b → a
+    ≡ None → b ≡ None
 beside_none f g a None same none = refl
 beside_none f g None (Some y) same none = absurd (cc)
 beside_none f g (Some x) (Some y) same none = absurd (cc)

@@ -1,7 +1,7 @@
 -- A disk on which one grant more was written, or whose writing failed.
 use Rattle.std.specs.Prelude.{Option, Some, None, IfSome, MatchOption}
 use Rattle.std.specs.Option.{option_to_list}
-use Rattle.std.proofs.Common.{◌≡◌, ◌⊎◌, inl, inr, ⊎_elim, ℕ, zero, suc, ◌+◌, ◌≤◌, List, [], ◌∷◌, ◌++◌, length, take, refl, sym, ◌∙◌, ap, subst, arith, append_assoc}
+use Rattle.std.proofs.Common.{◌≡◌, ◌⊎◌, inl, inr, ⊎_elim, ℕ, zero, suc, ◌≤◌, List, [], ◌∷◌, ◌++◌, length, take, refl, sym, ◌∙◌, ap, subst, arith, append_assoc}
 use Rattle.std.proofs.lemmas.List.{append-nil, take_all, take_at, take-append-le}
 use Rattle.cell_base.specs.declared.shifts.Entry.{Entry}
 use Rattle.cell_base.specs.declared.shifts.Grant.{Grant}
@@ -31,6 +31,7 @@ takes_short added grant n = by_order (le_or n (length added))
     le_or zero b = inl (omega arith)
     le_or (suc a) zero = inr (omega arith)
     le_or (suc a) (suc b) = ⊎_elim (λ le. inl (omega (arith, le))) (λ le. inr (omega (arith, le))) (le_or a b)
+
     by_order : (n ≤ length added) ⊎ (length added ≤ n) → (k : ℕ) × (take k (added ++ grant ∷ []) ≡ take n added)
     by_order (inl le) = (n, take-append-le n added (grant ∷ []) le)
     by_order (inr le) = (length added, take_at added (grant ∷ []) (length added) refl ∙ sym (take_all n added le))
@@ -43,12 +44,18 @@ first_of_more text opening added grant file stands =
 
 either_first : (text : List ℕ) (opening added : List Grant) (grant : Grant) (file : List ℕ)
     → IsBeforeOrAfter text (opening ++ added) grant file → StandsForFirst text opening (added ++ grant ∷ []) file
-either_first text opening added grant file (inl before) =
-    (length added, subst (λ (gs : List Grant). StandsFor file text (opening ++ gs)) (sym (take_at added (grant ∷ []) (length added) refl)) before)
+either_first text opening added grant file (inl before) = (
+  length added,
+  subst (λ (gs : List Grant). StandsFor file text (opening ++ gs)) (sym (take_at added (grant ∷ [])
+      (length added) refl)) before,
+)
 either_first text opening added grant file (inr after) =
-    let all = added ++ grant ∷ [] in
-    (length all, subst (λ (gs : List Grant). StandsFor file text gs)
-    (append_assoc opening added (grant ∷ []) ∙ ap (λ (gs : List Grant). opening ++ gs) (sym (take_all (length all) all (omega arith)))) after)
+    let all = added ++ grant ∷ [] in (
+      length all,
+      subst (λ (gs : List Grant). StandsFor file text gs)
+          (append_assoc opening added (grant ∷ []) ∙ ap (λ (gs : List Grant). opening ++ gs) (sym (take_all (length all) all
+          (omega arith)))) after,
+    )
 
 module _ {D : Type 0} (reads_as : D → Option (List ℕ)) (may_leave : D → List ℕ → Type 0) (moment : D → ℕ)
     (left_since : D → ℕ → List ℕ → Type 0) (faults : D → ℕ) where
@@ -68,11 +75,12 @@ module _ {D : Type 0} (reads_as : D → Option (List ℕ)) (may_leave : D → Li
       let P : List ℕ → Type 0 = λ file. may_leave entry file ⊎ StandsForFirst text opening (added ++ grant ∷ []) file in
       let wider : (file : List ℕ) → may_leave entry file ⊎ StandsForFirst text opening since file → P file =
       λ file. ⊎_elim (λ was. inl was) (λ stands. inr (first_of_more text opening added grant file
-          (subst (λ (gs : List Grant). StandsForFirst text opening gs file) is_since stands))) in
-      subst (λ (gs : List Grant). LeavesOnly moment left_since entry new (λ file. may_leave entry file ⊎ StandsForFirst text opening gs file))
+      (subst (λ (gs : List Grant). StandsForFirst text opening gs file) is_since stands))) in
+      subst (λ (gs : List Grant). LeavesOnly moment left_since entry new (λ file. may_leave entry file
+      ⊎ StandsForFirst text opening gs file))
       (sym is_longer)
       (followed moment left_since entry disk new P (widened moment left_since entry disk _ P before wider)
-          (widened moment left_since disk new _ P after (λ file stands. inr (either_first text opening added grant file stands))))
+      (widened moment left_since disk new _ P after (λ file stands. inr (either_first text opening added grant file stands))))
 
   -- a refused request leaves the disk
   pub disk_stays : (durable : DurableState D) (disk : D) (history : List Entry) (added : List Grant) (unsure : Option Grant)
@@ -80,7 +88,7 @@ module _ {D : Type 0} (reads_as : D → Option (List ℕ)) (may_leave : D → Li
       → KeepsDisk reads_as may_leave moment left_since faults (record durable { history = history; added = added; unsure = unsure }) disk
   disk_stays durable disk history added unsure added_is unsure_is keeps =
       subst (λ (p : List Grant × Option Grant). KeepsDisk reads_as may_leave moment left_since faults
-          (record durable { history = history; added = p.0; unsure = p.1 }) disk)
+      (record durable { history = history; added = p.0; unsure = p.1 }) disk)
       (λ i. (sym added_is i, sym unsure_is i))
       (record { tells = keeps.tells; count = keeps.count; stands = keeps.stands; any_moment = keeps.any_moment })
 
@@ -97,10 +105,10 @@ module _ {D : Type 0} (reads_as : D → Option (List ℕ)) (may_leave : D → Li
       → longer ≡ durable.added ++ grant ∷ [] → KeepsDisk reads_as may_leave moment left_since faults durable disk
       → Appends disk new durable.text grant
       → IfSome (reads_as new) (λ _. LeavesOnly moment left_since durable.entry new
-          (λ file. may_leave durable.entry file ⊎ StandsForFirst durable.text durable.opening longer file))
+      (λ file. may_leave durable.entry file ⊎ StandsForFirst durable.text durable.opening longer file))
   appended_moments durable disk new longer grant none is_longer keeps appends =
       where_told (reads_as new) (λ _. LeavesOnly moment left_since durable.entry new
-          (λ file. may_leave durable.entry file ⊎ StandsForFirst durable.text durable.opening longer file)) (λ now is_now.
+      (λ file. may_leave durable.entry file ⊎ StandsForFirst durable.text durable.opening longer file)) (λ now is_now.
       let old = turned_back _ _ _ now is_now appends.tells in
       let stands = stands_for_added durable old.0 none (told _ _ old.0 old.1 keeps.stands).0 in
       moments_more durable.entry disk new durable.text durable.opening durable.added (grants_since durable) longer grant
@@ -112,12 +120,13 @@ module _ {D : Type 0} (reads_as : D → Option (List ℕ)) (may_leave : D → Li
       → KeepsDisk reads_as may_leave moment left_since faults durable disk → Appends disk new durable.text grant
       → faults new ≡ faults disk
       → ((file : List ℕ) (grants : List Grant) → reads_as disk ≡ Some file → StandsFor file durable.text grants
-          → Shows reads_as may_leave new (λ after. StandsFor after durable.text (grants ++ grant ∷ [])))
+      → Shows reads_as may_leave new (λ after. StandsFor after durable.text (grants ++ grant ∷ [])))
       → KeepsDisk reads_as may_leave moment left_since faults
-          (record durable { history = history; added = durable.added ++ grant ∷ []; unsure = None }) new
+      (record durable { history = history; added = durable.added ++ grant ∷ []; unsure = None }) new
   disk_has_more durable disk new history grant none keeps appends fed stored = record {
     tells = turns_on (reads_as durable.entry) (reads_as disk) (reads_as new) keeps.tells appends.tells;
-    count = fed ∙ subst (λ (u : Option Grant). MatchOption u (faults disk ≡ faults durable.entry) (λ _. Rose (faults durable.entry) (faults disk)))
+    count = fed ∙ subst (λ (u : Option Grant). MatchOption u (faults disk
+        ≡ faults durable.entry) (λ _. Rose (faults durable.entry) (faults disk)))
         none keeps.count;
     stands = where_told (reads_as new) (λ file. Stands file × ((c : List ℕ) → may_leave new c → Stands c)) (λ now is_now.
         let old = turned_back _ _ _ now is_now appends.tells in
@@ -129,6 +138,7 @@ module _ {D : Type 0} (reads_as : D → Option (List ℕ)) (may_leave : D → Li
     where
       Stands : List ℕ → Type 0
       Stands file = StandsNow (record durable { history = history; added = durable.added ++ grant ∷ []; unsure = None }) file
+
       longer : (file : List ℕ) → StandsFor file durable.text ((durable.opening ++ durable.added) ++ grant ∷ []) → Stands file
       longer file stands = inl (subst (λ (gs : List Grant). StandsFor file durable.text gs)
           (append_assoc durable.opening durable.added (grant ∷ [])) stands)
@@ -138,7 +148,7 @@ module _ {D : Type 0} (reads_as : D → Option (List ℕ)) (may_leave : D → Li
       → KeepsDisk reads_as may_leave moment left_since faults durable disk → Appends disk new durable.text grant
       → Rose (faults disk) (faults new)
       → KeepsDisk reads_as may_leave moment left_since faults
-          (record durable { history = history; added = durable.added ++ []; unsure = Some grant }) new
+      (record durable { history = history; added = durable.added ++ []; unsure = Some grant }) new
   disk_is_unsure durable disk new history grant none keeps appends rose = record {
     tells = turns_on (reads_as durable.entry) (reads_as disk) (reads_as new) keeps.tells appends.tells;
     count = subst (λ (n : ℕ). Rose n (faults new))
@@ -155,6 +165,7 @@ module _ {D : Type 0} (reads_as : D → Option (List ℕ)) (may_leave : D → Li
     where
       Stands : List ℕ → Type 0
       Stands file = StandsNow (record durable { history = history; added = durable.added ++ []; unsure = Some grant }) file
+
       either : (file : List ℕ) → IsBeforeOrAfter durable.text (durable.opening ++ durable.added) grant file → Stands file
       either file (inl before) = inl (subst (λ (gs : List Grant). StandsFor file durable.text (durable.opening ++ gs))
           (sym (append-nil durable.added)) before)

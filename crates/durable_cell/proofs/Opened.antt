@@ -1,6 +1,6 @@
 -- What a durable cell keeps when it is opened.
 use Rattle.std.specs.Prelude.{Option, Some, None, false, IfSome}
-use Rattle.std.proofs.Common.{◌≡◌, ◌⊎◌, inl, inr, ⊎_elim, ℕ, ◌+◌, ◌≤◌, List, [], ◌∷◌, ◌++◌, length, refl, sym, ◌∙◌, ap, subst, arith}
+use Rattle.std.proofs.Common.{◌≡◌, ◌⊎◌, inl, inr, ⊎_elim, ℕ, ◌≤◌, List, [], ◌∷◌, ◌++◌, length, refl, sym, ◌∙◌, subst, arith}
 use Rattle.std.proofs.lemmas.List.{append-nil}
 use Rattle.atomic_table.specs.declared.badge.Badge.{Badge}
 use Rattle.cell_base.specs.declared.cells.Cell.{Cell}
@@ -26,7 +26,8 @@ use Rattle.durable_cell.proofs.Grown.{kept_is}
 use Rattle.durable_cell.proofs.Moving.{turns_on}
 
 -- nothing was decided yet
-pub history_opened : {D : Type 0} (cell : Cell) (text : List ℕ) (disk : D) (grants : List Grant) (limit : ℕ) → CellFits cell → AreDue cell grants
+pub history_opened : {D : Type 0} (cell : Cell) (text : List ℕ) (disk : D) (grants : List Grant) (limit : ℕ) → CellFits cell
+    → AreDue cell grants
     → KeepsHistory (fresh cell text disk grants limit)
 history_opened cell text disk grants limit fits due = record {
   fits = fits;
@@ -44,15 +45,16 @@ pub parts_opened : {D : Type 0} (cell : Cell) (text : List ℕ) (disk : D) (gran
     → KeepsParts (fresh cell text disk grants limit) badge core journal history_spare added_spare
 parts_opened cell text disk grants limit room badge core journal history_spare added_spare first is_core room_fits limit_fits len runs
     history_room added_room = record {
-  first = first;
-  state = is_core.state;
-  runs = λ _. runs;
-  few = omega (arith, len, is_core.few, room_fits, limit_fits);
-  history_room = omega (arith, history_room);
-  added_room = omega (arith, added_room);
-}
+      first = first;
+      state = is_core.state;
+      runs = λ _. runs;
+      few = omega (arith, len, is_core.few, room_fits, limit_fits);
+      history_room = omega (arith, history_room);
+      added_room = omega (arith, added_room);
+    }
 
-pub seen_fresh : {D : Type 0} (badge : Badge D) (disk : D) (cell : Cell) (core : CoreState) (text kept_text : List ℕ) (journal : JournalState D)
+pub seen_fresh : {D : Type 0} (badge : Badge D) (disk : D) (cell : Cell) (core : CoreState) (text kept_text : List ℕ)
+    (journal : JournalState D)
     (grants : List Grant) (history : List Entry) (added : List Grant) (limit : ℕ) → badge.views ≡ disk ∷ [] → core.cell ≡ cell
     → kept_text ≡ text → history ≡ [] → added ≡ []
     → seen badge core kept_text journal grants history added None limit ≡ fresh cell text disk grants limit
@@ -83,7 +85,8 @@ module _ {D : Type 0} (reads_as : D → Option (List ℕ)) (may_leave : D → Li
       → IsJournalOf reads_as may_leave moment left_since faults read text grants journal
       → KeepsDisk reads_as may_leave moment left_since faults (fresh cell text entry grants limit) journal.disk
   disk_opened entry read cell text grants limit journal reads fed made = record {
-    tells = turns_on (reads_as entry) (reads_as read) (reads_as journal.disk) (turns_same (reads_as entry) (reads_as read) reads.same) made.tells;
+    tells = turns_on (reads_as entry) (reads_as read) (reads_as journal.disk) (turns_same (reads_as entry)
+        (reads_as read) reads.same) made.tells;
     count = made.fed ∙ fed;
     stands = where_told (reads_as journal.disk) (λ file. Stands file × ((c : List ℕ) → may_leave journal.disk c → Stands c)) (λ now is_now.
         let both = told _ _ now is_now made.stands in
@@ -97,10 +100,13 @@ module _ {D : Type 0} (reads_as : D → Option (List ℕ)) (may_leave : D → Li
     where
       with_none : (file : List ℕ) → StandsFor file text grants → StandsFor file text (grants ++ [])
       with_none file st = subst (λ (gs : List Grant). StandsFor file text gs) (sym (append-nil grants)) st
+
       P : List ℕ → Type 0
       P file = may_leave entry file ⊎ StandsForFirst text grants [] file
+
       Stands : List ℕ → Type 0
       Stands file = StandsNow (fresh cell text entry grants limit) file
+
       stands : (file : List ℕ) → StandsFor file text grants → Stands file
       stands file st = inl (with_none file st)
 

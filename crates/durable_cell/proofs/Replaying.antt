@@ -1,10 +1,11 @@
 -- The test of a request is what it says, and grants of which none strays are due.
 use Rattle.std.specs.Prelude.{Bool, true, false, ◌&&◌, ◌||◌, if◌then◌else◌, nat_lt, Option, Some, None, Result, Ok, Err}
 use Rattle.std.specs.Option.{option_map_or}
-use Rattle.std.proofs.Common.{◌≡◌, ◌⊎◌, inl, inr, ℕ, ◌+◌, ◌<◌, List, [], ◌∷◌, length, All, refl, sym, ◌∙◌, ap, subst, arith}
+use Rattle.std.proofs.Common.{◌≡◌, ◌⊎◌, inl, inr, ℕ, ◌+◌, ◌<◌, List, [], ◌∷◌, length, All, refl, sym, ◌∙◌, ap, arith}
 use Rattle.std.proofs.lemmas.Bool.{and_parts, and_from}
 use Rattle.std.proofs.lemmas.Bool.Decides.{nat_tests}
 use Rattle.std.proofs.lemmas.List.Elements.{All-nil, All-cons, All-head, All-tail}
+use Rattle.cell_base.specs.declared.limits.TheConstants.{MAX_BRANCHES}
 use Rattle.cell_base.specs.declared.cells.Cell.{Cell}
 use Rattle.cell_base.specs.declared.requests.Part.{Part}
 use Rattle.cell_base.specs.declared.requests.Request.{Request}
@@ -34,30 +35,21 @@ place_passes true true done is idle = refl
 place_passes true false done is idle = idle refl
 place_passes false works done is idle = absurd (cc)
 
-pub fits_by_test : (cell : Cell) (request : Request) → is_fit cell request ≡ true → RequestFits cell request
-fits_by_test cell (Load job kind) is = grind (arith, nat_tests)
-fits_by_test cell (Process machine) is = grind (arith, nat_tests)
-fits_by_test cell (Move job branch) is = grind (arith, nat_tests)
-fits_by_test cell (Unload job) is = tt
-fits_by_test cell (Place job kind place done) is =
-    let s = stage kind.0 place in
-    let both = place_test (is_stage cell s) (works_at cell s) done is in
-    (below place (length (route_of cell kind.0)) both.0, both.1)
-  where
-    below : (n m : ℕ) → nat_lt n m ≡ true → n < m
-    below n m is = grind (arith, nat_tests)
+less_test : (n m : ℕ) → (nat_lt n m ≡ true → n < m) × (n < m → nat_lt n m ≡ true)
+less_test n m = (λ is. grind (arith, nat_tests), λ less. grind (arith, nat_tests))
 
-pub test_of_fits : (cell : Cell) (request : Request) → RequestFits cell request → is_fit cell request ≡ true
-test_of_fits cell (Load job kind) is = grind (arith, nat_tests)
-test_of_fits cell (Process machine) is = grind (arith, nat_tests)
-test_of_fits cell (Move job branch) is = grind (arith, nat_tests)
-test_of_fits cell (Unload job) is = refl
-test_of_fits cell (Place job kind place done) is =
-    let s = stage kind.0 place in
-    place_passes (is_stage cell s) (works_at cell s) done (passes place (length (route_of cell kind.0)) is.0) is.1
-  where
-    passes : (n m : ℕ) → n < m → nat_lt n m ≡ true
-    passes n m is = grind (arith, nat_tests)
+-- a request fits exactly where the test passes
+fit_test : (cell : Cell) (request : Request) → (is_fit cell request ≡ true → RequestFits cell request)
+    × (RequestFits cell request → is_fit cell request ≡ true)
+fit_test cell (Load job kind) = less_test kind.0 (length cell.types)
+fit_test cell (Process machine) = less_test machine.0 (length cell.resources)
+fit_test cell (Move job branch) = less_test branch MAX_BRANCHES
+fit_test cell (Unload job) = (λ is. tt, λ fits. refl)
+fit_test cell (Place job kind place done) =
+    let s = stage kind.0 place in let less = less_test place (length (route_of cell kind.0)) in (
+      λ is. let both = place_test (is_stage cell s) (works_at cell s) done is in (less.0 both.0, both.1),
+      λ fits. place_passes (is_stage cell s) (works_at cell s) done (less.1 fits.0) fits.1,
+    )
 
 due_test : (fit granted : Bool) (at : ℕ) (behind : Option ℕ) → (if fit && granted then behind else Some at) ≡ None
     → (fit ≡ true) × (granted ≡ true) × (behind ≡ None)
@@ -73,7 +65,7 @@ none_strays cell parts at (grant ∷ grants) is =
     let first = due_test (is_fit cell grant.request) (is_granted (reply_to cell parts grant.request)) at
     (first_stray cell (state_after cell parts grant.request) (at + 17) grants) is in
     let rest = none_strays cell (state_after cell parts grant.request) (at + 17) grants first.2 in (
-      All-cons (λ (g : Grant). RequestFits cell g.request) grant grants (fits_by_test cell grant.request first.0) rest.0,
+      All-cons (λ (g : Grant). RequestFits cell g.request) grant grants ((fit_test cell grant.request).0 first.0) rest.0,
       and_from (is_granted (reply_to cell parts grant.request)) _ first.1 rest.1,
     )
 
@@ -87,7 +79,7 @@ due_strays_not cell parts at (grant ∷ grants) fit granted =
     let Fit : Grant → Type 0 = λ g. RequestFits cell g.request in
     let both = and_parts (is_granted (reply_to cell parts grant.request)) _ granted in
     ap (λ (b : Bool). if b && is_granted (reply_to cell parts grant.request) then behind else Some at)
-    (test_of_fits cell grant.request (All-head Fit grant grants fit))
+    ((fit_test cell grant.request).1 (All-head Fit grant grants fit))
     ∙ ap (λ (b : Bool). if b then behind else Some at) both.0
     ∙ due_strays_not cell (state_after cell parts grant.request) (at + 17) grants (All-tail Fit grant grants fit) both.1
 
@@ -116,7 +108,8 @@ stands_opened cell file text room grants due (inr found) =
     ap (replayed_reading cell text) found ∙ due_replayed cell text grants due
 
 -- what is replayed is answered
-pub replay_found : {D : Type 0} (old : CoreState) (text : List ℕ) (journal : JournalState D) (found grants : List Grant) (answer : Restored D)
+pub replay_found : {D : Type 0} (old : CoreState) (text : List ℕ) (journal : JournalState D) (found grants : List Grant)
+    (answer : Restored D)
     → IsReplay old text journal found answer → replayed old.cell text found ≡ Ok grants → IsFound grants answer
 replay_found old text journal found grants (Open core held given) replay is = cc
 replay_found old text journal found grants (Refused disk why) replay is = cc

@@ -34,7 +34,8 @@ abbrev pub kept_disk : {D : Type 0} → Badge D → D → D
 kept_disk badge other = slice_index_or badge.views 0 other
 
 -- the durable cell of these parts
-abbrev pub seen : {D : Type 0} → Badge D → CoreState → List ℕ → JournalState D → List Grant → List Entry → List Grant → Option Grant → ℕ → DurableState D
+abbrev pub seen : {D : Type 0} → Badge D → CoreState → List ℕ → JournalState D → List Grant → List Entry
+    → List Grant → Option Grant → ℕ → DurableState D
 seen badge core text journal opening history added unsure limit = record {
   cell = core.cell;
   text = text;

@@ -7,7 +7,6 @@ use Rattle.cell_base.specs.declared.shifts.Entry.{Entry}
 use Rattle.cell_base.specs.declared.shifts.Grant.{Grant}
 use Rattle.cell_base.specs.Fits.{CellFits}
 use Rattle.cell_base.specs.Histories.{IsLegal, granted_entries}
-use Rattle.cell_base.specs.Policy.{IsAdmitted}
 use Rattle.admission_core.specs.CoreState.{CoreState}
 use Rattle.outside_io.specs.Causes.{Rose}
 use Rattle.outside_io.specs.Disk.{Turns, LeavesOnly}
@@ -64,7 +63,8 @@ pub record KeepsDisk {D : Type 0} (reads_as : D → Option (List ℕ)) (may_leav
   pub any_moment : IfSome (reads_as disk) (λ _. LeavesOnly moment left_since durable.entry disk
       (λ file. may_leave durable.entry file ⊎ StandsBetween durable file))
 
--- The badge has the disk of the opening, the core stands behind the history, the journal has all that was added and runs until a writing fails, and no shelf gets full.
+-- The badge has the disk of the opening, the core stands behind the history, the journal runs until a writing fails, and no shelf gets
+-- full.
 pub record KeepsParts {D : Type 0} (durable : DurableState D) (badge : Badge D) (core : CoreState) (journal : JournalState D)
     (history_spare added_spare : ℕ) : Type 0 where
   pub first : badge.views ≡ durable.entry ∷ []
@@ -73,3 +73,10 @@ pub record KeepsParts {D : Type 0} (durable : DurableState D) (badge : Badge D) 
   pub few : journal.len + durable.limit ≤ 2 * MAX_ROOM + length durable.history
   pub history_room : durable.limit ≤ length durable.history + history_spare
   pub added_room : durable.limit ≤ length durable.history + added_spare
+
+-- all of it
+abbrev pub Keeps : {D : Type 0} → (D → Option (List ℕ)) → (D → List ℕ → Type 0) → (D → ℕ) → (D → ℕ → List ℕ → Type 0) → (D → ℕ)
+    → DurableState D → Badge D → CoreState → JournalState D → ℕ → ℕ → Type 0
+Keeps reads_as may_leave moment left_since faults durable badge core journal history_spare added_spare =
+    KeepsHistory durable × KeepsDisk reads_as may_leave moment left_since faults durable journal.disk
+    × KeepsParts durable badge core journal history_spare added_spare

@@ -42,17 +42,14 @@ pub struct Durable<D: Disk> {
 
 impl<D: Disk> Model for Durable<D> {
     ghost use Rattle.durable_cell.specs.DurableState.{DurableState, seen};
-    ghost use Rattle.durable_cell.specs.Kept.{KeepsHistory, KeepsDisk, KeepsParts};
+    ghost use Rattle.durable_cell.specs.Kept.{Keeps};
 
     ghost Value = { DurableState D };
 
     ghost view = { λ s. seen s.entry s.core s.text s.journal s.opening s.history.items s.added.items s.unsure s.limit };
 
-    ghost invariant = { λ s.
-        KeepsHistory (seen s.entry s.core s.text s.journal s.opening s.history.items s.added.items s.unsure s.limit)
-        × KeepsDisk D.reads_as D.may_leave D.moment D.left_since D.faults
-        (seen s.entry s.core s.text s.journal s.opening s.history.items s.added.items s.unsure s.limit) s.journal.disk
-        × KeepsParts (seen s.entry s.core s.text s.journal s.opening s.history.items s.added.items s.unsure s.limit)
+    ghost invariant = { λ s. Keeps D.reads_as D.may_leave D.moment D.left_since D.faults
+        (seen s.entry s.core s.text s.journal s.opening s.history.items s.added.items s.unsure s.limit)
         s.entry s.core s.journal s.history.spare s.added.spare };
 }
 

@@ -8,12 +8,42 @@ use outside_io::{CallKind, DiskCall, MemDisk};
 use std::alloc::Global;
 use std::test::Fail;
 
+type Answer = Result<Reply, AskFault>;
+
+/// How a run ended: whether each answer was the one that is listed, the parts that are left, and how many grants the disk
+/// has when it is opened again.
+#[derive(Clone, Copy, Debug, PartialEq, Eq)]
+struct Outcome {
+    as_listed: bool,
+    parts: u32,
+    found: u64,
+}
+
 const LOAD: Request = Request::Load {
     job: JobId(7),
     kind: TypeId(0),
 };
+
 const PROCESS: Request = Request::Process { machine: ResId(0) };
+
 const UNLOAD: Request = Request::Unload { job: JobId(7) };
+
+const GRANTED: Answer = Ok(Reply::Granted);
+
+const A_WHOLE_JOB: [(Request, Answer); 6] = [
+    (LOAD, GRANTED),
+    (LOAD, Ok(Reply::Refused(Refusal::JobLoaded))),
+    (PROCESS, GRANTED),
+    (UNLOAD, GRANTED),
+    (UNLOAD, Ok(Reply::Refused(Refusal::NoSuchJob))),
+    (LOAD, Err(AskFault::Full { len: 5 })),
+];
+
+const A_FAILED_WRITE: [(Request, Answer); 3] = [
+    (LOAD, GRANTED),
+    (PROCESS, Err(AskFault::Device { at: 1 })),
+    (UNLOAD, Err(AskFault::Halted { at: 1 })),
+];
 
 fn may_be_sent<T: Send>(value: T) -> T {
     value
@@ -38,64 +68,71 @@ fn cell_of_one(alloc: Global) -> Result<Cell, Fail> {
     Ok(Cell { resources, types })
 }
 
-fn opened(alloc: Global, disk: MemDisk, limit: u64) -> Result<Durable<MemDisk>, Fail> {
+fn opened(alloc: Global, disk: MemDisk) -> Result<Durable<MemDisk>, Fail> {
     let cell = cell_of_one(alloc)?;
-    if !cell_fits(&cell) || limit > 8 {
+    if !cell_fits(&cell) {
         return Err(Fail::from("the cell fits"));
     }
-    match Durable::open(alloc, cell, b"cell", disk, 8, limit) {
+    match Durable::open(alloc, cell, b"cell", disk, 8, 5) {
         Opening::Open(durable) => Ok(durable),
         _ => Err(Fail::from("not opened")),
     }
 }
 
-fn ask(
-    durable: &mut Durable<MemDisk>,
-    request: &Request,
-) -> Result<Result<Reply, AskFault>, Fail> {
-    if !request_fits(durable.core().cell(), request) {
-        return Err(Fail::from("the request fits"));
+fn answers_as_listed(durable: &mut Durable<MemDisk>, asks: &[(Request, Answer)]) -> bool {
+    for (request, answer) in asks {
+        let fits = request_fits(durable.core().cell(), request);
+        if !fits || durable.ask(1, 2, request) != *answer {
+            return false;
+        }
     }
-    Ok(durable.ask(1, 2, request))
+    true
+}
+
+fn found_again(alloc: Global, disk: MemDisk) -> Result<u64, Fail> {
+    let again = opened(alloc, disk)?;
+    Ok(again.opening().len() as u64)
+}
+
+fn run(alloc: Global, fails: List<DiskCall>, asks: &[(Request, Answer)]) -> Result<Outcome, Fail> {
+    let disk = MemDisk::new(alloc, b"", fails)?;
+    let mut durable = may_be_sent(opened(alloc, disk)?);
+    let as_listed = answers_as_listed(&mut durable, asks);
+    let finished = durable.finish();
+    let parts = finished.core.parts_left();
+    let found = found_again(alloc, finished.disk)?;
+    Ok(Outcome {
+        as_listed,
+        parts,
+        found,
+    })
 }
 
 #[test]
 fn grants_are_found_again(rt: HostRuntime) -> Result<(), Fail> {
-    let alloc = rt.alloc();
-    let disk = MemDisk::new(alloc, b"", List::new(alloc))?;
-    let mut durable = may_be_sent(opened(alloc, disk, 5)?);
-    let twice = Reply::Refused(Refusal::JobLoaded);
-    let gone = Reply::Refused(Refusal::NoSuchJob);
-    assert_eq!(rt; ask(&mut durable, &LOAD)?, Ok(Reply::Granted));
-    assert_eq!(rt; ask(&mut durable, &LOAD)?, Ok(twice));
-    assert_eq!(rt; ask(&mut durable, &PROCESS)?, Ok(Reply::Granted));
-    assert_eq!(rt; ask(&mut durable, &UNLOAD)?, Ok(Reply::Granted));
-    assert_eq!(rt; ask(&mut durable, &UNLOAD)?, Ok(gone));
-    assert_eq!(rt; ask(&mut durable, &LOAD)?, Err(AskFault::Full { len: 5 }));
-    let finished = durable.finish();
-    assert_eq!(rt; finished.core.parts_left(), 0);
-    let again = opened(alloc, finished.disk, 5)?;
-    assert_eq!(rt; again.opening().len(), 3);
-    assert_eq!(rt; again.len(), 0);
+    let outcome = run(rt.alloc(), List::new(rt.alloc()), &A_WHOLE_JOB)?;
+    let expected = Outcome {
+        as_listed: true,
+        parts: 0,
+        found: 3,
+    };
+    assert_eq!(rt; outcome, expected);
     Ok(())
 }
 
 #[test]
 fn a_failed_write_halts(rt: HostRuntime) -> Result<(), Fail> {
-    let alloc = rt.alloc();
-    let mut fails = List::new(alloc);
+    let mut fails = List::new(rt.alloc());
     fails.try_push(DiskCall {
         kind: CallKind::Write,
         nth: 6,
     })?;
-    let disk = MemDisk::new(alloc, b"", fails)?;
-    let mut durable = opened(alloc, disk, 5)?;
-    assert_eq!(rt; ask(&mut durable, &LOAD)?, Ok(Reply::Granted));
-    assert_eq!(rt; ask(&mut durable, &PROCESS)?, Err(AskFault::Device { at: 1 }));
-    assert_eq!(rt; ask(&mut durable, &UNLOAD)?, Err(AskFault::Halted { at: 1 }));
-    let finished = durable.finish();
-    let again = opened(alloc, finished.disk, 5)?;
-    assert_eq!(rt; again.opening().len(), 1);
-    assert_eq!(rt; again.core().parts_left(), 1);
+    let outcome = run(rt.alloc(), fails, &A_FAILED_WRITE)?;
+    let expected = Outcome {
+        as_listed: true,
+        parts: 1,
+        found: 1,
+    };
+    assert_eq!(rt; outcome, expected);
     Ok(())
 }

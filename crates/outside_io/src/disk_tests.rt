@@ -1,4 +1,4 @@
-//! What no clause says of the disk in memory: that its calls succeed with memory at hand, and that its images differ.
+//! What no clause says of the disk in memory: that its calls succeed with memory at hand. `crashes` enumerates its images.
 use crate::{CallKind, Disk, DiskCall, Failed, MemDisk};
 use cell_base::List;
 use std::alloc::Global;
@@ -25,17 +25,6 @@ fn a_failed_sync_makes_nothing_stable(rt: HostRuntime) -> Result<(), Fail> {
     assert_eq!(rt; disk.sync(), Ok(()));
     assert_eq!(rt; disk.crash(alloc, 0)?.bytes(), b"aBCDE".as_slice());
     assert_eq!(rt; disk.starved(), 0);
-    Ok(())
-}
-
-#[test]
-fn a_crash_behind_a_failed_write_leaves_other_bytes(rt: HostRuntime) -> Result<(), Fail> {
-    let alloc = rt.alloc();
-    let mut disk = MemDisk::new(alloc, b"abcd", failing(alloc, CallKind::Write, 1)?)?;
-    assert_eq!(rt; disk.write_at(2, b"XYZ"), Err(Failed));
-    assert_eq!(rt; disk.bytes(), b"abcd".as_slice());
-    assert!(rt; disk.crash(alloc, 2)?.bytes().starts_with(b"ab"));
-    assert_eq!(rt; disk.crash(alloc, 3)?.bytes().len(), 5);
     Ok(())
 }
 

@@ -5,3 +5,4 @@ pub mod Staying
 pub mod Listing
 pub mod Jobs
 pub mod Standings
+pub mod Advancing

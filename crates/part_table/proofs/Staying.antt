@@ -72,17 +72,18 @@ module _ (test : Standing → Bool) where
         ∙ get_or-map key entries k entry 0 (slice_get_within entries k entry e)
         ∙ ap key (get_or_from_slice_get entries k entry entry e)
 
+    pub passes_by_key : (at : ℕ) (found : Entry) → IsFirst r keys NOWHERE at → slice_get entries at ≡ Some found → passes found ≡ true
+    passes_by_key at found first e =
+        let inside = slice_get_within entries at found e in
+        let long : length keys ≡ length entries = ap length are ∙ length-map entries key in
+        sym (shows found) ∙ eq-eqb (key found) r (sym (key_at at found e) ∙ first.here (omega (arith, inside, long)))
+
     pub found_by_key : (at : ℕ) (found : Entry) → IsFirst r keys NOWHERE at → slice_get entries at ≡ Some found
         → find test (staying entries) ≡ Some found.item
-    found_by_key at found first e = first_staying entries at found e here before
+    found_by_key at found first e = first_staying entries at found e (passes_by_key at found first e) before
       where
         long : length keys ≡ length entries
         long = ap length are ∙ length-map entries key
-
-        here : passes found ≡ true
-        here =
-            let inside = slice_get_within entries at found e in
-            sym (shows found) ∙ eq-eqb (key found) r (sym (key_at at found e) ∙ first.here (omega (arith, inside, long)))
 
         before : (k : ℕ) (entry : Entry) → k < at → slice_get entries k ≡ Some entry → passes entry ≡ false
         before k entry less is =

@@ -1,6 +1,6 @@
 -- Entries in the order in which they came, of which some are gone, and what finds them.
-use Rattle.std.specs.Prelude.{false, ◌≡◌, ℕ, ◌+◌, ◌<◌, ◌≤◌, true, if◌then◌else◌, Some, List, length, map, slice_get, nat_eq}
-use Rattle.std.specs.List.{filter}
+use Rattle.std.specs.Prelude.{Bool, false, ◌≡◌, ℕ, ◌+◌, ◌<◌, ◌≤◌, true, if◌then◌else◌, Some, List, length, map, slice_get, nat_eq}
+use Rattle.std.specs.List.{filter, find}
 use Rattle.std.specs.HashMap.{HashMap, get, hash_map_len, spare}
 use Rattle.cell_base.specs.declared.requests.JobId.{JobId}
 use Rattle.part_table.specs.declared.standing.Standing.{Standing}
@@ -42,6 +42,12 @@ IsPlaceOf entries job place =
     (found : Entry) × (slice_get entries place ≡ Some found) × (found.stays ≡ true) × (job_of found ≡ job.0)
     × ((k : ℕ) (entry : Entry) → slice_get entries k ≡ Some entry → entry.stays ≡ true → job_of entry ≡ job.0 → k ≡ place)
 
+-- the entry at the place is that of the first part that passes the test
+abbrev pub IsPlaceOfFirst : (Standing → Bool) → List Entry → ℕ → Type 0
+IsPlaceOfFirst test entries place =
+    (found : Entry) × (slice_get entries place ≡ Some found) × (find test (staying entries) ≡ Some found.item)
+    × IsPlaceOf entries found.item.part.job place
+
 -- the resource on which the part of an entry stands, where it stays, and where it waits for work
 abbrev pub standing_key : Entry → ℕ
 standing_key entry = if entry.stays then entry.item.on.0 else OFF
@@ -72,9 +78,9 @@ pub record IsLogged {S : Type 0} (entries : List Entry) (room : ℕ) (places : H
   pub waiting_room : waiting.room ≡ room
   pub resources : waiting.resources ≡ standing.resources
 
--- a log whose parts are of different jobs, their number, and how many there may be
+-- a log whose parts are of different jobs, their number, and how many there may be. One entry more fits for a part that goes on
 pub record IsTable (log : Logged) (count room : ℕ) : Type 0 where
   pub distinct : HaveDistinctJobs (parts_of (staying log.entries))
   pub counted : count ≡ length (staying log.entries)
   pub within : count ≤ room
-  pub fits : room ≤ log.room
+  pub fits : room < log.room

@@ -1,16 +1,16 @@
 //! A log of parts as they came, which is found by job and by resource.
-ghost use Rattle.std.specs.Prelude.{◌≡◌, ℕ, ◌+◌, ◌<◌, ◌≤◌, ◌∷◌, ◌++◌, [], true, false, if◌then◌else◌, length, Some, slice_get, slice_set, MatchOption, IfOk, nat_eq, nat_le, map, All};
+ghost use Rattle.std.specs.Prelude.{◌≡◌, ℕ, ◌+◌, ◌<◌, ◌≤◌, ◌∷◌, ◌++◌, [], true, false, if◌then◌else◌, length, Some, slice_get, slice_set, MatchOption, IfOk, nat_eq, nat_le, map, All, None};
 ghost use Rattle.std.specs.List.{filter, find};
 ghost use Rattle.std.specs.HashMap.{get, hash_map_len, spare};
 ghost use Rattle.part_table.specs.declared.standing.Entry.{Entry};
 ghost use Rattle.part_table.specs.declared.heads.TheConstants.{NOWHERE};
-ghost use Rattle.part_table.specs.Logs.{gone_entry, done_entry, IsAbsent, IsPlaceOf, key_of_waiting, staying, IsLogged};
-ghost use Rattle.part_table.specs.Parts.{parts_of, is_on, is_waiting};
-ghost use Rattle.cell_base.specs.Policy.{HaveDistinctJobs};
+ghost use Rattle.part_table.specs.Logs.{gone_entry, done_entry, IsAbsent, IsPlaceOf, IsPlaceOfFirst, key_of_waiting, staying, IsLogged};
+ghost use Rattle.part_table.specs.Parts.{parts_of, is_on, is_waiting, advanced};
+ghost use Rattle.cell_base.specs.Policy.{is_loaded, HaveDistinctJobs};
 
 use crate::heads::{Heads, OFF};
 use crate::standing::{Entry, Standing};
-use cell_base::{JobId, NoMemory, ResId};
+use cell_base::{JobId, NoMemory, Part, ResId};
 use std::alloc::Global;
 use std::collections::HashMap;
 use std::marker::Model;
@@ -43,11 +43,23 @@ fn place(places: &mut HashMap<u32, u32>, job: JobId, at: u32)
     ensures one_more { hash_map_len places.new ≤ hash_map_len places.old + 1 }
     ensures room { hash_map_len places.old + spare places.old ≤ hash_map_len places.new + spare places.new }
 {
-    if let Some(known) = places.get_mut(&job.0) {
-        *known = at;
-    } else {
+    if replace(places, job, at).is_none() {
         let _ = places.insert(job.0, at);
     }
+}
+
+/// A job that is found at a place is found at another from now on. Gives the place where it was.
+fn replace(places: &mut HashMap<u32, u32>, job: JobId, at: u32) -> Option<u32>
+    ensures known { result ≡ get nat_eq places.old job.0 }
+    ensures places { MatchOption result ((q : ℕ) → get nat_eq places.new q ≡ get nat_eq places.old q) (λ _.
+        (q : ℕ) → get nat_eq places.new q ≡ (if nat_eq job.0 q then Some at else get nat_eq places.old q)) }
+    ensures len { hash_map_len places.new ≡ hash_map_len places.old }
+    ensures room { hash_map_len places.old + spare places.old ≤ hash_map_len places.new + spare places.new }
+{
+    let known = places.get_mut(&job.0)?;
+    let was = *known;
+    *known = at;
+    Some(was)
 }
 
 /// The resource on which a part stands that is not done.
@@ -174,6 +186,33 @@ impl Log {
         self.waiting.take_off(at);
     }
 
+    /// The part of a job goes on: it is not at its entry any more, but at one behind all others. It takes no memory.
+    pub fn advance(&mut self, job: JobId, place: u16, done: bool, on: ResId)
+        requires room { length self.old.entries < self.old.room }
+        requires present { is_loaded (parts_of (staying self.old.entries)) job ≡ true }
+        ensures items { staying self.new.entries ≡ advanced (staying self.old.entries) job place done on }
+        ensures room { self.new.room ≡ self.old.room }
+        ensures resources { self.new.resources ≡ self.old.resources }
+    {
+        let end = self.entries.len() as u32;
+        if let Some(at) = replace(&mut self.places, job, end) {
+            let mut entry = self.entries[at as usize];
+            entry.stays = false;
+            self.entries[at as usize] = entry;
+            self.standing.take_off(at);
+            self.waiting.take_off(at);
+            let part = Part {
+                place,
+                done,
+                ..entry.item.part
+            };
+            let item = Standing { part, on };
+            self.standing.push(on.0);
+            self.waiting.push(key_of_waiting(item));
+            self.entries.push_reserved(Entry { item, stays: true });
+        }
+    }
+
     /// Whether no entry more fits.
     pub fn is_full(&self) -> bool
         ensures { result ≡ nat_le self.now.room (length self.now.entries) }
@@ -192,15 +231,13 @@ impl Log {
         }
     }
 
-    /// The first part on a resource that is not done.
-    pub fn first_waiting(&self, on: ResId) -> Option<Standing>
+    /// The place of the first part on a resource that is not done.
+    pub fn first_waiting(&self, on: ResId) -> Option<u32>
         requires { on.0 < self.now.resources }
-        ensures { result ≡ find (is_waiting on) (staying self.now.entries) }
+        ensures { MatchOption result (find (is_waiting on) (staying self.now.entries) ≡ None)
+            (IsPlaceOfFirst (is_waiting on) self.now.entries) }
     {
-        match self.waiting.first(on.0) {
-            Some(at) => Some(self.entries[at as usize].item),
-            None => None,
-        }
+        self.waiting.first(on.0)
     }
 
     /// The part at an index, among those that stay.

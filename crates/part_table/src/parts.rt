@@ -1,5 +1,5 @@
 //! The table of parts.
-ghost use Rattle.std.specs.Prelude.{◌≡◌, ◌+◌, ◌<◌, ◌≤◌, true, false, [], ◌∷◌, ◌++◌, length, Some, slice_get, IfOk};
+ghost use Rattle.std.specs.Prelude.{◌≡◌, ◌+◌, ◌<◌, ◌≤◌, true, false, [], ◌∷◌, ◌++◌, length, Some, slice_get, MatchOption, IfOk};
 ghost use Rattle.std.specs.List.{find};
 ghost use Rattle.std.specs.Option.{option_map};
 ghost use Rattle.cell_base.specs.Policy.{is_loaded, HaveDistinctJobs};
@@ -60,7 +60,7 @@ impl Parts {
         ensures spare { IfOk result (λ parts. n ≤ parts.spare) }
         ensures resources { IfOk result (λ parts. parts.resources ≡ resources) }
     {
-        let log = Log::with_room(alloc, resources, n * ENTRIES_A_PART)?;
+        let log = Log::with_room(alloc, resources, n * ENTRIES_A_PART + 1)?;
         Ok(Parts {
             log,
             count: 0,
@@ -110,7 +110,7 @@ impl Parts {
         ensures { result ≡ option_map (λ item. item.part.job) (find (is_waiting on) self.now.items) }
     {
         match self.log.first_waiting(on) {
-            Some(item) => Some(item.part.job),
+            Some(at) => Some(self.log.get(at).item.part.job),
             None => None,
         }
     }
@@ -148,15 +148,8 @@ impl Parts {
         ensures spare { self.new.spare ≡ self.old.spare }
         ensures resources { self.new.resources ≡ self.old.resources }
     {
-        if let Some(part) = self.get(job) {
-            let moved = Part {
-                place,
-                done,
-                ..part
-            };
-            self.depart(job);
-            self.arrive(moved, on);
-        }
+        make_room(&mut self.log);
+        self.log.advance(job, place, done, on);
     }
 
     /// The work on the part of a job is done. It keeps its place in the order.
@@ -168,6 +161,24 @@ impl Parts {
     {
         if let Some(at) = self.log.place_of(job) {
             self.log.finish(at);
+        }
+    }
+
+    /// The work on the first part on a resource that is not done, if there is one. The part keeps its place in the order. Gives its job.
+    pub fn finish_first(&mut self, on: ResId) -> Option<JobId>
+        requires { on.0 < self.old.resources }
+        ensures job { result ≡ option_map (λ item. item.part.job) (find (is_waiting on) self.old.items) }
+        ensures items { MatchOption result (self.new.items ≡ self.old.items) (λ job. self.new.items ≡ finished self.old.items job) }
+        ensures spare { self.new.spare ≡ self.old.spare }
+        ensures resources { self.new.resources ≡ self.old.resources }
+    {
+        match self.log.first_waiting(on) {
+            Some(at) => {
+                let job = self.log.get(at).item.part.job;
+                self.log.finish(at);
+                Some(job)
+            }
+            None => None,
         }
     }
 

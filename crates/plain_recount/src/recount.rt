@@ -1,12 +1,13 @@
 //! The parts of a cell, counted anew at each request.
-ghost use Rattle.std.specs.Prelude.{◌≡◌, ◌≤◌, [], length, IfOk};
+ghost use Rattle.std.specs.Prelude.{◌≡◌, ◌≤◌, ◌<◌, [], length, IfOk};
 ghost use Rattle.std.specs.Vec.{vec_capacity};
+ghost use Rattle.cell_base.specs.Neighborhoods.{count};
 ghost use Rattle.cell_base.specs.Outcomes.{reply_to, state_after};
 ghost use Rattle.cell_base.specs.Fits.{CellFits, RequestFits, units_of};
 
 use crate::lead_table::LeadTable;
-use crate::{changes, replies};
-use cell_base::{Cell, NoMemory, Part, Reply, Request};
+use crate::{changes, counts, replies};
+use cell_base::{Cell, NoMemory, Part, Reply, Request, ResId};
 use std::alloc::Global;
 use std::marker::Model;
 
@@ -70,6 +71,21 @@ impl<'a> Recount<'a> {
         ensures { result ≡ length self.now.parts }
     {
         self.parts.len() as u32
+    }
+
+    /// The parts, in the order of their arrival at their present stages.
+    pub fn parts(&self) -> &[Part]
+        ensures { result.now ≡ self.now.parts }
+    {
+        self.parts.as_slice()
+    }
+
+    /// How many parts the neighborhood of a resource holds.
+    pub fn count(&self, r: ResId) -> u64
+        requires { r.0 < length self.now.cell.resources }
+        ensures { result ≡ count self.now.cell self.now.parts r.0 }
+    {
+        counts::count(&self.table, self.parts.as_slice(), r)
     }
 
     /// Keeps the present parts aside, in place of those that were.

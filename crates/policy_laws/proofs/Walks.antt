@@ -1,17 +1,16 @@
 -- How many steps a part needs at most, and the steps at a stage from those at the stage behind it by branch 0.
-use Rattle.std.proofs.Common.{◌≡◌, ℕ, zero, suc, ◌+◌, ◌*◌, ◌<◌, ◌≤◌, ◌≢◌, true, false, Bool, cond, List, [], ◌∷◌, length, drop, length-drop, set, get_or, get_or-set_same, get_or-set_other, Option, Some, None, ⊎_elim, refl, ◌∙◌, arith}
+use Rattle.std.proofs.Common.{◌≡◌, ℕ, zero, suc, ◌+◌, ◌*◌, ◌≤◌, true, false, Bool, cond, [], ◌∷◌, length, drop, length-drop, get_or, Option, Some, None, refl, arith}
 use Rattle.std.specs.Option.{option_map_or}
-use Rattle.std.proofs.lemmas.Bool.{cases_eq}
 use Rattle.std.proofs.lemmas.List.Sums.{sum_by-le}
 use Rattle.cell_base.specs.declared.cells.Cell.{Cell}
-use Rattle.cell_base.specs.Stages.{Stage, stage, IsStage, places_left, successor, path_within, first_branch_path, works_at}
+use Rattle.cell_base.specs.Stages.{Stage, IsStage, places_left, successor, path_within, first_branch_path, works_at}
 use Rattle.cell_base.specs.Plans.{work_at, work_from}
 use Rattle.cell_base.specs.Fits.{CellFits}
 use Rattle.policy_laws.proofs.Work.{first_branch_path-next, work_behind-next}
 use Rattle.policy_laws.proofs.Limits.{length-route_of}
 
 module _ (cell : Cell) where
-  length-path_within : (n : ℕ) (s : Stage) → length (path_within cell n s) ≤ n
+  pub length-path_within : (n : ℕ) (s : Stage) → length (path_within cell n s) ≤ n
   length-path_within zero s = omega arith
   length-path_within (suc n) s = at (successor cell s 0) (length-path_within n)
     where

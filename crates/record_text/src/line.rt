@@ -17,6 +17,8 @@ pub const LINE_BYTES: usize = 160;
 /// line.end()              // "cell refused 7" and a newline
 /// ```
 ///
+/// Where many lines are made one after the other, one `Line` serves: each begins with `begin` and ends with `close`.
+///
 /// Each call asks for room in `LINE_BYTES`, and says how long the line is at most behind it.
 #[derive(Drop)]
 pub struct Line {
@@ -32,6 +34,15 @@ impl Model for Line {
 }
 
 impl Line {
+    /// A line with nothing on it.
+    pub fn new() -> Line
+        ensures { result ≡ [] }
+    {
+        Line {
+            kept: ArrayVec::new(),
+        }
+    }
+
     /// A line that begins with this word.
     pub fn of_word(word: &[u8]) -> Line
         requires { length word.now ≤ LINE_BYTES }
@@ -42,14 +53,23 @@ impl Line {
         line
     }
 
-    /// A line that begins with this number, in decimal digits.
-    pub fn of_number<N: Integer>(n: N) -> Line
+    /// Begins the line anew with this word.
+    pub fn begin(&mut self, word: &[u8])
+        requires { length word.now ≤ LINE_BYTES }
+        ensures { self.new ≡ word.now }
+    {
+        self.kept.clear();
+        self.append(word);
+    }
+
+    /// Begins the line anew with this number, in decimal digits.
+    pub fn begin_number<N: Integer>(&mut self, n: N)
         requires { N.MAX_STR_LEN ≤ LINE_BYTES }
-        ensures digits { result ≡ N.text n }
-        ensures len { length result ≤ N.MAX_STR_LEN }
+        ensures digits { self.new ≡ N.text n }
+        ensures len { length self.new ≤ N.MAX_STR_LEN }
     {
         let mut digits = Buffer::new();
-        Line::of_word(digits.format(n).as_bytes())
+        self.begin(digits.format(n).as_bytes());
     }
 
     /// Appends a space and a word.
@@ -72,12 +92,20 @@ impl Line {
         self.word(digits.format(n).as_bytes());
     }
 
+    /// Appends a newline.
+    pub fn close(&mut self)
+        requires { length self.old + 1 ≤ LINE_BYTES }
+        ensures { self.new ≡ self.old ++ 10 ∷ [] }
+    {
+        self.kept.push(b'\n');
+    }
+
     /// The line with its newline.
     pub fn end(mut self) -> Line
         requires { length self + 1 ≤ LINE_BYTES }
         ensures { result ≡ self ++ 10 ∷ [] }
     {
-        self.kept.push(b'\n');
+        self.close();
         self
     }
 
@@ -87,14 +115,6 @@ impl Line {
         ensures short { length self.now ≤ LINE_BYTES }
     {
         self.kept.as_slice()
-    }
-
-    fn new() -> Line
-        ensures { result ≡ [] }
-    {
-        Line {
-            kept: ArrayVec::new(),
-        }
     }
 
     fn append(&mut self, bytes: &[u8])

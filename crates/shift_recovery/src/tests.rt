@@ -1,5 +1,5 @@
-//! What no clause says: that a journal is made and found again with memory at hand.
-use crate::{JournalFault, Opened, recover};
+//! What no clause says: that a journal is made and found again with memory at hand. `crashes` has the other cases.
+use crate::{Opened, recover};
 use cell_base::{Grant, JobId, List, Request};
 use outside_io::MemDisk;
 use std::test::Fail;
@@ -28,17 +28,5 @@ fn a_journal_is_made_and_found_again(rt: HostRuntime) -> Result<(), Fail> {
     };
     assert_eq!(rt; journal.len(), 1);
     assert_eq!(rt; grants.as_slice(), [grant].as_slice());
-    Ok(())
-}
-
-#[test]
-fn another_file_is_refused(rt: HostRuntime) -> Result<(), Fail> {
-    let alloc = rt.alloc();
-    let disk = MemDisk::new(alloc, b"hello", List::new(alloc))?;
-    let Opened::Refused { disk, why } = recover(alloc, disk, b"cell", 8) else {
-        return Err(Fail::from("not refused"));
-    };
-    assert_eq!(rt; why, JournalFault::NotAJournal);
-    assert_eq!(rt; disk.bytes(), b"hello".as_slice());
     Ok(())
 }

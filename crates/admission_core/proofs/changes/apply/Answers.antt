@@ -1,7 +1,7 @@
 -- An unload that is granted takes out the part.
 use Rattle.std.proofs.Common.{sym, ◌∙◌}
 use Rattle.part_table.specs.Parts.{parts_of}
-use Rattle.admission_core.proofs.Granting.{unload-granted}
+use Rattle.policy_laws.proofs.Granting.{unload-granted}
 use Rattle.admission_core.proofs.changes.apply.Goals as goal
 
 pub returns-in-Unload-clause-parts : goal.returns-in-Unload-clause-parts

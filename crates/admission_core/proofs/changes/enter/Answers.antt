@@ -1,16 +1,15 @@
 -- A part that is granted to enter has room, and every number goes along with it.
-use Rattle.std.proofs.Common.{◌≡◌, ℕ, ◌+◌, ◌<◌, ◌≤◌, None, List, [], ◌∷◌, ◌++◌, length, ap, subst, sym, ◌∙◌, arith}
+use Rattle.std.proofs.Common.{◌≡◌, List, [], ◌∷◌, ◌++◌, length, ap, subst, sym, ◌∙◌, arith}
 use Rattle.std.proofs.lemmas.List.{length-map, length_push}
 use Rattle.cell_base.specs.declared.requests.Part.{Part}
 use Rattle.cell_base.specs.Stages.{stage_of}
 use Rattle.cell_base.specs.Plans.{work}
-use Rattle.cell_base.specs.Fits.{units_of}
 use Rattle.neighborhood_counts.specs.Counts.{IsMaskOf, first_full}
 use Rattle.part_table.specs.declared.standing.Standing.{Standing}
 use Rattle.part_table.specs.Parts.{parts_of}
 use Rattle.admission_core.specs.CoreState.{AreOn, AreCounts}
-use Rattle.admission_core.proofs.Granting.{entry-granted, without-absent}
-use Rattle.admission_core.proofs.Room.{room_for, few_parts}
+use Rattle.policy_laws.proofs.Granting.{entry-granted, without-absent}
+use Rattle.policy_laws.proofs.Room.{room_for, few_parts}
 use Rattle.admission_core.proofs.Saturating.{mask_is_of, entry_over}
 use Rattle.admission_core.proofs.Standing.{AreOn-push, parts_of-push}
 use Rattle.admission_core.proofs.Tallying.{counts_entered, work_entered, work_of-le, work-le}

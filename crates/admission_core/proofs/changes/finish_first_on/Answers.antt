@@ -1,16 +1,13 @@
 -- The first part that waits is done, and needs one step less.
-use Rattle.std.proofs.Common.{◌≡◌, ◌+◌, ◌-◌, ◌≤◌, true, false, not, ◌&&◌, ◌==◌, Some, None, find, List, length, ap, subst, sym, ◌∙◌, arith}
+use Rattle.std.proofs.Common.{◌≡◌, ◌+◌, false, not, ◌==◌, Some, None, find, List, length, ap, subst, sym, ◌∙◌, arith}
 use Rattle.std.specs.Option.{option_map}
 use Rattle.std.proofs.lemmas.Bool.{and_parts, not-true}
 use Rattle.std.proofs.lemmas.List.{length-map}
-use Rattle.cell_base.specs.declared.requests.JobId.{JobId}
 use Rattle.cell_base.specs.declared.requests.Part.{Part}
 use Rattle.cell_base.specs.Stages.{stage_of, resource_at}
-use Rattle.cell_base.specs.Policy.{is_of_job, is_loaded}
 use Rattle.cell_base.specs.Outcomes.{is_waiting_on, finish_first}
 use Rattle.cell_base.specs.Plans.{work}
-use Rattle.policy_laws.proofs.Lists.{find-Contains, find_passes, list_any-Contains}
-use Rattle.policy_laws.proofs.Parts.{is_of_job-same}
+use Rattle.policy_laws.proofs.Lists.{find-Contains, find_passes}
 use Rattle.policy_laws.proofs.Work.{work_of-positive}
 use Rattle.part_table.specs.declared.standing.Standing.{Standing}
 use Rattle.part_table.specs.Parts.{parts_of, is_waiting, finish, finished}
@@ -20,33 +17,23 @@ use Rattle.admission_core.proofs.Standing.{waiting_found, finished_found, AreOn-
 use Rattle.admission_core.proofs.Tallying.{counts_finished, work_finished, work_without}
 use Rattle.admission_core.proofs.changes.finish_first_on.Goals as goal
 
-pub finish-requires : goal.finish-requires
-finish-requires c =
-    let cell = c.args.table.now in
-    let items = c.args.tally.now.parts.items in
-    let some = some_waiting (find (is_waiting c.args.machine) items) c.in-Some.job (sym c.in-Some.is ∙ c.first_waiting.ensures) in
-    let waits : find (is_waiting_on cell c.args.machine.0) (parts_of items) ≡ Some some.0.part =
-    waiting_found cell c.args.machine items c.requires.sound.tallied.on ∙ ap (option_map (λ (item : Standing). item.part)) some.1 in
-    list_any-Contains (is_of_job c.in-Some.job) (parts_of items) some.0.part
-    (find-Contains (is_waiting_on cell c.args.machine.0) (parts_of items) some.0.part waits) (is_of_job-same c.in-Some.job some.0.part (sym some.2))
-
 -- the parts behind the work
 now : (c : goal.After-tally-1)
-    → parts_of c.finish.new.self.items ≡ finish_first (is_waiting_on c.args.table.now c.args.machine.0) (parts_of c.args.tally.now.parts.items)
+    → parts_of c.finish_first.new.self.items ≡ finish_first (is_waiting_on c.args.table.now c.args.machine.0) (parts_of c.args.tally.now.parts.items)
 now c =
     let cell = c.args.table.now in
     let items = c.args.tally.now.parts.items in
-    let some = some_waiting (find (is_waiting c.args.machine) items) c.in-Some.job (sym c.in-Some.is ∙ c.first_waiting.ensures) in
-    ap (λ (items : List Standing). parts_of items) (c.finish.ensures.items ∙ ap (finished items) (sym some.2))
+    let some = some_waiting (find (is_waiting c.args.machine) items) c.in-Some.field-0 c.in-Some.ensures.job in
+    ap (λ (items : List Standing). parts_of items) (c.in-Some.ensures.items ∙ ap (finished items) (sym some.2))
     ∙ finished_found cell c.args.machine items some.0 c.requires.sound.tallied.on c.requires.sound.admitted.state.distinct some.1
 
 -- and the work behind it
-less : (c : goal.After-tally-1) → work c.args.table.now (parts_of c.finish.new.self.items) + 1 ≡ c.args.tally.now.work
+less : (c : goal.After-tally-1) → work c.args.table.now (parts_of c.finish_first.new.self.items) + 1 ≡ c.args.tally.now.work
 less c =
     let cell = c.args.table.now in
     let items = c.args.tally.now.parts.items in
     let tallied = c.requires.sound.tallied in
-    let some = some_waiting (find (is_waiting c.args.machine) items) c.in-Some.job (sym c.in-Some.is ∙ c.first_waiting.ensures) in
+    let some = some_waiting (find (is_waiting c.args.machine) items) c.in-Some.field-0 c.in-Some.ensures.job in
     let waits : find (is_waiting_on cell c.args.machine.0) (parts_of items) ≡ Some some.0.part =
     waiting_found cell c.args.machine items tallied.on ∙ ap (option_map (λ (item : Standing). item.part)) some.1 in
     let undone : some.0.part.done ≡ false =
@@ -61,7 +48,7 @@ overflow_sub-tally c =
     let cell = c.args.table.now in
     let items = c.args.tally.now.parts.items in
     let sound = c.requires.sound in
-    let some = some_waiting (find (is_waiting c.args.machine) items) c.in-Some.job (sym c.in-Some.is ∙ c.first_waiting.ensures) in
+    let some = some_waiting (find (is_waiting c.args.machine) items) c.in-Some.field-0 c.in-Some.ensures.job in
     let waits : find (is_waiting_on cell c.args.machine.0) (parts_of items) ≡ Some some.0.part =
     waiting_found cell c.args.machine items sound.tallied.on ∙ ap (option_map (λ (item : Standing). item.part)) some.1 in
     omega (
@@ -81,9 +68,9 @@ returns-in-Some-clause-tallied c =
     let items = c.args.tally.now.parts.items in
     let tallied = c.requires.sound.tallied in
     record {
-      on = subst (AreOn cell) (sym c.finish.ensures.items) (AreOn-finished cell items c.in-Some.job tallied.on);
-      resources = c.finish.ensures.resources ∙ tallied.resources;
-      enough = omega (arith, tallied.enough, c.finish.ensures.spare, ap length c.finish.ensures.items, length-map items (finish c.in-Some.job));
+      on = subst (AreOn cell) (sym c.in-Some.ensures.items) (AreOn-finished cell items c.in-Some.field-0 tallied.on);
+      resources = c.finish_first.ensures.resources ∙ tallied.resources;
+      enough = omega (arith, tallied.enough, c.finish_first.ensures.spare, ap length c.in-Some.ensures.items, length-map items (finish c.in-Some.field-0));
       counts = subst (λ (parts : List Part). AreCounts cell parts c.args.tally.now.counts) (sym (now c))
           (counts_finished cell c.requires.sound.fits (parts_of items) c.args.tally.now.counts (is_waiting_on cell c.args.machine.0) tallied.counts);
       work = omega (arith, less c);
@@ -93,8 +80,10 @@ pub returns-in_default-clause-parts : goal.returns-in_default-clause-parts
 returns-in_default-clause-parts c =
     let cell = c.args.table.now in
     let items = c.args.tally.now.parts.items in
-    let none = no_waiting (find (is_waiting c.args.machine) items)
-    (sym (none_left c.first_waiting.result c.in_default.not-Some) ∙ c.first_waiting.ensures) in
-    sym
+    let result : c.finish_first.result ≡ None = none_left c.finish_first.result c.in_default.not-Some in
+    let none = no_waiting (find (is_waiting c.args.machine) items) (sym result ∙ c.finish_first.ensures.job) in
+    let same = rw result at c.finish_first.ensures.items in
+    ap (λ (items : List Standing). parts_of items) same
+    ∙ sym
     (finish_first-none (is_waiting_on cell c.args.machine.0) (parts_of items)
     (waiting_found cell c.args.machine items c.requires.sound.tallied.on ∙ ap (option_map (λ (item : Standing). item.part)) none))

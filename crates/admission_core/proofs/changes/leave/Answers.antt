@@ -1,9 +1,9 @@
 -- The part of the job, or none.
-use Rattle.std.proofs.Common.{◌≡◌, Some, None, ap, subst, sym, ◌∙◌}
+use Rattle.std.proofs.Common.{◌≡◌, Some, ap, subst, sym, ◌∙◌}
 use Rattle.cell_base.specs.declared.requests.JobId.{JobId}
 use Rattle.cell_base.specs.Outcomes.{part_of, without}
 use Rattle.part_table.specs.Parts.{parts_of}
-use Rattle.admission_core.proofs.Granting.{without-absent}
+use Rattle.policy_laws.proofs.Granting.{without-absent}
 use Rattle.admission_core.proofs.Moving.{part_known, not_found, none_left}
 use Rattle.admission_core.proofs.changes.leave.Goals as goal
 

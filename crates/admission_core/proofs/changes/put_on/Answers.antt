@@ -1,5 +1,5 @@
 -- A part that goes on is counted at its next stage in the place of its present one.
-use Rattle.std.proofs.Common.{◌≡◌, ◌+◌, ◌-◌, ◌≤◌, None, List, [], ◌∷◌, ◌++◌, length, ap, ap₂, subst, sym, ◌∙◌, arith}
+use Rattle.std.proofs.Common.{◌≡◌, List, [], ◌∷◌, ◌++◌, length, ap, ap₂, subst, sym, ◌∙◌, arith}
 use Rattle.std.proofs.lemmas.List.{length_push}
 use Rattle.cell_base.specs.declared.requests.Part.{Part}
 use Rattle.cell_base.specs.Masks.{bits_only_of}
@@ -13,7 +13,7 @@ use Rattle.part_table.specs.Parts.{parts_of, without_job}
 use Rattle.part_table.proofs.Standings.{parts_of-without, length_departed, advanced_is}
 use Rattle.admission_core.specs.CoreState.{AreOn, AreCounts}
 use Rattle.admission_core.proofs.Moving.{part_known}
-use Rattle.admission_core.proofs.Room.{few_parts}
+use Rattle.policy_laws.proofs.Room.{few_parts}
 use Rattle.admission_core.proofs.Saturating.{mask_is_of, only_held, move_over}
 use Rattle.admission_core.proofs.Standing.{AreOn-without, AreOn-push, parts_of-push}
 use Rattle.admission_core.proofs.Tallying.{counts_moved, work_entered, work_without, work_of-le, work-le}

@@ -1,10 +1,9 @@
 -- The first part on the first resource that is occupied is the next one.
-use Rattle.std.proofs.Common.{◌≡◌, ◌==◌, ℕ, ◌<◌, length, get_or, find, Some, None, ap, sym, ◌∙◌, ⊎_elim, ◌≤◌, arith}
+use Rattle.std.proofs.Common.{◌≡◌, ◌==◌, ◌<◌, get_or, find, Some, None, ap, sym, ◌∙◌, ⊎_elim, ◌≤◌, arith}
 use Rattle.std.specs.Option.{option_map}
 use Rattle.std.proofs.lemmas.Bool.{cases_lt}
 use Rattle.std.proofs.lemmas.List.{get_or_default}
 use Rattle.cell_base.specs.declared.cells.ResId.{ResId}
-use Rattle.cell_base.specs.declared.requests.Part.{Part}
 use Rattle.cell_base.specs.Stages.{IsStage, stage_of}
 use Rattle.cell_base.specs.Plans.{place_of, step_of}
 use Rattle.policy_laws.proofs.Lists.{All-found}

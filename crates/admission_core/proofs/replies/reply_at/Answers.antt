@@ -1,10 +1,9 @@
 -- A full neighborhood is that of a resource, with the count and the capacity of the cell.
-use Rattle.std.proofs.Common.{◌≡◌, ◌<◌, length, Some, ap, ap₂, sym, ◌∙◌, subst, arith}
+use Rattle.std.proofs.Common.{◌≡◌, ◌<◌, length, Some, ap, ap₂, sym, ◌∙◌, arith}
 use Rattle.cell_base.specs.declared.cells.Cell.{Cell}
 use Rattle.cell_base.specs.declared.requests.Refusal.TheVariants.{Saturated}
 use Rattle.cell_base.specs.declared.requests.Reply.TheVariants.{Refused}
 use Rattle.cell_base.specs.Stages.{capacity_of}
-use Rattle.cell_base.specs.Neighborhoods.{count}
 use Rattle.neighborhood_counts.specs.Counts.{first_full}
 use Rattle.part_table.specs.Parts.{parts_of}
 use Rattle.admission_core.specs.Replies.{reply_at}

@@ -1,5 +1,5 @@
 -- A part of the state is that of its job, and stands at a stage.
-use Rattle.std.proofs.Common.{◌≡◌, Some, ap, sym, ◌∙◌, subst}
+use Rattle.std.proofs.Common.{◌≡◌, Some, sym, ◌∙◌, subst}
 use Rattle.cell_base.specs.declared.requests.JobId.{JobId}
 use Rattle.cell_base.specs.Outcomes.{part_of}
 use Rattle.part_table.specs.Parts.{parts_of}

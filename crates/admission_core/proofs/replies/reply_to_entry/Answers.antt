@@ -1,8 +1,7 @@
 -- A job that is not there, and the neighborhoods of the new part's mask.
-use Rattle.std.proofs.Common.{◌≡◌, true, false, refl, None, Some, ◌++◌, ◌∷◌, [], ap, sym, ◌∙◌, subst}
+use Rattle.std.proofs.Common.{◌≡◌, false, refl, ◌++◌, ◌∷◌, [], ap, sym, ◌∙◌, subst}
 use Rattle.cell_base.specs.Policy.{is_loaded}
 use Rattle.cell_base.specs.Stages.{stage_of}
-use Rattle.cell_base.specs.Outcomes.{part_of, admit}
 use Rattle.neighborhood_counts.specs.Counts.{IsMaskOf, first_full}
 use Rattle.part_table.specs.Parts.{parts_of}
 use Rattle.admission_core.specs.Replies.{reply_at}

@@ -2,9 +2,8 @@
 use Rattle.std.proofs.Common.{◌≡◌, false, not, ◌++◌, ◌∷◌, [], rules, ap, ap₂, sym, ◌∙◌, subst}
 use Rattle.cell_base.specs.declared.requests.Part.{Part}
 use Rattle.cell_base.specs.Masks.{bits_only_of}
-use Rattle.cell_base.specs.Stages.{IsStage, is_last, stage_of, stage}
+use Rattle.cell_base.specs.Stages.{IsStage, is_last, stage_of}
 use Rattle.cell_base.specs.Neighborhoods.{mask_of}
-use Rattle.cell_base.specs.Policy.{first_over}
 use Rattle.cell_base.specs.Outcomes.{without, admit}
 use Rattle.neighborhood_counts.specs.Counts.{IsMaskOf, first_full}
 use Rattle.part_table.specs.Parts.{parts_of}

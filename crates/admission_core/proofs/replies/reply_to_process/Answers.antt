@@ -1,5 +1,5 @@
 -- A part is found exactly where one waits.
-use Rattle.std.proofs.Common.{◌≡◌, true, false, Some, None, refl, find, ap, sym, ◌∙◌}
+use Rattle.std.proofs.Common.{◌≡◌, true, false, refl, find, ap, sym, ◌∙◌}
 use Rattle.std.specs.List.{list_any}
 use Rattle.std.specs.Option.{option_map}
 use Rattle.cell_base.specs.Outcomes.{is_waiting_on}

@@ -1,6 +1,6 @@
 -- Words that are no command are answered with the usage line.
 use Rattle.std.proofs.Common.{sym, ◌∙◌, ap}
-use Rattle.cell_program.specs.Words.{task_in}
+use Rattle.cell_words.specs.Words.{task_in}
 use Rattle.cell_program.proofs.Owed.{ends_usage}
 use Rattle.cell_program.proofs.top.run_command.Goals as goal
 

@@ -1,6 +1,6 @@
 -- Where all were granted in turn none strays.
 use Rattle.std.specs.Prelude.{None}
-use Rattle.std.proofs.Common.{◌≡◌, ◌+◌, [], length, drop, ap, ◌∙◌, arith}
+use Rattle.std.proofs.Common.{◌≡◌, ◌+◌, [], length, ap, ◌∙◌, arith}
 use Rattle.std.proofs.lemmas.List.{drop_all}
 use Rattle.durable_cell.specs.Replayed.{first_stray}
 use Rattle.durable_cell.proofs.Replaying.{none_strays}

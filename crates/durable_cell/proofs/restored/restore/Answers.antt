@@ -1,5 +1,5 @@
 -- The bytes open as the grants for which they stand, and the answer is what they open as.
-use Rattle.std.proofs.Common.{◌∙◌, sym, ap, subst}
+use Rattle.std.proofs.Common.{◌∙◌, sym, ap}
 use Rattle.outside_io.specs.Telling.{told}
 use Rattle.cell_base.specs.declared.cells.Cell.{Cell}
 use Rattle.admission_core.specs.CoreState.{CoreState}

@@ -1,6 +1,6 @@
 -- An unload that is granted takes out the part.
 use Rattle.std.proofs.Common.{sym, ◌∙◌}
-use Rattle.plain_recount.proofs.Granting.{unload-granted}
+use Rattle.policy_laws.proofs.Granting.{unload-granted}
 use Rattle.plain_recount.proofs.changes.apply.Goals as goal
 
 pub returns-in-Unload-clause-parts : goal.returns-in-Unload-clause-parts

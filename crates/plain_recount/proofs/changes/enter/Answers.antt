@@ -1,8 +1,8 @@
 -- There is room for a part that is granted to enter.
 use Rattle.std.proofs.Common.{arith, ◌<◌, length}
 use Rattle.cell_base.specs.Fits.{units_of}
-use Rattle.plain_recount.proofs.Granting.{entry-granted, without-absent}
-use Rattle.plain_recount.proofs.Room.{room_for}
+use Rattle.policy_laws.proofs.Granting.{entry-granted, without-absent}
+use Rattle.policy_laws.proofs.Room.{room_for}
 use Rattle.plain_recount.proofs.changes.enter.Goals as goal
 
 pub push_reserved-requires : goal.push_reserved-requires

@@ -5,8 +5,8 @@ use Rattle.cell_base.specs.Policy.{is_of_job}
 use Rattle.cell_base.specs.Outcomes.{part_of, without, arrival}
 use Rattle.cell_base.specs.Fits.{units_of}
 use Rattle.policy_laws.proofs.Lists.{All-found}
-use Rattle.plain_recount.proofs.Room.{room_for}
-use Rattle.plain_recount.proofs.Granting.{move-granted}
+use Rattle.policy_laws.proofs.Room.{room_for}
+use Rattle.policy_laws.proofs.Granting.{move-granted}
 use Rattle.plain_recount.proofs.changes.go_on.Goals as goal
 
 pub next_place-requires : goal.next_place-requires

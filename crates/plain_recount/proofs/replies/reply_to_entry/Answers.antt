@@ -2,7 +2,7 @@
 use Rattle.std.proofs.Common.{◌≡◌, false, ◌++◌, ◌∷◌, [], ap, sym, ◌∙◌}
 use Rattle.cell_base.specs.Policy.{is_loaded}
 use Rattle.cell_base.specs.Outcomes.{admit}
-use Rattle.plain_recount.proofs.Granting.{without-absent}
+use Rattle.policy_laws.proofs.Granting.{without-absent}
 use Rattle.plain_recount.proofs.replies.reply_to_entry.Goals as goal
 
 pub returns-else-is_loaded : goal.returns-else-is_loaded

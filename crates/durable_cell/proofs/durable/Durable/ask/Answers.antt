@@ -1,19 +1,18 @@
 -- A halt stands last, and a refused request is one entry more that changes nothing else.
 use Rattle.std.specs.Prelude.{Option, Some, None}
-use Rattle.std.proofs.Common.{◌≡◌, ◌<◌, ◌≤◌, ◌+◌, ◌-◌, ℕ, List, [], ◌∷◌, ◌++◌, length, refl, sym, ◌∙◌, ap, subst, arith}
+use Rattle.std.proofs.Common.{◌≡◌, ◌<◌, ◌-◌, ℕ, List, [], ◌∷◌, ◌++◌, length, refl, sym, ◌∙◌, ap, subst, arith}
 use Rattle.std.proofs.lemmas.List.{append-nil}
 use Rattle.cell_base.specs.declared.cells.Cell.{Cell}
 use Rattle.cell_base.specs.declared.requests.Part.{Part}
 use Rattle.cell_base.specs.declared.requests.Reply.TheVariants.{Refused}
 use Rattle.cell_base.specs.declared.requests.Told.TheVariants.{Answered}
 use Rattle.cell_base.specs.declared.shifts.Entry.{Entry}
-use Rattle.cell_base.specs.declared.shifts.Grant.{Grant}
-use Rattle.cell_base.specs.Outcomes.{reply_to, state_after}
+use Rattle.cell_base.specs.Outcomes.{reply_to}
 use Rattle.admission_core.specs.CoreState.{CoreState}
 use Rattle.policy_laws.specs.Laws.{RefusalLaw}
 use Rattle.durable_cell.specs.Asked.{halted_at, entry, with_entry, GoesOn}
 use Rattle.durable_cell.specs.DurableState.{DurableState, parts, seen}
-use Rattle.durable_cell.specs.Kept.{KeepsHistory, KeepsDisk, KeepsParts}
+use Rattle.durable_cell.specs.Kept.{Keeps}
 use Rattle.durable_cell.proofs.Grown.{keeps_history, keeps_parts, seen_more, unsure_last, none_by_test, no_halt_yet}
 use Rattle.durable_cell.proofs.Moving.{disk_stays}
 use Rattle.durable_cell.proofs.durable.Durable.ask.Goals as goal
@@ -25,9 +24,11 @@ pub returns-then-is_some-clause-answer : goal.returns-then-is_some-clause-answer
 returns-then-is_some-clause-answer g c =
     let i = c.self.inside in
     let old = seen i.entry i.core i.text i.journal i.opening i.history.items i.added.items i.unsure i.limit in
-    let last = unsure_last old c.self.invariant.0 (sym c.is_some.ensures ∙ c.if-is_some.true) in
-    (refl, subst (λ (d : DurableState _). halted_at d.history ≡ Some (c.len-len.result - 1)) c.self.view_is
-        (last ∙ ap (λ (n : ℕ). some (n - 1)) (sym c.len-len.ensures)))
+    let last = unsure_last old c.self.invariant.0 (sym c.is_some.ensures ∙ c.if-is_some.true) in (
+      refl,
+      subst (λ (d : DurableState _). halted_at d.history ≡ Some (c.len-len.result - 1)) c.self.view_is
+          (last ∙ ap (λ (n : ℕ). some (n - 1)) (sym c.len-len.ensures)),
+    )
 
 pub returns-then-len-self-clause-answer : goal.returns-then-len-self-clause-answer
 returns-then-len-self-clause-answer g c =
@@ -64,9 +65,8 @@ invariant_of-self g c =
     let more = seen_more i.entry old.entry i.core i.core i.text i.journal i.journal i.opening i.history.items c.push.new.self.items
     i.added.items i.added.items i.unsure i.unsure i.limit c.args.shift e v.2.first refl
     (c.push.ensures.items ∙ ap (λ (x : Entry). i.history.items ++ x ∷ []) c.entry.ensures) (sym (append-nil i.added.items)) none in
-    subst (λ (d : DurableState _). KeepsHistory d
-    × KeepsDisk g.D.Disk.reads_as g.D.Disk.may_leave g.D.Disk.moment g.D.Disk.left_since g.D.Disk.faults d i.journal.disk
-    × KeepsParts d i.entry i.core i.journal c.push.new.self.spare i.added.spare) (sym more) (
+    subst (λ (d : DurableState _). Keeps g.D.Disk.reads_as g.D.Disk.may_leave g.D.Disk.moment g.D.Disk.left_since g.D.Disk.faults d
+    i.entry i.core i.journal c.push.new.self.spare i.added.spare) (sym more) (
       keeps_history old c.args.shift e v.0 none room right,
       disk_stays g.D.Disk.reads_as g.D.Disk.may_leave g.D.Disk.moment g.D.Disk.left_since g.D.Disk.faults old i.journal.disk
           (old.history ++ e ∷ []) (old.added ++ []) None (append-nil i.added.items) (sym none) v.1,

@@ -1,16 +1,16 @@
 -- A grant that is written is one entry more, and so is one whose writing failed.
-use Rattle.std.specs.Prelude.{Option, Some, None}
-use Rattle.std.proofs.Common.{◌≡◌, ◌<◌, ◌+◌, List, [], ◌∷◌, ◌++◌, length, false, refl, sym, ◌∙◌, ap, subst, arith}
+use Rattle.std.specs.Prelude.{Some}
+use Rattle.std.proofs.Common.{[], ◌∷◌, ◌++◌, refl, sym, ◌∙◌, ap, subst, arith}
 use Rattle.std.proofs.lemmas.List.{append-nil}
 use Rattle.cell_base.specs.declared.requests.Reply.TheVariants.{Granted}
 use Rattle.cell_base.specs.declared.requests.Told.TheVariants.{Answered, Halted}
 use Rattle.cell_base.specs.declared.shifts.Entry.{Entry}
-use Rattle.cell_base.specs.Outcomes.{reply_to, state_after}
+use Rattle.cell_base.specs.Outcomes.{state_after}
 use Rattle.admission_core.specs.CoreState.{CoreState}
-use Rattle.durable_cell.specs.Asked.{halted_at, entry, with_entry, GoesOn, Answers}
-use Rattle.durable_cell.specs.DurableState.{DurableState, parts, seen}
-use Rattle.durable_cell.specs.Kept.{KeepsHistory, KeepsDisk, KeepsParts}
-use Rattle.durable_cell.proofs.Grown.{keeps_history, keeps_parts, seen_more, none_unsure, device_alone}
+use Rattle.durable_cell.specs.Asked.{entry, with_entry}
+use Rattle.durable_cell.specs.DurableState.{DurableState, seen}
+use Rattle.durable_cell.specs.Kept.{Keeps}
+use Rattle.durable_cell.proofs.Grown.{keeps_history, keeps_parts, seen_more, goes_before, device_alone}
 use Rattle.durable_cell.proofs.Moving.{Appends, disk_has_more, disk_is_unsure}
 use Rattle.durable_cell.proofs.durable.Durable.grant.Goals as goal
 
@@ -19,12 +19,10 @@ invariant_of-self g c =
     let i = c.self.inside in let v = c.self.invariant in let grant = c.args.grant in
     let old = seen i.entry i.core i.text i.journal i.opening i.history.items i.added.items i.unsure i.limit in
     let e : Entry = entry grant.session grant.request (Answered Granted) in
-    let none = none_unsure old v.0 (subst (λ (d : DurableState _). halted_at d.history ≡ None) (sym c.self.view_is) c.requires.goes_on.no_halt) in
-    let room = subst (λ (d : DurableState _). length d.history < d.limit) (sym c.self.view_is) c.requires.goes_on.has_room in
-    let right = subst (λ (d : DurableState _). reply_to d.cell (parts d) grant.request ≡ Granted) (sym c.self.view_is) c.requires.granted in
-    let running = v.2.runs none in
+    let goes = goes_before old c.args.self.now grant.request v.0 c.self.view_is c.requires.goes_on c.requires.granted in
+    let running = v.2.runs goes.none in
     let appends : Appends g.D.Disk.reads_as g.D.Disk.may_leave g.D.Disk.moment g.D.Disk.left_since g.D.Disk.faults i.journal.disk
-        c.append.new.self.disk i.text grant = record {
+    c.append.new.self.disk i.text grant = record {
       tells = c.in-Ok.ensures.tells;
       kept = λ file grants is stands. c.in-Ok.ensures.kept file i.text grants is stands running;
       any_moment = λ file grants is stands. c.in-Ok.ensures.any_moment file i.text grants is stands running;
@@ -34,13 +32,12 @@ invariant_of-self g c =
     let more = seen_more i.entry old.entry i.core c.apply.new.self i.text i.journal c.append.new.self i.opening i.history.items
     c.push-in-Ok.new.self.items i.added.items c.push.new.self.items i.unsure i.unsure i.limit grant.shift e v.2.first
     (ap (λ (k : CoreState). k.cell) c.apply.ensures)
-    (c.push-in-Ok.ensures.items ∙ ap (λ (x : Entry). i.history.items ++ x ∷ []) c.entry.ensures) c.push.ensures.items none in
-    subst (λ (d : DurableState _). KeepsHistory d
-    × KeepsDisk g.D.Disk.reads_as g.D.Disk.may_leave g.D.Disk.moment g.D.Disk.left_since g.D.Disk.faults d c.append.new.self.disk
-    × KeepsParts d i.entry c.apply.new.self c.append.new.self c.push-in-Ok.new.self.spare c.push.new.self.spare) (sym more) (
-      keeps_history old grant.shift e v.0 none room right,
+    (c.push-in-Ok.ensures.items ∙ ap (λ (x : Entry). i.history.items ++ x ∷ []) c.entry.ensures) c.push.ensures.items goes.none in
+    subst (λ (d : DurableState _). Keeps g.D.Disk.reads_as g.D.Disk.may_leave g.D.Disk.moment g.D.Disk.left_since g.D.Disk.faults d
+    i.entry c.apply.new.self c.append.new.self c.push-in-Ok.new.self.spare c.push.new.self.spare) (sym more) (
+      keeps_history old grant.shift e v.0 goes.none goes.room goes.right,
       disk_has_more g.D.Disk.reads_as g.D.Disk.may_leave g.D.Disk.moment g.D.Disk.left_since g.D.Disk.faults old i.journal.disk
-          c.append.new.self.disk (old.history ++ e ∷ []) grant none v.1 appends c.in-Ok.ensures.fed
+          c.append.new.self.disk (old.history ++ e ∷ []) grant goes.none v.1 appends c.in-Ok.ensures.fed
           (λ file grants is stands. c.in-Ok.ensures.stored file i.text grants is stands),
       keeps_parts old grant.shift e i.entry i.core c.apply.new.self i.journal c.append.new.self i.history.spare i.added.spare
           c.push-in-Ok.new.self.spare c.push.new.self.spare v.2 core_is (λ _. c.in-Ok.ensures.runs) (omega (arith, c.in-Ok.ensures.grown))
@@ -55,12 +52,10 @@ invariant_of-self-in-Err g c =
     let i = c.self.inside in let v = c.self.invariant in let grant = c.args.grant in
     let old = seen i.entry i.core i.text i.journal i.opening i.history.items i.added.items i.unsure i.limit in
     let e : Entry = entry grant.session grant.request Halted in
-    let none = none_unsure old v.0 (subst (λ (d : DurableState _). halted_at d.history ≡ None) (sym c.self.view_is) c.requires.goes_on.no_halt) in
-    let room = subst (λ (d : DurableState _). length d.history < d.limit) (sym c.self.view_is) c.requires.goes_on.has_room in
-    let right = subst (λ (d : DurableState _). reply_to d.cell (parts d) grant.request ≡ Granted) (sym c.self.view_is) c.requires.granted in
-    let running = v.2.runs none in
+    let goes = goes_before old c.args.self.now grant.request v.0 c.self.view_is c.requires.goes_on c.requires.granted in
+    let running = v.2.runs goes.none in
     let appends : Appends g.D.Disk.reads_as g.D.Disk.may_leave g.D.Disk.moment g.D.Disk.left_since g.D.Disk.faults i.journal.disk
-        c.append.new.self.disk i.text grant = record {
+    c.append.new.self.disk i.text grant = record {
       tells = c.in-Err.ensures.tells;
       kept = λ file grants is stands. c.in-Err.ensures.kept file i.text grants is stands running;
       any_moment = λ file grants is stands. c.in-Err.ensures.any_moment file i.text grants is stands running;
@@ -68,13 +63,13 @@ invariant_of-self-in-Err g c =
     let device = device_alone c.in-Err.field-0 i.journal.is_halted c.in-Err.ensures.halted_only running in
     let more = seen_more i.entry old.entry i.core i.core i.text i.journal c.append.new.self i.opening i.history.items
     c.push-in-Err.new.self.items i.added.items i.added.items i.unsure (Some grant) i.limit grant.shift e v.2.first refl
-    (c.push-in-Err.ensures.items ∙ ap (λ (x : Entry). i.history.items ++ x ∷ []) c.entry-in-Err.ensures) (sym (append-nil i.added.items)) refl in
-    subst (λ (d : DurableState _). KeepsHistory d
-    × KeepsDisk g.D.Disk.reads_as g.D.Disk.may_leave g.D.Disk.moment g.D.Disk.left_since g.D.Disk.faults d c.append.new.self.disk
-    × KeepsParts d i.entry i.core c.append.new.self c.push-in-Err.new.self.spare i.added.spare) (sym more) (
-      keeps_history old grant.shift e v.0 none room (right, refl),
+    (c.push-in-Err.ensures.items ∙ ap (λ (x : Entry). i.history.items ++ x ∷ []) c.entry-in-Err.ensures) (sym
+    (append-nil i.added.items)) refl in
+    subst (λ (d : DurableState _). Keeps g.D.Disk.reads_as g.D.Disk.may_leave g.D.Disk.moment g.D.Disk.left_since g.D.Disk.faults d
+    i.entry i.core c.append.new.self c.push-in-Err.new.self.spare i.added.spare) (sym more) (
+      keeps_history old grant.shift e v.0 goes.none goes.room (goes.right, refl),
       disk_is_unsure g.D.Disk.reads_as g.D.Disk.may_leave g.D.Disk.moment g.D.Disk.left_since g.D.Disk.faults old i.journal.disk
-          c.append.new.self.disk (old.history ++ e ∷ []) grant none v.1 appends (c.in-Err.ensures.device device),
+          c.append.new.self.disk (old.history ++ e ∷ []) grant goes.none v.1 appends (c.in-Err.ensures.device device),
       keeps_parts old grant.shift e i.entry i.core i.core i.journal c.append.new.self i.history.spare i.added.spare
           c.push-in-Err.new.self.spare i.added.spare v.2 v.2.state (λ no. absurd (cc)) (omega (arith, c.in-Err.ensures.same_len device))
           c.push-in-Err.ensures.spare (omega arith),
@@ -91,9 +86,9 @@ returns-in-Ok-clause-answer g c =
     let i = c.self.inside in let v = c.self.invariant in let grant = c.args.grant in
     let old = seen i.entry i.core i.text i.journal i.opening i.history.items i.added.items i.unsure i.limit in
     let e : Entry = entry grant.session grant.request (Answered Granted) in
-    let none = none_unsure old v.0 (subst (λ (d : DurableState _). halted_at d.history ≡ None) (sym c.self.view_is) c.requires.goes_on.no_halt) in
+    let goes = goes_before old c.args.self.now grant.request v.0 c.self.view_is c.requires.goes_on c.requires.granted in
     let more = seen_more i.entry old.entry i.core c.apply.new.self i.text i.journal c.append.new.self i.opening i.history.items
     c.push-in-Ok.new.self.items i.added.items c.push.new.self.items i.unsure i.unsure i.limit grant.shift e v.2.first
     (ap (λ (k : CoreState). k.cell) c.apply.ensures)
-    (c.push-in-Ok.ensures.items ∙ ap (λ (x : Entry). i.history.items ++ x ∷ []) c.entry.ensures) c.push.ensures.items none in
+    (c.push-in-Ok.ensures.items ∙ ap (λ (x : Entry). i.history.items ++ x ∷ []) c.entry.ensures) c.push.ensures.items goes.none in
     (more ∙ ap (λ (d : DurableState _). with_entry d grant.shift e) c.self.view_is, sym c.requires.granted, c.requires.goes_on)

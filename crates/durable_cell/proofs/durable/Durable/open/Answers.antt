@@ -1,12 +1,9 @@
 -- The disk was only read until a journal is made on it.
-use Rattle.std.specs.Prelude.{None}
 use Rattle.std.proofs.Common.{ℕ, inr, sym, ap, subst}
-use Rattle.cell_base.specs.declared.cells.Cell.{Cell}
-use Rattle.cell_base.specs.Fits.{CellFits}
 use Rattle.admission_core.specs.CoreState.{CoreState}
 use Rattle.outside_io.specs.Causes.{Rose}
 use Rattle.durable_cell.specs.DurableState.{DurableState}
-use Rattle.durable_cell.specs.Kept.{KeepsHistory, KeepsDisk, KeepsParts}
+use Rattle.durable_cell.specs.Kept.{Keeps}
 use Rattle.durable_cell.specs.Restored.{disk_stored}
 use Rattle.durable_cell.proofs.Opened.{history_opened, parts_opened, seen_fresh, disk_opened, unmade_since}
 use Rattle.durable_cell.proofs.durable.Durable.open.Goals as goal
@@ -20,11 +17,11 @@ invariant_of-result g c =
     let made = c.in-Ok-into_journal.ensures grants c.in-Open.ensures.holds in
     let is_fresh = seen_fresh c.in-Ok.entry disk cell core text shelves.text journal grants shelves.history.items shelves.added.items limit
     c.in-Ok.ensures (ap (λ (k : CoreState). k.cell) is_core.state) reserved.text_is reserved.no_history reserved.none_added in
-    subst (λ (d : DurableState _). KeepsHistory d
-    × KeepsDisk g.D.Disk.reads_as g.D.Disk.may_leave g.D.Disk.moment g.D.Disk.left_since g.D.Disk.faults d journal.disk
-    × KeepsParts d c.in-Ok.entry core journal shelves.history.spare shelves.added.spare) (sym is_fresh) (
+    subst (λ (d : DurableState _). Keeps g.D.Disk.reads_as g.D.Disk.may_leave g.D.Disk.moment g.D.Disk.left_since g.D.Disk.faults d
+    c.in-Ok.entry core journal shelves.history.spare shelves.added.spare) (sym is_fresh) (
       history_opened cell text disk grants limit c.requires.fits is_core.due,
-      disk_opened g.D.Disk.reads_as g.D.Disk.may_leave g.D.Disk.moment g.D.Disk.left_since g.D.Disk.faults disk (disk_stored c.in-Open.stored)
+      disk_opened g.D.Disk.reads_as g.D.Disk.may_leave g.D.Disk.moment g.D.Disk.left_since g.D.Disk.faults disk
+          (disk_stored c.in-Open.stored)
           cell text grants limit journal c.in-Open.ensures.reads c.in-Open.ensures.cause made,
       parts_opened cell text disk grants limit c.args.room c.in-Ok.entry core journal shelves.history.spare shelves.added.spare
           c.in-Ok.ensures is_core c.requires.room c.requires.limit made.len made.runs reserved.history_room reserved.added_room,
@@ -38,5 +35,5 @@ returns-in-Err-clause-cause g c =
 pub returns-in-Err-clause-leaves : goal.returns-in-Err-clause-leaves
 returns-in-Err-clause-leaves g c =
     inr (unmade_since g.D.Disk.reads_as g.D.Disk.may_leave g.D.Disk.moment g.D.Disk.left_since g.D.Disk.faults c.args.disk
-        (disk_stored c.in-Open.stored) c.in-Err.disk c.args.cell_text.now c.in-Open.ensures.reads
-        (c.in-Err.ensures c.in-Open.grants c.in-Open.ensures.holds).0)
+    (disk_stored c.in-Open.stored) c.in-Err.disk c.args.cell_text.now c.in-Open.ensures.reads
+    (c.in-Err.ensures c.in-Open.grants c.in-Open.ensures.holds).0)

@@ -1,21 +1,23 @@
--- The part leaves its place in the order, and comes again.
-use Rattle.std.proofs.Common.{◌≡◌, sym, ◌∙◌}
-use Rattle.policy_laws.proofs.Parts.{part_of-found}
-use Rattle.part_table.specs.Parts.{parts_of}
-use Rattle.part_table.proofs.Standings.{absent_departed, advanced_is, advanced_none}
+-- The part leaves its place in the order, and comes again behind all others.
+use Rattle.std.proofs.Common.{◌≡◌, length, ap, sym, arith, ◌∙◌}
+use Rattle.part_table.specs.Parts.{advanced}
+use Rattle.part_table.specs.Logs.{staying}
+use Rattle.part_table.proofs.Advancing.{distinct_advanced, length_advanced}
 use Rattle.part_table.proofs.parts.Parts.advance.Goals as goal
 
-pub arrive-requires-clause-absent : goal.arrive-requires-clause-absent
-arrive-requires-clause-absent c =
-    let is : c.in-Some.part.job ≡ c.args.job =
-    (part_of-found (parts_of c.args.self.now.items) c.args.job c.in-Some.part (sym c.in-Some.ensures.part)).1 in
-    rw (c.depart.ensures.items, is) (absent_departed c.args.self.now.items c.args.job)
-
-pub returns-in-Some-clause-items : goal.returns-in-Some-clause-items
-returns-in-Some-clause-items c =
-    rw (c.arrive.ensures.items, c.depart.ensures.items)
-    (sym (advanced_is c.args.self.now.items c.args.job c.args.place c.args.done c.args.on c.in-Some.part (sym c.in-Some.ensures.part)))
-
-pub returns-in_default-clause-items : goal.returns-in_default-clause-items
-returns-in_default-clause-items c =
-    advanced_none c.args.self.now.items c.args.job c.args.place c.args.done c.args.on (sym c.get.ensures.part ∙ c.in_default.is)
+pub invariant_of-self : goal.invariant_of-self
+invariant_of-self c =
+    let items = staying c.self.inside.log.entries in
+    let present = rw (← c.self.view_is) at c.requires.present in
+    let after : staying c.advance.new.self.entries ≡
+    advanced (staying c.self.inside.log.entries) c.args.job c.args.place c.args.done c.args.on =
+    c.advance.ensures.items
+    ∙ ap (λ items. advanced items c.args.job c.args.place c.args.done c.args.on) c.make_room.ensures.items in
+    record {
+      distinct = rw after
+          (distinct_advanced items c.args.job c.args.place c.args.done c.args.on c.self.invariant.distinct present);
+      counted = c.self.invariant.counted
+          ∙ sym (ap length after ∙ length_advanced items c.args.job c.args.place c.args.done c.args.on c.self.invariant.distinct present);
+      within = c.self.invariant.within;
+      fits = omega (arith, c.self.invariant.fits, c.advance.ensures.room, c.make_room.ensures.room);
+    }
