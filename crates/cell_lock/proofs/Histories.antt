@@ -1,0 +1,55 @@
+-- Beginnings of a history, and the entries of one number in it.
+use Rattle.std.proofs.Common.{◌≡◌, ◌≢◌, ℕ, zero, suc, ◌+◌, ◌<◌, ◌≤◌, ◌==◌, List, [], ◌∷◌, ◌++◌, replicate, refl, sym, ap, ◌∙◌, arith, append_assoc, append-nil, zero-add}
+use Rattle.std.proofs.lemmas.Bool.{cond-true, cond-false, eq-eqb, ne_eqb}
+use Rattle.std.proofs.lemmas.List.Elements.{filter-append}
+use mathlib.Core.List.{IsPrefix}
+use Rattle.cell_base.specs.declared.shifts.Entry.{Entry}
+use Rattle.cell_base.specs.Histories.{entries_of}
+use Rattle.cell_lock.specs.Law.{AllBegin}
+use Rattle.cell_lock.specs.Views.{mines_of}
+
+pub prefix_all : (xs : List Entry) → IsPrefix xs xs
+prefix_all xs = ([], append-nil xs)
+
+pub prefix_more : (xs ys zs : List Entry) → IsPrefix xs ys → IsPrefix xs (ys ++ zs)
+prefix_more xs ys zs p = (p.0 ++ zs, sym (append_assoc xs p.0 zs) ∙ ap (λ (l : List Entry). l ++ zs) p.1)
+
+pub prefix_nil : (xs : List Entry) → IsPrefix [] xs
+prefix_nil xs = (xs, refl)
+
+pub begin_more : (seens : List (List Entry)) (log more : List Entry) → AllBegin seens log → AllBegin seens (log ++ more)
+begin_more [] log more b = tt
+begin_more (s ∷ ss) log more b = (prefix_more s log more b.0, begin_more ss log more b.1)
+
+pub begin_append : (xs ys : List (List Entry)) (log : List Entry) → AllBegin xs log → AllBegin ys log → AllBegin (xs ++ ys) log
+begin_append [] ys log a b = b
+begin_append (x ∷ xs) ys log a b = (a.0, begin_append xs ys log a.1 b)
+
+pub entries-own : (k : ℕ) (log : List Entry) (e : Entry) → e.session ≡ k → entries_of k (log ++ e ∷ []) ≡ entries_of k log ++ e ∷ []
+entries-own k log e same =
+    filter-append (λ (x : Entry). x.session == k) log (e ∷ [])
+    ∙ ap (λ es. entries_of k log ++ es) (cond-true _ _ _ (eq-eqb e.session k same))
+
+pub entries-other : (k : ℕ) (log : List Entry) (e : Entry) → e.session ≢ k → entries_of k (log ++ e ∷ []) ≡ entries_of k log
+entries-other k log e other =
+    filter-append (λ (x : Entry). x.session == k) log (e ∷ [])
+    ∙ ap (λ es. entries_of k log ++ es) (cond-false _ _ _ (ne_eqb e.session k other)) ∙ append-nil _
+
+pub mines-other : (first count : ℕ) (log : List Entry) (e : Entry) → ((first ≤ e.session) × (e.session < first + count) → ⊥)
+    → mines_of first count (log ++ e ∷ []) ≡ mines_of first count log
+mines-other first zero log e out = refl
+mines-other first (suc count) log e out = λ i.
+    entries-other first log e (λ same. out (omega arith, omega arith)) i
+    ∷ mines-other (first + 1) count log e (λ h. out (omega arith, omega arith)) i
+
+pub mines-append : (first n m next : ℕ) (log : List Entry) → next ≡ first + n
+    → mines_of first (n + m) log ≡ mines_of first n log ++ mines_of next m log
+mines-append first zero m next log is = ap (λ (x : ℕ). mines_of first x log) (zero-add m) ∙ ap (λ (x : ℕ). mines_of x m log) (omega arith)
+mines-append first (suc n) m next log is =
+    let e : suc n + m ≡ suc (n + m) = omega arith in
+    ap (λ (x : ℕ). mines_of first x log) e
+    ∙ ap (λ (l : List (List Entry)). entries_of first log ∷ l) (mines-append (first + 1) n m next log (omega arith))
+
+pub mines-empty : (first count : ℕ) → mines_of first count [] ≡ replicate count []
+mines-empty first zero = refl
+mines-empty first (suc count) = ap (λ (l : List (List Entry)). [] ∷ l) (mines-empty (first + 1) count)

@@ -1,0 +1,8 @@
+pub mod Histories
+pub mod Views
+pub mod Turns
+pub mod Dealing
+pub mod Seats
+pub mod Asking
+pub mod Gathering
+pub mod Passes

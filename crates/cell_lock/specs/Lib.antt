@@ -1,0 +1,5 @@
+pub mod Openings
+pub mod Views
+pub mod Law
+pub mod Standing
+pub mod Steps

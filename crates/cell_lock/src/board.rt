@@ -1,0 +1,59 @@
+//! The table under the lock. Word 0 is the turn, 1 while a pass has it. Word 1 is the length of the history, and slot 0 holds
+//! the durable cell.
+use atomic_table::{Seat, Shared, Table, TableRule};
+use cell_base::{Cell, Entry, Grant};
+use durable_cell::Durable;
+use outside_io::Disk;
+use std::alloc::Global;
+use std::collections::LinkedList;
+use std::snapshot::Snapshot;
+
+/// What a lock was opened with: the cell and its text, the disk as it then was, the grants for which it stood, how many entries
+/// the history may have, the number of the shift and that of the passes. No value of it is made.
+pub struct Opening<D> {
+    pub cell: Cell,
+    pub text: LinkedList<u8>,
+    pub entry: Option<D>,
+    pub grants: LinkedList<Grant>,
+    pub limit: u64,
+    pub shift: u32,
+    pub passes: u16,
+}
+
+/// What a seat knows: the numbers from `first`, `count` many, with the entries of each, and beginnings of the history that it
+/// saw. No value of it is made.
+pub struct View<D> {
+    pub opening: Opening<D>,
+    pub first: u64,
+    pub count: u64,
+    pub seens: LinkedList<LinkedList<Entry>>,
+    pub mines: LinkedList<LinkedList<Entry>>,
+    pub has_turn: bool,
+}
+
+/// What the table is told once.
+#[derive(Drop)]
+pub struct Key<D: Disk> {
+    pub durable: Snapshot<Durable<D>>,
+    pub shift: u32,
+    pub passes: u16,
+}
+
+/// The rule of the table.
+pub struct Law;
+
+impl<D: Disk> TableRule<Durable<D>, View<D>, Key<D>> for Law {
+    ghost use Rattle.cell_lock.specs.Law.{Kept};
+    ghost use Rattle.cell_lock.specs.Openings.{opening_of};
+    ghost use Rattle.cell_lock.specs.Views.{stock};
+
+    ghost holds = { λ key. Kept (opening_of key.durable.value key.shift key.passes) };
+
+    ghost first = { λ key. stock (opening_of key.durable.value key.shift key.passes) 1 key.passes };
+}
+
+pub type Board<D> = Table<Durable<D>, View<D>, Key<D>, Law, Global>;
+
+pub type Top<D> = Shared<Durable<D>, View<D>, Key<D>, Law>;
+
+pub type Place<D> = Seat<Durable<D>, View<D>>;

@@ -1,0 +1,41 @@
+//! A pass: the right to ask, for one thread.
+ghost use Rattle.std.specs.Prelude.{◌≡◌};
+
+use crate::board::Place;
+use outside_io::Disk;
+use std::marker::Model;
+
+/// The right to ask under a number. Contracts see it as its lock, its number, the history that it saw and its own entries in
+/// it.
+#[derive(Drop)]
+pub struct Pass<D: Disk> {
+    pub(crate) seat: Place<D>,
+    pub(crate) number: u16,
+}
+
+impl<D: Disk> Model for Pass<D> {
+    ghost use Rattle.std.specs.Prelude.{◌≡◌};
+    ghost use Rattle.cell_lock.specs.Standing.{Standing};
+    ghost use Rattle.cell_lock.specs.Steps.{lock_of};
+    ghost use Rattle.cell_lock.specs.Views.{IsResting, seen_of, mine_of};
+
+    ghost Value = { Standing D };
+
+    ghost view = { λ p. record {
+      lock = lock_of p.seat;
+      number = p.number;
+      seen = seen_of p.seat.me.0;
+      mine = mine_of p.seat.me.0;
+    } };
+
+    ghost invariant = { λ p. IsResting p.seat.me × (p.seat.me.0.first ≡ p.number) };
+}
+
+impl<D: Disk> Pass<D> {
+    /// Its number, from 1.
+    pub fn number(&self) -> u16
+        ensures { result ≡ self.now.number }
+    {
+        self.number
+    }
+}

@@ -1,0 +1,55 @@
+//! What each step on the table tells, and how views are cut and joined.
+ghost use Rattle.std.specs.Prelude.{◌+◌, ◌-◌, []};
+ghost use Rattle.cell_lock.specs.Law.{took, grew, gave, sat};
+ghost use Rattle.cell_lock.specs.Views.{stock, passing, gathered, spent};
+
+use crate::board::View;
+use atomic_table::{Join, Play, Split};
+use durable_cell::Durable;
+use outside_io::Disk;
+
+/// Takes the turn, and the durable cell with it.
+pub(crate) struct Take;
+
+impl<D: Disk> Play<Durable<D>, View<D>> for Take {
+    ghost then = { took };
+}
+
+/// Tells the table of the entry by which the history grew.
+pub(crate) struct Grow;
+
+impl<D: Disk> Play<Durable<D>, View<D>> for Grow {
+    ghost then = { grew };
+}
+
+/// Puts the durable cell back, and gives up the turn.
+pub(crate) struct Give;
+
+impl<D: Disk> Play<Durable<D>, View<D>> for Give {
+    ghost then = { gave };
+}
+
+/// A new seat that knows nothing, behind the last number.
+pub(crate) struct Sit;
+
+impl<D: Disk> Play<Durable<D>, View<D>> for Sit {
+    ghost then = { sat };
+}
+
+/// Cuts off a pass with the least number.
+pub(crate) struct Deal;
+
+impl<D> Split<View<D>> for Deal {
+    ghost left = { λ v. stock v.opening (v.first + 1) (v.count - 1) };
+
+    ghost right = { λ v. passing v.opening v.first [] [] };
+}
+
+/// Takes in a seat with the next numbers.
+pub(crate) struct Gather;
+
+impl<D> Join<View<D>> for Gather {
+    ghost both = { gathered };
+
+    ghost spent = { spent };
+}

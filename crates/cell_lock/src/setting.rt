@@ -1,0 +1,135 @@
+//! How a table is laid and its passes are dealt, and how they come together again.
+ghost use Rattle.std.specs.Prelude.{◌≡◌, ◌+◌, ◌-◌, ◌<◌, ◌≤◌, false, [], ◌∷◌, length, IfOk, IfErr};
+ghost use Rattle.cell_lock.specs.Openings.{opening_of};
+ghost use Rattle.cell_lock.specs.Views.{stock, passing, gathered, IsStock};
+ghost use Rattle.cell_lock.specs.Standing.{new_pass, new_passes, AreNumbered};
+ghost use Rattle.cell_lock.specs.Steps.{IsWide, lock_of, gathering};
+
+use crate::board::{Board, Key, Place, Top};
+use crate::pass::Pass;
+use crate::plays::{Deal, Gather};
+use atomic_table::{Refused, Table};
+use cell_base::{List, NoMemory, Shelf};
+use durable_cell::Durable;
+use outside_io::Disk;
+use std::alloc::{AllocFailed, Global};
+use std::snapshot::Snapshot;
+
+// The durable cell alone in a list.
+fn alone<D: Disk>(
+    alloc: Global,
+    durable: Durable<D>,
+) -> Result<Vec<Durable<D>>, (Durable<D>, NoMemory)>
+    ensures ok { IfOk result (λ slots. slots.items ≡ durable ∷ []) }
+    ensures err { IfErr result (λ back. back.0 ≡ durable) }
+{
+    let mut slots = Vec::new(alloc);
+    match slots.push(durable) {
+        Ok(()) => Ok(slots),
+        Err(failed) => {
+            slots.destroy_empty();
+            let AllocFailed { value } = failed;
+            Err((value, NoMemory))
+        }
+    }
+}
+
+/// A table with the durable cell at home, and the seat that has all numbers to give.
+pub(crate) fn lay<D: Disk>(
+    alloc: Global,
+    durable: Durable<D>,
+    shift: u32,
+    passes: u16,
+) -> Result<(Board<D>, Place<D>), (Durable<D>, NoMemory)>
+    requires { durable.history ≡ [] }
+    ensures wide { IfOk result (λ laid. IsWide laid.0.shared.table_id) }
+    ensures key { IfOk result (λ laid.
+        opening_of laid.0.shared.key.durable.value laid.0.shared.key.shift laid.0.shared.key.passes
+        ≡ opening_of durable shift passes) }
+    ensures shift { IfOk result (λ laid. laid.0.shared.key.shift ≡ shift) }
+    ensures table { IfOk result (λ laid. laid.1.table_id ≡ laid.0.shared.table_id) }
+    ensures seat { IfOk result (λ laid. laid.1.me ≡ (stock (opening_of durable shift passes) 1 passes, [])) }
+    ensures back { IfErr result (λ back. back.0 ≡ durable) }
+{
+    let _history = durable.history();
+    let key = Key {
+        durable: Snapshot::of(&durable),
+        shift,
+        passes,
+    };
+    let slots = alone(alloc, durable)?;
+    match Table::new(alloc, &[0, 0], slots, &key) {
+        Ok(laid) => Ok(laid),
+        Err(Refused { mut slots }) => {
+            let durable = slots.pop().unwrap();
+            slots.destroy_empty();
+            Err((durable, NoMemory))
+        }
+    }
+}
+
+// One pass more, with the least number that is left.
+fn deal_one<D: Disk>(top: &Top<D>, seat: &mut Place<D>, number: u16) -> Pass<D>
+    requires table { (seat.old.table_id ≡ top.now.table_id) × IsWide top.now.table_id }
+    requires left { IsStock seat.old.me × (seat.old.me.0.first ≡ number) × (0 < seat.old.me.0.count) }
+    ensures table { seat.new.table_id ≡ seat.old.table_id }
+    ensures left { seat.new.me
+        ≡ (stock seat.old.me.0.opening (seat.old.me.0.first + 1) (seat.old.me.0.count - 1), []) }
+    ensures pass { result ≡ new_pass (lock_of seat.old) number }
+{
+    let seat = top.split_seat::<Deal>(seat);
+    Pass { seat, number }
+}
+
+/// Deals the passes from 1 on.
+pub(crate) fn deal<D: Disk>(
+    top: &Top<D>,
+    seat: &mut Place<D>,
+    dealt: &mut Shelf<Pass<D>>,
+    passes: u16,
+)
+    requires table { (seat.old.table_id ≡ top.now.table_id) × IsWide top.now.table_id }
+    requires left { IsStock seat.old.me × (seat.old.me.0.first ≡ 1) × (seat.old.me.0.count ≡ passes) }
+    requires room { (dealt.old.items ≡ []) × (passes ≤ dealt.old.spare) }
+    ensures { dealt.new.items ≡ new_passes (lock_of seat.old) 1 passes }
+{
+    for k in 0..passes {
+        let pass = deal_one(top, seat, k + 1);
+        dealt.push(pass);
+    }
+}
+
+// The pass's seat, which takes in the one with the numbers behind it.
+fn gather_one<D: Disk>(top: &Top<D>, pass: Pass<D>, host: Place<D>) -> Place<D>
+    requires table { (host.table_id ≡ top.now.table_id) × IsWide top.now.table_id }
+    requires host { (host.me.0.has_turn ≡ false) × (host.me.1 ≡ []) }
+    requires pass { (pass.lock.table ≡ host.table_id) × (pass.number + 1 ≡ host.me.0.first) }
+    ensures table { result.table_id ≡ host.table_id }
+    ensures view { result.me
+        ≡ (gathered (passing pass.lock.opening pass.number pass.seen pass.mine) host.me.0, []) }
+{
+    let Pass {
+        mut seat,
+        number: _,
+    } = pass;
+    top.join_seat::<Gather>(&mut seat, host);
+    seat
+}
+
+/// Takes in all passes, the last one first.
+pub(crate) fn gather<D: Disk>(
+    top: &Top<D>,
+    mut host: Place<D>,
+    mut passes: List<Pass<D>>,
+) -> Place<D>
+    requires table { (host.table_id ≡ top.now.table_id) × IsWide top.now.table_id }
+    requires host { host.me ≡ (gathering host.me.0.opening (length passes + 1) [], []) }
+    requires passes { AreNumbered (lock_of host) 1 passes }
+    ensures table { result.table_id ≡ host.table_id }
+    ensures view { result.me ≡ (gathering host.me.0.opening 1 passes, []) }
+{
+    while let Some(pass) = passes.pop() {
+        host = gather_one(top, pass, host);
+    }
+    host
+}

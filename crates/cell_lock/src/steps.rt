@@ -1,0 +1,137 @@
+//! The steps on the table, at the seat of a pass.
+ghost use Rattle.std.specs.Prelude.{◌≡◌, ◌∷◌, [], length};
+ghost use Rattle.cell_base.specs.Fits.{RequestFits};
+ghost use Rattle.cell_base.specs.Histories.{entries_of, after};
+ghost use Rattle.cell_base.specs.Plans.{plan_step};
+ghost use Rattle.durable_cell.specs.Asked.{Answers};
+ghost use Rattle.cell_lock.specs.Openings.{Fits, first_parts};
+ghost use Rattle.cell_lock.specs.Views.{IsResting, IsActing, IsHolding, Follows, held_of, seen_of, mine_of};
+ghost use Rattle.cell_lock.specs.Steps.{IsWide, IsSame, GrewBy};
+
+use crate::board::{Place, Top};
+use crate::plays::{Give, Grow, Take};
+use cell_base::{Reply, Request};
+use crossbeam_utils::Backoff;
+use durable_cell::AskFault;
+use outside_io::Disk;
+use std::sync::Wait;
+
+/// Waits for the turn. It tries for a while, pausing longer each time, and then sleeps until a turn was given up. No turn is
+/// given up unseen: a sleep is over at once where the word isn't 1 any more, and each turn that is given up ends one sleep.
+pub(crate) fn take_turn<D: Disk, R: Wait>(rt: &R, top: &Top<D>, seat: &mut Place<D>)
+    requires table { (seat.old.table_id ≡ top.now.table_id) × IsWide top.now.table_id }
+    requires rests { IsResting seat.old.me }
+    ensures same { IsSame seat.old seat.new }
+    ensures holds { IsHolding seat.new.me (held_of top.now.key.durable.value seat.new.me) }
+    ensures follows { Follows seat.old.me.0 (held_of top.now.key.durable.value seat.new.me) }
+{
+    let backoff = Backoff::new();
+    for _ in rt.forever() {
+        if top.compare_exchange::<Take>(seat, 0, 0, 1) == 0 {
+            return;
+        }
+        if backoff.is_completed() {
+            top.park(rt, 0, 1);
+        } else {
+            backoff.snooze();
+        }
+    }
+    unreachable!()
+}
+
+// The answer, and the length of the history after it.
+fn decide<D: Disk>(
+    top: &Top<D>,
+    seat: &mut Place<D>,
+    shift: u32,
+    session: u16,
+    request: &Request,
+) -> (Result<Reply, AskFault>, u64)
+    requires table { seat.old.table_id ≡ top.now.table_id }
+    requires holds { IsHolding seat.old.me (held_of top.now.key.durable.value seat.old.me) }
+    requires shift { seat.old.me.0.opening.shift ≡ shift }
+    requires request { RequestFits seat.old.me.0.opening.cell request.now }
+    ensures same { IsSame seat.old seat.new }
+    ensures seat { seat.new.me ≡ (seat.old.me.0, (0, held_of top.now.key.durable.value seat.new.me) ∷ []) }
+    ensures answer { Answers (held_of top.now.key.durable.value seat.old.me) shift session request.now result.0
+        (held_of top.now.key.durable.value seat.new.me) }
+    ensures fits { Fits seat.old.me.0.opening (held_of top.now.key.durable.value seat.new.me) }
+    ensures length { result.1 ≡ length (held_of top.now.key.durable.value seat.new.me).history }
+{
+    let durable = seat.slot_mut(top, 0);
+    let answer = durable.ask(shift, session, request);
+    (answer, durable.len())
+}
+
+// The history is longer by one entry of the pass's own.
+fn grow<D: Disk>(top: &Top<D>, seat: &mut Place<D>, len: u64)
+    requires table { (seat.old.table_id ≡ top.now.table_id) × IsWide top.now.table_id }
+    requires acts { IsActing seat.old.me (held_of top.now.key.durable.value seat.old.me) }
+    requires grew { GrewBy seat.old.me.0 (held_of top.now.key.durable.value seat.old.me).history }
+    requires len { len ≡ length (held_of top.now.key.durable.value seat.old.me).history }
+    ensures same { IsSame seat.old seat.new }
+    ensures holds { IsHolding seat.new.me (held_of top.now.key.durable.value seat.new.me) }
+    ensures held { held_of top.now.key.durable.value seat.new.me ≡ held_of top.now.key.durable.value seat.old.me }
+{
+    top.store::<Grow>(seat, 1, len);
+}
+
+/// Asks, and tells the table of the entry.
+pub(crate) fn ask_held<D: Disk>(
+    top: &Top<D>,
+    seat: &mut Place<D>,
+    shift: u32,
+    session: u16,
+    request: &Request,
+) -> Result<Reply, AskFault>
+    requires table { (seat.old.table_id ≡ top.now.table_id) × IsWide top.now.table_id }
+    requires holds { IsHolding seat.old.me (held_of top.now.key.durable.value seat.old.me) }
+    requires number { (seat.old.me.0.first ≡ session) × (seat.old.me.0.opening.shift ≡ shift) }
+    requires request { RequestFits seat.old.me.0.opening.cell request.now }
+    ensures same { IsSame seat.old seat.new }
+    ensures holds { IsHolding seat.new.me (held_of top.now.key.durable.value seat.new.me) }
+    ensures answer { Answers (held_of top.now.key.durable.value seat.old.me) shift session request.now result
+        (held_of top.now.key.durable.value seat.new.me) }
+{
+    let (answer, len) = decide(top, seat, shift, session, request);
+    match answer {
+        Ok(reply) => {
+            grow(top, seat, len);
+            Ok(reply)
+        }
+        Err(AskFault::Device { at }) => {
+            grow(top, seat, len);
+            Err(AskFault::Device { at })
+        }
+        Err(AskFault::Halted { at }) => Err(AskFault::Halted { at }),
+        Err(AskFault::Full { len }) => Err(AskFault::Full { len }),
+    }
+}
+
+/// The plan's step from the state of the durable cell in hand.
+pub(crate) fn plan_held<D: Disk>(top: &Top<D>, seat: &mut Place<D>) -> Option<Request>
+    requires table { seat.old.table_id ≡ top.now.table_id }
+    requires holds { IsHolding seat.old.me (held_of top.now.key.durable.value seat.old.me) }
+    ensures same { seat.new.table_id ≡ seat.old.table_id }
+    ensures seat { seat.new.me ≡ seat.old.me }
+    ensures step { result ≡ plan_step seat.old.me.0.opening.cell
+        (after seat.old.me.0.opening.cell (first_parts seat.old.me.0.opening)
+        (held_of top.now.key.durable.value seat.old.me).history) }
+{
+    let durable = seat.slot_mut(top, 0);
+    durable.core().plan_step()
+}
+
+/// Puts the durable cell back, gives up the turn, and wakes one that sleeps.
+pub(crate) fn give_turn<D: Disk>(top: &Top<D>, seat: &mut Place<D>)
+    requires table { (seat.old.table_id ≡ top.now.table_id) × IsWide top.now.table_id }
+    requires holds { IsHolding seat.old.me (held_of top.now.key.durable.value seat.old.me) }
+    ensures same { IsSame seat.old seat.new }
+    ensures rests { IsResting seat.new.me }
+    ensures seen { seen_of seat.new.me.0 ≡ (held_of top.now.key.durable.value seat.old.me).history }
+    ensures mine { mine_of seat.new.me.0
+        ≡ entries_of seat.old.me.0.first (held_of top.now.key.durable.value seat.old.me).history }
+{
+    top.store::<Give>(seat, 0, 0);
+    top.wake_one(0);
+}
