@@ -20,4 +20,5 @@ mod top;
 
 pub use dir_files::DirFiles;
 pub use out_sink::OutSink;
-pub use top::{Ended, cell_main};
+pub use cell_words::Ended;
+pub use top::cell_main;

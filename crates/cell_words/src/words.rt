@@ -5,6 +5,7 @@ ghost use Rattle.cell_words.specs.Commands.{task_of};
 ghost use Rattle.cell_words.specs.Words.{task_in};
 
 /// A built command with its words.
+#[derive(Drop)]
 pub enum Command<'a> {
     /// Words that are no built command.
     Nothing,
