@@ -115,10 +115,12 @@ module _ (told : Told) (task : Task) (outcome : Outcome) where
       → AfterJournal told.disk held follows ends → Tells told task outcome
   after_journal cell has accepts now held read follows ends early keeps tells (JournalFailed is rose) =
       let e = early _ is in
-      at told task outcome 7 (status_of e)
-      (rose, has (λ name. ⊤) tt,
-      λ taken. inl (has (λ name. TookAll told.sink (early_text DeviceFault ∷ []) × KeepsGrants told name)
-      (subst (TookAll told.sink) (lines_of e) taken, keeps is)))
+      at told task outcome 7 (status_of e) (
+        rose,
+        has (λ name. ⊤) tt,
+        λ taken. inl (has (λ name. TookAll told.sink (early_text DeviceFault ∷ []) × KeepsGrants told name)
+            (subst (TookAll told.sink) (lines_of e) taken, keeps is)),
+      )
   after_journal cell has accepts now held read follows ends early keeps tells (JournalFaulty why refused is only) =
       at told task outcome 6 (status_of (early _ is) ∙ journal_status why) (
         has (λ name. (h : CellFile) × IsCellFile told.names name h × ((w : JournalFault) × IsRefusedBy told.disk h.cell h.text.items w))

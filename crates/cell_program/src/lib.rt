@@ -18,7 +18,7 @@ mod out_sink;
 mod solo;
 mod top;
 
+pub use cell_words::Ended;
 pub use dir_files::DirFiles;
 pub use out_sink::OutSink;
-pub use cell_words::Ended;
 pub use top::cell_main;

@@ -11,8 +11,8 @@ ghost use Rattle.cell_words.specs.Told.{told_by};
 
 use crate::solo::run_solo;
 use cell_words::{
-    Command, Ended, command_of, finish, run_check, run_drain, run_plan, run_show,
-    run_why, usage_line,
+    Command, Ended, command_of, finish, run_check, run_drain, run_plan, run_show, run_why,
+    usage_line,
 };
 use outside_io::{Disk, Files, Pace, Sink};
 use std::alloc::Global;
