@@ -1,5 +1,6 @@
 -- What the status of an outcome tells, of an outcome that may come.
-use Rattle.std.proofs.Common.{◌≡◌, ◌⊎◌, inl, inr, ℕ, zero, suc, List, Ok, Err, sym, ◌∙◌, ap, subst, refl, ⊤}
+use Rattle.std.proofs.Common.{◌≡◌, ◌⊎◌, inl, inr, ℕ, zero, suc, List, Ok, Err, sym, ap, subst}
+use Rattle.std.specs.Prelude.{⊤}
 use Rattle.outside_io.specs.Causes.{Rose}
 use Rattle.outside_io.specs.Puts.{TookAll}
 use Rattle.cell_words.specs.Commands.{Task, Nothing}
@@ -40,3 +41,9 @@ module _ (told : Told) (task : Task) (outcome : Outcome) where
 
   pub told_at : (status : ℕ) → Tells → outcome.status ≡ status → Fact status
   told_at status tells is = subst Fact is tells
+
+pub status_of : {a b : Outcome} → a ≡ b → a.status ≡ b.status
+status_of is = ap (λ (o : Outcome). o.status) is
+
+pub lines_of : {a b : Outcome} → a ≡ b → a.lines ≡ b.lines
+lines_of is = ap (λ (o : Outcome). o.lines) is

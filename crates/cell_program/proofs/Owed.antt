@@ -2,6 +2,7 @@
 use Rattle.std.proofs.Common.{◌≡◌, inl, inr, ℕ, List, [], ◌∷◌, length, Option, Ok, refl, sym, subst, ap, ◌∙◌}
 use Rattle.std.specs.List.{concat}
 use Rattle.outside_io.specs.Files.{Names}
+use Rattle.outside_io.specs.Puts.{SinkTold}
 use Rattle.cell_base.specs.declared.cells.Cell.{Cell}
 use Rattle.cell_base.specs.declared.requests.Part.{Part}
 use Rattle.cell_base.specs.declared.shifts.Entry.{Entry}
@@ -12,17 +13,18 @@ use Rattle.cell_base.specs.Plans.{plan_of}
 use Rattle.cell_file.specs.Walk.{cell_of}
 use Rattle.shift_file.specs.Walk.{shift_of}
 use Rattle.cell_words.proofs.BlockTexts.{planned_text}
-use Rattle.cell_words.proofs.Owed.{early_in, owed_or_starved}
+use Rattle.cell_words.proofs.Owed.{early_in, is_early, owed_or_starved}
 use Rattle.cell_program.proofs.Fitted.{rounds_drain, rounds_unhalted}
 use Rattle.cell_words.specs.Blocks.{planned_block}
 use Rattle.cell_words.specs.CellEnds.{cell_end}
 use Rattle.cell_words.specs.ShiftEnds.{shift_end}
-use Rattle.cell_words.specs.Commands.{Task, Nothing, Comes, FileRead, IsDone, OwesSolo}
-use Rattle.cell_words.specs.Ends.{MayCome, IsDelivered, Ends}
+use Rattle.cell_words.specs.Commands.{Task, Nothing, Comes, FileRead, IsDone, MayComeOf, OwesSolo}
+use Rattle.cell_words.specs.DiskTold.{IsUntouched}
+use Rattle.cell_words.specs.Ends.{IsDelivered, IsEarly, Ends}
 use Rattle.cell_words.specs.Reading.{EndsEarly, GivenBy}
 use Rattle.cell_program.specs.Runs.{IsSoloRun, lines_of_run}
 use Rattle.cell_words.specs.SoloRecords.{IsSoloRecord}
-use Rattle.cell_words.specs.Texts.{done, usage, usage_text, early_outcome}
+use Rattle.cell_words.specs.Texts.{Outcome, done, usage, usage_text, early_outcome}
 use Rattle.cell_words.specs.Told.{Told, IsMadeOfFile}
 use Rattle.cell_words.specs.declared.early.Early.{Early}
 use Rattle.cell_program.specs.declared.solo.SoloRun.{SoloRun}
@@ -52,34 +54,40 @@ module _ (cell : Cell) (shift : Shift) (run : SoloRun) (is : IsSoloRun cell shif
       }
 
 -- words that are no command
-pub ends_usage : (told : Told) (task : Task) → task ≡ Nothing → (line : List ℕ) (status : ℕ) → line ≡ usage_text
-    → IsDelivered told.sink (record { status = 2; lines = line ∷ [] }) status → Ends (Comes told task) told status
-ends_usage told task none line status is delivered =
-    subst (λ (t : Task). Ends (Comes told t) told status) (sym none)
+pub ends_usage : (told : Told) (task : Task) → Nothing ≡ task → IsUntouched told.disk → (line : List ℕ) (status : ℕ) → line ≡ usage_text
+    → IsDelivered told.sink (record { status = 2; lines = line ∷ [] }) status → Ends (Comes told task) told.sink status
+ends_usage told task none still line status is delivered =
+    subst (λ (t : Task). Ends (Comes told t) told.sink status) none
     (record {
       outcome = usage;
-      comes = refl;
+      comes = (still, refl);
       delivered = subst (λ (l : List ℕ). IsDelivered told.sink (record { status = 2; lines = l ∷ [] }) status) is delivered;
     })
+
+-- a command that needs no disk
+pub ends_untouched : (still : Type 0) (owes : Outcome → Type 0) (sink : SinkTold) (status : ℕ) → still
+    → Ends (MayComeOf owes) sink status → Ends (λ outcome. still × MayComeOf owes outcome) sink status
+ends_untouched still owes sink status is ends =
+    record { outcome = ends.outcome; comes = (is, ends.comes); delivered = ends.delivered }
 
 module _ (names : Option Names) (faults faults_after : ℕ) (cell_name shift_name : List ℕ) where
   -- the cell was not read
   pub ends_at_cell : (early : Early) → EndsEarly names cell_name (GivenBy cell_of) cell_end faults faults_after early
-      → MayCome (OwesSolo names faults faults_after cell_name shift_name) (early_outcome early)
+      → MayComeOf (OwesSolo names faults faults_after cell_name shift_name) (early_outcome early)
   unfolding OwesSolo
   ends_at_cell early ends =
       owed_or_starved (OwesSolo names faults faults_after cell_name shift_name) early
-      (early_in names faults faults_after cell_name (GivenBy cell_of) cell_end _ early ends)
+      (early_in names faults faults_after cell_name (GivenBy cell_of) cell_end _ _ early (is_early early) ends)
 
   module _ (cell : Cell) (made : IsMadeOfFile names cell_name cell_of (Ok cell)) where
     -- the cell was read, and the shift was not
     pub ends_at_shift : (early : Early) → EndsEarly names shift_name (GivenBy (shift_of cell)) shift_end faults faults_after early
-        → MayCome (OwesSolo names faults faults_after cell_name shift_name) (early_outcome early)
+        → MayComeOf (OwesSolo names faults faults_after cell_name shift_name) (early_outcome early)
     unfolding OwesSolo
     ends_at_shift early ends =
         owed_or_starved (OwesSolo names faults faults_after cell_name shift_name) early
         (elim (early_in names faults faults_after shift_name (GivenBy (shift_of cell)) shift_end
-        (λ shift. IsDone cell shift (early_outcome early)) early ends) [
+        (λ shift. IsDone cell shift (early_outcome early)) (IsEarly (early_outcome early)) early (is_early early) ends) [
           | inl is ↦ inl is
           | inr owed ↦ inr (FileRead cell made owed)
         ])

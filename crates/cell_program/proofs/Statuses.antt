@@ -1,22 +1,20 @@
 -- What the status of an end tells, by cases of how its outcome came about.
-use Rattle.std.proofs.Common.{◌≡◌, ◌⊎◌, inl, inr, ℕ, ◌+◌, List, Ok, Err, [], ◌∷◌, ◌++◌, length, take, sym, ◌∙◌, ap, subst, refl, arith}
-use Rattle.std.proofs.Math.Seq.{take-append-add}
-use Rattle.outside_io.specs.Causes.{Rose}
-use Rattle.outside_io.specs.Puts.{TookAll, TookSome}
-use Rattle.outside_io.specs.PutLaws.{some_is_prefix}
+use Rattle.std.specs.Prelude.{IfSome, ⊤}
+use Rattle.std.proofs.Common.{◌≡◌, ◌⊎◌, inl, inr, ℕ, List, Result, Ok, Err, [], ◌∷◌, ◌∙◌, subst, refl}
+use Rattle.outside_io.specs.Puts.{TookAll}
 use Rattle.cell_base.specs.declared.cells.Cell.{Cell}
+use Rattle.cell_base.specs.declared.requests.Request.{Request}
+use Rattle.cell_base.specs.declared.shifts.Grant.{Grant}
+use Rattle.cell_base.specs.Histories.{replay}
 use Rattle.cell_file.specs.Walk.{cell_of}
 use Rattle.shift_file.specs.Walk.{shift_of}
+use Rattle.shift_recovery.specs.declared.faults.JournalFault.{JournalFault}
+use Rattle.shift_recovery.specs.declared.faults.JournalFault.TheVariants.{NotAJournal, OtherCell, Damaged, Long}
 use Rattle.cell_file.specs.declared.faults.CellFault.{CellFault}
 use Rattle.cell_file.specs.declared.faults.CellFault.TheVariants.{NotToml, WrongKey, WrongKind, BadName, BadNumber, Repeated, UnknownName, TooMany, Empty, MixedOrders, TooManyUnits, Memory}
 use Rattle.shift_file.specs.declared.faults.ShiftFault.{ShiftFault}
 use Rattle.shift_file.specs.declared.faults.ShiftFault.TheVariants.{NotToml as ShiftNotToml, WrongKey as ShiftWrongKey, WrongKind as ShiftWrongKind, BadStep, BadNumber as ShiftBadNumber, UnknownName as ShiftUnknownName, Empty as ShiftEmpty, TooMany as ShiftTooMany, TooLong, TooManyAsks, Memory as ShiftMemory}
-use Rattle.cell_words.specs.CellEnds.{cell_end}
-use Rattle.cell_words.specs.ShiftEnds.{shift_end}
-use Rattle.cell_words.specs.Commands.{Task, Nothing, Solo, Check, Show, Comes, AreThere, AfterFile, OwesCheck, OwesShow, OwesSolo, FileFailed, FileRefused, FileRead, IsDone, files_of}
-use Rattle.cell_words.specs.Reading.{GivenBy}
-use Rattle.cell_words.specs.RecordEnds.{record_end, record_read}
-use Rattle.cell_words.specs.Telling.{IsAccepted, IsCellRefused, IsDenied, IsFinished, IsPrinted, IsSecondRefused, ReadsAll}
+use Rattle.step_text.specs.Steps.{step_of}
 use Rattle.record_text.specs.BadLines.{IsRecordOf}
 use Rattle.record_text.specs.declared.blocks.Block.{Block}
 use Rattle.record_text.specs.declared.record.RecordFault.TheVariants.{Bad, Memory as RecordMemory}
@@ -24,20 +22,27 @@ use Rattle.refusal_reason.specs.Shown.{show_lines}
 use Rattle.shift_checker.specs.Judging.{judge}
 use Rattle.shift_checker.specs.declared.verdict.Verdict.{Verdict}
 use Rattle.shift_checker.specs.declared.verdict.Verdict.TheVariants.{Yes, No}
-use Rattle.cell_words.specs.Ends.{IsOwed, MemoryWanted, Whole, SinkFailed, Ends, PutsLines}
-use Rattle.cell_words.specs.Texts.{Outcome, done, early_outcome, verdict_outcome}
+use Rattle.cell_words.specs.CellEnds.{cell_end}
+use Rattle.cell_words.specs.JournalEnds.{journal_end}
+use Rattle.cell_words.specs.ShiftEnds.{shift_end}
+use Rattle.cell_words.specs.Commands.{Task, Nothing, Solo, Plan, Drain, Why, Check, Show, AfterFile, AfterJournal, AfterStep, Comes, FileFailed, FileRefused, FileRead, IsBeforeDisk, IsBeforeSteps, IsDone, IsPlanned, JournalFailed, JournalFaulty, JournalOpened, NoStep, OwesCheck, OwesDrain, OwesPlan, OwesShow, OwesSolo, OwesWhy, StepRead}
+use Rattle.cell_words.specs.DiskTold.{DiskTold, IsOnlyRead}
+use Rattle.cell_words.specs.Drains.{IsDrained, IsHalted}
+use Rattle.cell_words.specs.Ends.{IsEarly, IsOwed, MemoryWanted}
+use Rattle.cell_words.specs.Journals.{IsOpenedWith, IsRefusedBy, why_lines}
+use Rattle.cell_words.specs.Reading.{GivenBy, IsCellFile, cell_file_read}
+use Rattle.cell_words.specs.RecordEnds.{record_end, record_read}
+use Rattle.cell_words.specs.Serving.{AcceptsJournal, IsAccepted}
+use Rattle.cell_words.specs.Telling.{HasJournal, IsCellRefused, KeepsGrants}
+use Rattle.cell_words.specs.Texts.{Outcome, done, early_outcome, early_text, verdict_outcome}
 use Rattle.cell_words.specs.Told.{Told, HoldsOf, IsMadeOfFile}
-
--- what each status of an outcome tells
-record Tells (told : Told) (task : Task) (outcome : Outcome) : Type 0 where
-  pub done : outcome.status ≡ 0 → TookAll told.sink outcome.lines → IsPrinted told task
-  pub none : outcome.status ≡ 2 → task ≡ Nothing
-  pub denied : outcome.status ≡ 1 → TookAll told.sink outcome.lines → IsDenied told task
-  pub unread : outcome.status ≡ 3 → Rose told.file_faults told.file_faults_after
-  pub cell : outcome.status ≡ 4 → IsCellRefused told task
-  pub second : outcome.status ≡ 5 → IsSecondRefused told task
-  pub never : outcome.status ≡ 8 → ⊥
-  pub complete : IsAccepted told task → (outcome.status ≡ 3 → ⊥) → IsFinished task outcome.status ⊎ (outcome.status ≡ 9)
+use Rattle.cell_words.specs.declared.early.Early.{Early}
+use Rattle.cell_words.specs.declared.early.Early.TheVariants.{DeviceFault, StepRefused, Memory as Starved}
+use Rattle.cell_words.specs.declared.reading.CellFile.{CellFile}
+use Rattle.cell_words.proofs.Disks.{read_untouched}
+use Rattle.cell_words.proofs.Cuts.{cell_alone}
+use Rattle.cell_program.proofs.Facts.{Tells, at, lines_of, status_of}
+use Rattle.cell_program.proofs.Standing.{accepted_opens, keeps_by_read, keeps_by_still}
 
 -- a fault of a file has its status, and want of memory its own
 cell_status : (fault : CellFault) → ((early_outcome (cell_end fault)).status ≡ 4) ⊎ ((early_outcome (cell_end fault)).status ≡ 9)
@@ -67,278 +72,211 @@ shift_status (TooLong count) = inl refl
 shift_status (TooManyAsks count) = inl refl
 shift_status ShiftMemory = inr refl
 
+journal_status : (why : JournalFault) → (early_outcome (journal_end why)).status ≡ 6
+journal_status NotAJournal = refl
+journal_status (OtherCell at) = refl
+journal_status (Damaged at) = refl
+journal_status (Long len) = refl
+
 module _ (told : Told) (task : Task) (outcome : Outcome) where
-  -- want of memory, and a file that was not read
-  starved : outcome.status ≡ 9 → Tells told task outcome
-  starved at = record {
-    done = λ is taken. absurd (omega (arith, at, is));
-    denied = λ is taken. absurd (omega (arith, at, is));
-    none = λ is. absurd (omega (arith, at, is));
-    unread = λ is. absurd (omega (arith, at, is));
-    cell = λ is. absurd (omega (arith, at, is));
-    second = λ is. absurd (omega (arith, at, is));
-    never = λ is. omega (arith, at, is);
-    complete = λ accepted read. inr at;
-  }
+  -- an end at a file, and what its refusal tells
+  abbrev Refusal : Type 0 → Type 0
+  Refusal fact = fact × (IsAccepted told task → ⊥)
 
-  unread : outcome.status ≡ 3 → Rose told.file_faults told.file_faults_after → Tells told task outcome
-  unread at rose = record {
-    done = λ is taken. absurd (omega (arith, at, is));
-    denied = λ is taken. absurd (omega (arith, at, is));
-    none = λ is. absurd (omega (arith, at, is));
-    unread = λ is. rose;
-    cell = λ is. absurd (omega (arith, at, is));
-    second = λ is. absurd (omega (arith, at, is));
-    never = λ is. omega (arith, at, is);
-    complete = λ accepted read. absurd (read at);
-  }
+  starved : IsEarly outcome Starved → IsOnlyRead told.disk → Tells told task outcome
+  starved is read = at told task outcome 9 (status_of is) read
 
-  -- a refused file
-  cell_refused : (outcome.status ≡ 4) ⊎ (outcome.status ≡ 9) → IsCellRefused told task → (IsAccepted told task → ⊥)
+  cell_refused : (fault : CellFault) → IsEarly outcome (cell_end fault) → IsOnlyRead told.disk → Refusal (IsCellRefused told task)
       → Tells told task outcome
-  cell_refused (inr at) refused unaccepted = starved at
-  cell_refused (inl at) refused unaccepted = record {
-    done = λ is taken. absurd (omega (arith, at, is));
-    denied = λ is taken. absurd (omega (arith, at, is));
-    none = λ is. absurd (omega (arith, at, is));
-    unread = λ is. absurd (omega (arith, at, is));
-    cell = λ is. refused;
-    second = λ is. absurd (omega (arith, at, is));
-    never = λ is. omega (arith, at, is);
-    complete = λ accepted read. absurd (unaccepted accepted);
-  }
+  cell_refused fault is read refused = by_status (cell_status fault)
+    where
+      by_status : ((early_outcome (cell_end fault)).status ≡ 4) ⊎ ((early_outcome (cell_end fault)).status ≡ 9) → Tells told task outcome
+      by_status (inl four) = at told task outcome 4 (status_of is ∙ four) (refused.0, refused.1, read)
+      by_status (inr nine) = at told task outcome 9 (status_of is ∙ nine) read
 
-  second_refused : (outcome.status ≡ 5) ⊎ (outcome.status ≡ 9) → IsSecondRefused told task → (IsAccepted told task → ⊥)
-      → Tells told task outcome
-  second_refused (inr at) refused unaccepted = starved at
-  second_refused (inl at) refused unaccepted = record {
-    done = λ is taken. absurd (omega (arith, at, is));
-    denied = λ is taken. absurd (omega (arith, at, is));
-    none = λ is. absurd (omega (arith, at, is));
-    unread = λ is. absurd (omega (arith, at, is));
-    cell = λ is. absurd (omega (arith, at, is));
-    second = λ is. refused;
-    never = λ is. omega (arith, at, is);
-    complete = λ accepted read. absurd (unaccepted accepted);
-  }
+  -- a cell is read first
+  after_cell : {V : Type 0} (cell : List ℕ) (reads : List ℕ → Result V CellFault → Type 0) (follows : V → Type 0) (ends : Early → Type 0)
+      → ((e : Early) → ends e → IsEarly outcome e × IsOnlyRead told.disk)
+      → ((fault : CellFault) → HoldsOf told.names cell (λ bytes. reads bytes (Err fault)) → Refusal (IsCellRefused told task))
+      → ((value : V) → HoldsOf told.names cell (λ bytes. reads bytes (Ok value)) → follows value → Tells told task outcome)
+      → AfterFile told.names told.file_faults told.file_faults_after cell reads cell_end follows ends → Tells told task outcome
+  after_cell cell reads follows ends early refused tells (FileFailed is rose) =
+      let e = early _ is in at told task outcome 3 (status_of e.0) (rose, e.1)
+  after_cell cell reads follows ends early refused tells (FileRefused fault made is) =
+      let e = early _ is in cell_refused fault e.0 e.1 (refused fault made)
+  after_cell cell reads follows ends early refused tells (FileRead value made is) = tells value made is
 
-  printed : outcome.status ≡ 0 → (TookAll told.sink outcome.lines → IsPrinted told task) → IsFinished task outcome.status
-      → Tells told task outcome
-  printed at prints finished = record {
-    done = λ is taken. prints taken;
-    denied = λ is taken. absurd (omega (arith, at, is));
-    none = λ is. absurd (omega (arith, at, is));
-    unread = λ is. absurd (omega (arith, at, is));
-    cell = λ is. absurd (omega (arith, at, is));
-    second = λ is. absurd (omega (arith, at, is));
-    never = λ is. omega (arith, at, is);
-    complete = λ accepted read. inl finished;
-  }
+  -- then a journal is opened, of a command that has one
+  after_journal : (cell : List ℕ) → ((P : List ℕ → Type 0) → P cell → HasJournal task P) → (IsAccepted told task → AcceptsJournal told cell)
+      → IfSome told.disk.reads told.disk.leaves
+      → (held : CellFile) → IsCellFile told.names cell held → (follows : List Grant → Type 0) (ends : Early → Type 0)
+      → ((e : Early) → ends e → IsEarly outcome e) → (ends DeviceFault → KeepsGrants told cell)
+      → ((grants : List Grant) → IsOpenedWith told.disk held.cell held.text.items grants → follows grants → Tells told task outcome)
+      → AfterJournal told.disk held follows ends → Tells told task outcome
+  after_journal cell has accepts now held read follows ends early keeps tells (JournalFailed is rose) =
+      let e = early _ is in
+      at told task outcome 7 (status_of e) (
+        rose,
+        has (λ name. ⊤) tt,
+        λ taken. inl (has (λ name. TookAll told.sink (early_text DeviceFault ∷ []) × KeepsGrants told name)
+            (subst (TookAll told.sink) (lines_of e) taken, keeps is)),
+      )
+  after_journal cell has accepts now held read follows ends early keeps tells (JournalFaulty why refused is only) =
+      at told task outcome 6 (status_of (early _ is) ∙ journal_status why) (
+        has (λ name. (h : CellFile) × IsCellFile told.names name h × ((w : JournalFault) × IsRefusedBy told.disk h.cell h.text.items w))
+            (held, read, (why, refused)),
+        λ accepted. let journal = accepts accepted held read in
+            accepted_opens told.disk now held.text.items journal.0 journal.1 held.cell journal.2 journal.3 why refused,
+        only,
+      )
+  after_journal cell has accepts now held read follows ends early keeps tells (JournalOpened grants opened is) = tells grants opened is
 
-  not_right : outcome.status ≡ 1 → (TookAll told.sink outcome.lines → IsDenied told task) → IsFinished task outcome.status
-      → Tells told task outcome
-  not_right at prints finished = record {
-    done = λ is taken. absurd (omega (arith, at, is));
-    denied = λ is taken. prints taken;
-    none = λ is. absurd (omega (arith, at, is));
-    unread = λ is. absurd (omega (arith, at, is));
-    cell = λ is. absurd (omega (arith, at, is));
-    second = λ is. absurd (omega (arith, at, is));
-    never = λ is. omega (arith, at, is);
-    complete = λ accepted read. inl finished;
-  }
+-- the words of a command that has a journal
+plan_has : (cell journal : List ℕ) (P : List ℕ → Type 0) → P cell → HasJournal (Plan cell journal) P
+plan_has cell journal P is = is
 
-  no_command : outcome.status ≡ 2 → task ≡ Nothing → (IsAccepted told task → ⊥) → Tells told task outcome
-  no_command at is_none unaccepted = record {
-    done = λ is taken. absurd (omega (arith, at, is));
-    denied = λ is taken. absurd (omega (arith, at, is));
-    none = λ is. is_none;
-    unread = λ is. absurd (omega (arith, at, is));
-    cell = λ is. absurd (omega (arith, at, is));
-    second = λ is. absurd (omega (arith, at, is));
-    never = λ is. omega (arith, at, is);
-    complete = λ accepted read. absurd (unaccepted accepted);
-  }
+drain_has : (cell journal : List ℕ) (P : List ℕ → Type 0) → P cell → HasJournal (Drain cell journal) P
+drain_has cell journal P is = is
 
-pub status_of : {a b : Outcome} → a ≡ b → a.status ≡ b.status
-status_of is = ap (λ (o : Outcome). o.status) is
+why_has : (cell journal step : List ℕ) (P : List ℕ → Type 0) → P cell → HasJournal (Why cell journal step) P
+why_has cell journal step P is = is
 
-pub lines_of : {a b : Outcome} → a ≡ b → a.lines ≡ b.lines
-lines_of is = ap (λ (o : Outcome). o.lines) is
+-- ---- `solo`, `check` and `show`
 
--- the status of an outcome that is one of these two
-one_of : {a b : Outcome} (m n : ℕ) → a ≡ b → (b.status ≡ m) ⊎ (b.status ≡ n) → (a.status ≡ m) ⊎ (a.status ≡ n)
-one_of m n is (inl at) = inl (status_of is ∙ at)
-one_of m n is (inr at) = inr (status_of is ∙ at)
-
-module _ (told : Told) (task : Task) (outcome : Outcome) (cell : List ℕ) where
-  -- the cell that each command reads first
-  after_cell : (follows : Cell → Type 0) → ((fault : CellFault) → IsMadeOfFile told.names cell cell_of (Err fault) → IsCellRefused told task)
-      → ((fault : CellFault) → IsMadeOfFile told.names cell cell_of (Err fault) → IsAccepted told task → ⊥)
-      → ((c : Cell) → IsMadeOfFile told.names cell cell_of (Ok c) → follows c → Tells told task outcome)
-      → AfterFile told.names told.file_faults told.file_faults_after cell (GivenBy cell_of) cell_end follows outcome
-      → Tells told task outcome
-  after_cell follows refused unaccepted tells (FileFailed is rose) = unread told task outcome (status_of is) rose
-  after_cell follows refused unaccepted tells (FileRefused fault made is) =
-      cell_refused told task outcome (one_of 4 9 is (cell_status fault)) (refused fault made) (unaccepted fault made)
-  after_cell follows refused unaccepted tells (FileRead c made is) = tells c made is
-
--- ---- `solo`
-
-module _ (told : Told) (cell shift : List ℕ) (outcome : Outcome) (c : Cell) (made : IsMadeOfFile told.names cell cell_of (Ok c)) where
+module _ (told : Told) (cell shift : List ℕ) (outcome : Outcome) (read : IsOnlyRead told.disk) (c : Cell)
+    (made : IsMadeOfFile told.names cell cell_of (Ok c)) where
   solo_tells : AfterFile told.names told.file_faults told.file_faults_after shift (GivenBy (shift_of c)) shift_end
-      (λ s. IsDone c s outcome) outcome → Tells told (Solo cell shift) outcome
-  solo_tells (FileFailed is rose) = unread told (Solo cell shift) outcome (status_of is) rose
-  solo_tells (FileRefused fault refused is) =
-      second_refused told (Solo cell shift) outcome (one_of 5 9 is (shift_status fault)) (c, made, (fault, refused))
-      (λ accepted. accepted.1 c made fault refused)
-  solo_tells (FileRead s read solo) =
-      printed told (Solo cell shift) outcome (status_of solo.2)
-      (λ taken. (c, made, (s, read, (solo.0, solo.1, subst (TookAll told.sink) (lines_of solo.2) taken)))) (status_of solo.2)
+      (λ s. IsDone c s outcome) (IsEarly outcome) → Tells told (Solo cell shift) outcome
+  solo_tells (FileFailed is rose) = at told (Solo cell shift) outcome 3 (status_of is) (rose, read)
+  solo_tells (FileRefused fault refused is) = by_status (shift_status fault)
+    where
+      by_status : ((early_outcome (shift_end fault)).status ≡ 5) ⊎ ((early_outcome (shift_end fault)).status ≡ 9)
+          → Tells told (Solo cell shift) outcome
+      by_status (inl five) = at told (Solo cell shift) outcome 5 (status_of is ∙ five)
+          ((c, made, (fault, refused)), λ accepted. accepted.1 c made fault refused, read)
+      by_status (inr nine) = at told (Solo cell shift) outcome 9 (status_of is ∙ nine) read
+  solo_tells (FileRead s given solo) =
+      at told (Solo cell shift) outcome 0 (status_of solo.2)
+      (λ taken. (c, made, (s, given, (solo.0, solo.1, subst (TookAll told.sink) (lines_of solo.2) taken))), refl)
 
--- ---- `check`
-
-module _ (told : Told) (cell record_file : List ℕ) (outcome : Outcome) (c : Cell) (made : IsMadeOfFile told.names cell cell_of (Ok c)) where
+module _ (told : Told) (cell record_file : List ℕ) (outcome : Outcome) (only : IsOnlyRead told.disk) (c : Cell)
+    (made : IsMadeOfFile told.names cell cell_of (Ok c)) where
   abbrev check : Task
   check = Check cell record_file
 
   judged : (blocks : List Block) → HoldsOf told.names record_file (λ bytes. IsRecordOf c bytes blocks) → (verdict : Verdict)
       → judge c blocks ≡ verdict → outcome ≡ verdict_outcome verdict → Tells told check outcome
   judged blocks read Yes right is =
-      printed told check outcome (status_of is)
-      (λ taken. (c, made, (blocks, read, (right, subst (TookAll told.sink) (lines_of is) taken)))) (inl (status_of is))
+      at told check outcome 0 (status_of is)
+      (λ taken. (c, made, (blocks, read, (right, subst (TookAll told.sink) (lines_of is) taken))), inl refl)
   judged blocks read (No line why) wrong is =
-      not_right told check outcome (status_of is)
-      (λ taken. (c, made, (blocks, read, (line, why, wrong, subst (TookAll told.sink) (lines_of is) taken)))) (inr (status_of is))
+      at told check outcome 1 (status_of is)
+      (λ taken. (c, made, (blocks, read, (line, why, wrong, subst (TookAll told.sink) (lines_of is) taken))), inr refl)
 
   check_tells : AfterFile told.names told.file_faults told.file_faults_after record_file (record_read c) record_end
-      (λ blocks. outcome ≡ verdict_outcome (judge c blocks)) outcome → Tells told check outcome
-  check_tells (FileFailed is rose) = unread told check outcome (status_of is) rose
+      (λ blocks. outcome ≡ verdict_outcome (judge c blocks)) (IsEarly outcome) → Tells told check outcome
+  check_tells (FileFailed is rose) = at told check outcome 3 (status_of is) (rose, only)
   check_tells (FileRefused (Bad line) refused is) =
-      second_refused told check outcome (inl (status_of is)) (c, made, (line, refused)) (λ accepted. accepted.1 c made line refused)
-  check_tells (FileRefused RecordMemory refused is) = starved told check outcome (status_of is)
+      at told check outcome 5 (status_of is) ((c, made, (line, refused)), λ accepted. accepted.1 c made line refused, only)
+  check_tells (FileRefused RecordMemory refused is) = at told check outcome 9 (status_of is) only
   check_tells (FileRead blocks read is) = judged blocks read (judge c blocks) refl is
-
--- ---- `show`
 
 show_tells : (told : Told) (cell : List ℕ) (outcome : Outcome) (c : Cell) → IsMadeOfFile told.names cell cell_of (Ok c)
     → outcome ≡ done (show_lines c) → Tells told (Show cell) outcome
 show_tells told cell outcome c made is =
-    printed told (Show cell) outcome (status_of is) (λ taken. (c, made, subst (TookAll told.sink) (lines_of is) taken)) (status_of is)
+    at told (Show cell) outcome 0 (status_of is) (λ taken. (c, made, subst (TookAll told.sink) (lines_of is) taken), refl)
+
+-- ---- the commands on a journal
+
+module _ (told : Told) (now : IfSome told.disk.reads told.disk.leaves) (cell journal : List ℕ) (outcome : Outcome) (held : CellFile)
+    (read : IsCellFile told.names cell held) where
+  plan_tells : IsOnlyRead told.disk → AfterJournal told.disk held (λ grants. IsPlanned held.cell grants outcome) (IsEarly outcome)
+      → Tells told (Plan cell journal) outcome
+  plan_tells only =
+      after_journal told (Plan cell journal) outcome cell (plan_has cell journal) (λ accepted. accepted.1) now held read
+      (λ grants. IsPlanned held.cell grants outcome) (IsEarly outcome)
+      (λ e is. is) (λ is. keeps_by_read told cell now only) (λ grants opened planned.
+      at told (Plan cell journal) outcome 0 (status_of planned.2)
+      (λ taken. (held, read, (grants, opened, (planned.0, planned.1, subst (TookAll told.sink) (lines_of planned.2) taken))), refl))
+
+  module _ (step : List ℕ) (only : IsOnlyRead told.disk) where
+    abbrev why : Task
+    why = Why cell journal step
+
+    answered : (request : Request) → step_of held.cell step ≡ Ok request
+        → AfterJournal told.disk held (λ grants. outcome ≡ done (why_lines held.cell (replay held.cell grants) request)) (IsEarly outcome)
+        → Tells told why outcome
+    answered request is_step =
+        after_journal told why outcome cell (why_has cell journal step) (λ accepted. accepted.2) now held read
+        (λ grants. outcome ≡ done (why_lines held.cell (replay held.cell grants) request)) (IsEarly outcome)
+        (λ e is. is) (λ is. keeps_by_read told cell now only) (λ grants opened is.
+        at told why outcome 0 (status_of is)
+        (λ taken. (held, read, (grants, opened, (request, is_step, subst (TookAll told.sink) (lines_of is) taken))), refl))
+
+    why_tells : AfterStep held.cell step (λ request. AfterJournal told.disk held
+        (λ grants. outcome ≡ done (why_lines held.cell (replay held.cell grants) request)) (IsEarly outcome)) (IsBeforeDisk told.disk outcome)
+        → Tells told why outcome
+    why_tells (NoStep fault fails is) =
+        let alone = cell_alone told.names cell held read in
+        at told why outcome 5 (status_of is.0)
+        ((held.cell, alone, (fault, fails)), λ accepted. accepted.1 held.cell alone fault fails, only)
+    why_tells (StepRead request is_step follows) = answered request is_step follows
+
+  drained_tells : (grants : List Grant) → IsOpenedWith told.disk held.cell held.text.items grants
+      → IsDrained told.disk held.cell held.text.items grants outcome ⊎ IsHalted told.disk held.cell held.text.items grants outcome
+      → Tells told (Drain cell journal) outcome
+  drained_tells grants opened (inl drained) =
+      at told (Drain cell journal) outcome 0 (status_of drained.printed)
+      (λ taken. (held, read, (grants, opened, (outcome, drained, taken))), refl)
+  drained_tells grants opened (inr halted) =
+      at told (Drain cell journal) outcome 7 (status_of halted.printed)
+      (halted.cause, tt, λ taken. inr (held, read, (grants, opened, (outcome, halted, taken))))
+
+  drain_tells : AfterJournal told.disk held (λ grants. IsDrained told.disk held.cell held.text.items grants outcome
+      ⊎ IsHalted told.disk held.cell held.text.items grants outcome) (IsBeforeSteps told.disk held.text.items outcome)
+      → Tells told (Drain cell journal) outcome
+  drain_tells =
+      after_journal told (Drain cell journal) outcome cell (drain_has cell journal) (λ accepted. accepted.1) now held read
+      (λ grants. IsDrained told.disk held.cell held.text.items grants outcome ⊎ IsHalted told.disk held.cell held.text.items grants outcome)
+      (IsBeforeSteps told.disk held.text.items outcome)
+      (λ e is. is.0) (λ is. keeps_by_still told cell now held read is.1) drained_tells
 
 -- ---- every command
 
-comes_tells : (told : Told) (task : Task) (outcome : Outcome) → Comes told task outcome → Tells told task outcome
-unfolding OwesSolo OwesCheck OwesShow
-comes_tells told Nothing outcome is = no_command told Nothing outcome (status_of is) refl (λ none. none)
-comes_tells told (Solo cell shift) outcome (MemoryWanted is) = starved told (Solo cell shift) outcome (status_of is)
-comes_tells told (Solo cell shift) outcome (IsOwed owed) =
-    after_cell told (Solo cell shift) outcome cell _ (λ fault made. (fault, made)) (λ fault made accepted. accepted.0 fault made)
-    (solo_tells told cell shift outcome) owed
-comes_tells told (Check cell record_file) outcome (MemoryWanted is) = starved told (Check cell record_file) outcome (status_of is)
-comes_tells told (Check cell record_file) outcome (IsOwed owed) =
-    after_cell told (Check cell record_file) outcome cell _ (λ fault made. (fault, made)) (λ fault made accepted. accepted.0 fault made)
-    (check_tells told cell record_file outcome) owed
-comes_tells told (Show cell) outcome (MemoryWanted is) = starved told (Show cell) outcome (status_of is)
-comes_tells told (Show cell) outcome (IsOwed owed) =
-    after_cell told (Show cell) outcome cell _ (λ fault made. (fault, made)) (λ fault made accepted. accepted fault made)
-    (show_tells told cell outcome) owed
-
-module _ (told : Told) (task : Task) (status : ℕ) (ends : Ends (Comes told task) told status) where
-  tells : Tells told task ends.outcome
-  tells = comes_tells told task ends.outcome ends.comes
-
-  pub ends_done : status ≡ 0 → IsPrinted told task
-  ends_done is = elim ends.delivered [
-    | Whole same taken kept ↦ tells.done (sym same ∙ is) taken
-    | SinkFailed eight taken rose ↦ absurd (omega (arith, eight, is))
-  ]
-
-  pub ends_denied : status ≡ 1 → IsDenied told task
-  ends_denied is = elim ends.delivered [
-    | Whole same taken kept ↦ tells.denied (sym same ∙ is) taken
-    | SinkFailed eight taken rose ↦ absurd (omega (arith, eight, is))
-  ]
-
-  pub ends_no_command : status ≡ 2 → task ≡ Nothing
-  ends_no_command is = elim ends.delivered [
-    | Whole same taken kept ↦ tells.none (sym same ∙ is)
-    | SinkFailed eight taken rose ↦ absurd (omega (arith, eight, is))
-  ]
-
-  pub ends_read_fault : status ≡ 3 → Rose told.file_faults told.file_faults_after
-  ends_read_fault is = elim ends.delivered [
-    | Whole same taken kept ↦ tells.unread (sym same ∙ is)
-    | SinkFailed eight taken rose ↦ absurd (omega (arith, eight, is))
-  ]
-
-  pub ends_cell_refused : status ≡ 4 → IsCellRefused told task
-  ends_cell_refused is = elim ends.delivered [
-    | Whole same taken kept ↦ tells.cell (sym same ∙ is)
-    | SinkFailed eight taken rose ↦ absurd (omega (arith, eight, is))
-  ]
-
-  pub ends_second_refused : status ≡ 5 → IsSecondRefused told task
-  ends_second_refused is = elim ends.delivered [
-    | Whole same taken kept ↦ tells.second (sym same ∙ is)
-    | SinkFailed eight taken rose ↦ absurd (omega (arith, eight, is))
-  ]
-
-  pub ends_sink_fault : status ≡ 8 → Rose told.sink.faults told.sink.faults_after
-  ends_sink_fault is = elim ends.delivered [
-    | Whole same taken kept ↦ absurd (tells.never (sym same ∙ is))
-    | SinkFailed eight taken rose ↦ rose
-  ]
-
-  -- the lines that were put are all of an outcome's, or its first ones
-  pub ends_lines : PutsLines (Comes told task) told.sink status
-  ends_lines = elim ends.delivered [
-    | Whole same took kept ↦ record {
-      outcome = ends.outcome;
-      comes = ends.comes;
-      each = λ other. (same, took.put);
-      first = λ is. absurd (tells.never (sym same ∙ is));
-      part = λ is. absurd (tells.never (sym same ∙ is));
-    }
-    | SinkFailed eight took rose ↦ record {
-      outcome = ends.outcome;
-      comes = ends.comes;
-      each = λ other. absurd (other eight);
-      first = λ is. (length took.whole + 1, subst told.sink.puts (sym (first_lines took)) took.put);
-      part = λ is. some_is_prefix told.sink ends.outcome.lines took;
-    }
-  ]
-    where
-      first_lines : (took : TookSome told.sink ends.outcome.lines) → take (length took.whole + 1) ends.outcome.lines ≡ took.whole ++ took.last ∷ []
-      first_lines took =
-          ap (take (length took.whole + 1)) took.parted ∙ take-append-add took.whole (took.last ∷ took.rest) 1
-
-  -- nothing is refused, and nothing outside fails
-  pub ends_complete : IsAccepted told task → (status ≡ 3 → ⊥) → (Rose told.sink.faults told.sink.faults_after → ⊥)
-      → IsFinished task status ⊎ (status ≡ 9)
-  ends_complete accepted read sink = elim ends.delivered [
-    | Whole same taken kept ↦ along same (tells.complete accepted (λ is. read (same ∙ is)))
-    | SinkFailed eight taken rose ↦ absurd (sink rose)
-  ]
-    where
-      along : status ≡ ends.outcome.status → IsFinished task ends.outcome.status ⊎ (ends.outcome.status ≡ 9)
-          → IsFinished task status ⊎ (status ≡ 9)
-      along same (inl at) = inl (subst (IsFinished task) (sym same) at)
-      along same (inr at) = inr (same ∙ at)
-
--- words that are no command give the usage line, unless the sink fails
-pub usage_ends : (told : Told) (task : Task) (status : ℕ) → Ends (Comes told task) told status → task ≡ Nothing
-    → (status ≡ 2) ⊎ (status ≡ 8)
-usage_ends told (Solo cell shift) status ends is = absurd (cc)
-usage_ends told (Check cell record_file) status ends is = absurd (cc)
-usage_ends told (Show cell) status ends is = absurd (cc)
-usage_ends told Nothing status ends is = elim ends.delivered [
-  | Whole same taken kept ↦ inl (same ∙ status_of ends.comes)
-  | SinkFailed eight taken rose ↦ inr eight
-]
-
--- where no read failed, or the files are sound and hold what is named, there is no read fault
-pub no_read_fault : (told : Told) (task : Task) (status : ℕ) → Ends (Comes told task) told status → (sound : Type 0)
-    → (sound → AreThere told.names (files_of task) → status ≡ 3 → ⊥) → ReadsAll told sound task → status ≡ 3 → ⊥
-no_read_fault told task status ends sound never (inl still) is = still (ends_read_fault told task status ends is)
-no_read_fault told task status ends sound never (inr there) is = never there.0 there.1 is
+pub comes_tells : (told : Told) → IfSome told.disk.reads told.disk.leaves → (task : Task) (outcome : Outcome) → Comes told task outcome
+    → Tells told task outcome
+unfolding OwesSolo OwesCheck OwesShow OwesPlan OwesDrain OwesWhy
+comes_tells told now Nothing outcome comes =
+    at told Nothing outcome 2 (status_of comes.1) (refl, λ none. none, read_untouched told.disk comes.0)
+comes_tells told now (Solo cell shift) outcome (still, MemoryWanted is) =
+    starved told (Solo cell shift) outcome is (read_untouched told.disk still)
+comes_tells told now (Solo cell shift) outcome (still, IsOwed owed) =
+    let only = read_untouched told.disk still in
+    after_cell told (Solo cell shift) outcome cell (GivenBy cell_of) _ (IsEarly outcome) (λ e is. (is, only))
+    (λ fault made. ((fault, made), λ accepted. accepted.0 fault made)) (solo_tells told cell shift outcome only) owed
+comes_tells told now (Plan cell journal) outcome (only, MemoryWanted is) = starved told (Plan cell journal) outcome is only
+comes_tells told now (Plan cell journal) outcome (only, IsOwed owed) =
+    after_cell told (Plan cell journal) outcome cell cell_file_read _ (IsBeforeDisk told.disk outcome) (λ e is. (is.0, only))
+    (λ fault made. ((fault, made), λ accepted. accepted.0 fault made))
+    (λ held read. plan_tells told now cell journal outcome held read only) owed
+comes_tells told now (Drain cell journal) outcome (MemoryWanted is) = starved told (Drain cell journal) outcome is.0 is.1
+comes_tells told now (Drain cell journal) outcome (IsOwed owed) =
+    after_cell told (Drain cell journal) outcome cell cell_file_read _ (IsBeforeDisk told.disk outcome)
+    (λ e is. (is.0, read_untouched told.disk is.1))
+    (λ fault made. ((fault, made), λ accepted. accepted.0 fault made))
+    (λ held read. drain_tells told now cell journal outcome held read) owed
+comes_tells told now (Why cell journal step) outcome (only, MemoryWanted is) = starved told (Why cell journal step) outcome is only
+comes_tells told now (Why cell journal step) outcome (only, IsOwed owed) =
+    after_cell told (Why cell journal step) outcome cell cell_file_read _ (IsBeforeDisk told.disk outcome) (λ e is. (is.0, only))
+    (λ fault made. ((fault, made), λ accepted. accepted.0 fault made))
+    (λ held read. why_tells told now cell journal outcome held read step only) owed
+comes_tells told now (Check cell record_file) outcome (still, MemoryWanted is) =
+    starved told (Check cell record_file) outcome is (read_untouched told.disk still)
+comes_tells told now (Check cell record_file) outcome (still, IsOwed owed) =
+    let only = read_untouched told.disk still in
+    after_cell told (Check cell record_file) outcome cell (GivenBy cell_of) _ (IsEarly outcome) (λ e is. (is, only))
+    (λ fault made. ((fault, made), λ accepted. accepted.0 fault made)) (check_tells told cell record_file outcome only) owed
+comes_tells told now (Show cell) outcome (still, MemoryWanted is) = starved told (Show cell) outcome is (read_untouched told.disk still)
+comes_tells told now (Show cell) outcome (still, IsOwed owed) =
+    after_cell told (Show cell) outcome cell (GivenBy cell_of) _ (IsEarly outcome) (λ e is. (is, read_untouched told.disk still))
+    (λ fault made. ((fault, made), λ accepted. accepted fault made)) (show_tells told cell outcome) owed

@@ -19,7 +19,8 @@ mod out_sink;
 mod solo;
 mod top;
 
+pub use cell_words::Ended;
 pub use dir_files::DirFiles;
 pub use file_disk::FileDisk;
 pub use out_sink::OutSink;
-pub use top::{Ended, cell_main};
+pub use top::cell_main;

@@ -8,6 +8,7 @@ ghost use Rattle.cell_base.specs.declared.limits.TheConstants.{MAX_STEPS, MAX_AS
 ghost use Rattle.cell_base.specs.Fits.{CellFits, ShiftFits, steps_of};
 ghost use Rattle.record_text.specs.Fitting.{EntryFits};
 ghost use Rattle.cell_words.specs.Commands.{MayComeOf, OwesSolo};
+ghost use Rattle.cell_words.specs.Ends.{Ends};
 ghost use Rattle.cell_program.specs.Runs.{IsSoloRun, lines_of_run};
 ghost use Rattle.cell_words.specs.Texts.{done, early_outcome};
 ghost use Rattle.cell_words.specs.declared.early.Early.TheVariants.{ReadFault};
@@ -15,9 +16,32 @@ ghost use Rattle.cell_words.specs.declared.early.Early.TheVariants.{ReadFault};
 use admission_core::Core;
 use cell_base::{Cell, Entry, NoMemory, Shelf, Shift};
 use cell_sessions::solo;
-use cell_words::{Early, print_block, read_cell_file, read_shift_file};
+use cell_words::{Early, finish_early, print_block, read_cell_file, read_shift_file};
 use outside_io::{Failed, Files, Sink};
 use std::alloc::Global;
+
+/// Runs `solo CELL SHIFT`. All memory is taken before the first session asks.
+pub fn run_solo<F: Files, K: Sink>(
+    alloc: Global,
+    files: &mut F,
+    out: &mut K,
+    cell: &str,
+    shift: &str,
+) -> u8
+    ensures ends { Ends
+        (MayComeOf (OwesSolo (F.holds files.old) (F.faults files.old) (F.faults files.new) cell.now shift.now))
+        (sink_told K.taken K.was_put K.faults out.old out.new) result }
+    ensures sound { F.is_sound files.old → IsThere (F.holds files.old) cell.now
+        → IsThere (F.holds files.old) shift.now → result ≡ 3 → ⊥ }
+{
+    match run_of_files(alloc, files, cell, shift) {
+        Ok(run) => match print_run(out, run) {
+            Ok(()) => 0,
+            Err(_) => 8,
+        },
+        Err(early) => finish_early(out, &early),
+    }
+}
 
 /// A shift that ran: the core behind it, its number and its history.
 #[derive(Drop)]
@@ -37,8 +61,8 @@ fn asks_of(shift: &Shift) -> u64
     steps * u64::from(shift.patience)
 }
 
-/// Runs a shift on the empty cell. All memory is taken before the first session asks.
-pub fn run_rounds(alloc: Global, cell: Cell, shift: &Shift) -> Result<SoloRun, NoMemory>
+// Runs a shift on the empty cell. All memory is taken before the first session asks.
+fn run_rounds(alloc: Global, cell: Cell, shift: &Shift) -> Result<SoloRun, NoMemory>
     requires cell { CellFits cell }
     requires shift { ShiftFits cell shift.now }
     ensures run { IfOk result (IsSoloRun cell shift.now) }
@@ -54,8 +78,8 @@ pub fn run_rounds(alloc: Global, cell: Cell, shift: &Shift) -> Result<SoloRun, N
     })
 }
 
-/// What `solo CELL SHIFT` is to print, or the early end in its place.
-pub fn run_of_files<F: Files>(
+// What `solo CELL SHIFT` is to print, or the early end in its place.
+fn run_of_files<F: Files>(
     alloc: Global,
     files: &mut F,
     cell: &str,
@@ -76,8 +100,8 @@ pub fn run_of_files<F: Files>(
     Ok(run_rounds(alloc, cell, &shift)?)
 }
 
-/// Prints the record, each line by itself, up to the first that the sink doesn't take.
-pub fn print_run<K: Sink>(out: &mut K, run: SoloRun) -> Result<(), Failed>
+// Prints the record, each line by itself, up to the first that the sink doesn't take.
+fn print_run<K: Sink>(out: &mut K, run: SoloRun) -> Result<(), Failed>
     requires { All (EntryFits run.core.cell) run.history.items }
     ensures whole { OnOk result (TookAll (sink_told K.taken K.was_put K.faults out.old out.new) (lines_of_run run)) }
     ensures part { OnErr result (TookSome (sink_told K.taken K.was_put K.faults out.old out.new) (lines_of_run run)) }

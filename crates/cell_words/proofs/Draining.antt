@@ -119,11 +119,11 @@ module _ {D : Type 0} (reads_as : D → Option (List ℕ)) (may_leave : D → Li
         ⊎ StandsFor file old.text (with_steps old.opening (asked.first ++ asked.last ∷ []))
     halted_stands file = subst (λ (d : DurableState D). StandsNow d file → StandsFor file old.text (with_steps old.opening asked.first)
         ⊎ StandsFor file old.text (with_steps old.opening (asked.first ++ asked.last ∷ []))) (sym asked.is) (λ now. elim now [
-      | inl stands ↦ inl stands
-      | inr stands ↦
-          inr (subst (λ (grants : List Grant). StandsFor file old.text (old.opening ++ grants))
-          (sym (map-append step_grant asked.first (asked.last ∷ []))) stands)
-    ])
+          | inl stands ↦ inl stands
+          | inr stands ↦
+              inr (subst (λ (grants : List Grant). StandsFor file old.text (old.opening ++ grants))
+              (sym (map-append step_grant asked.first (asked.last ∷ []))) stands)
+        ])
 
     halted_between : (file : List ℕ) → StandsBetween new file
         → StandsForSome old.text old.opening (asked.first ++ asked.last ∷ []) file

@@ -1,6 +1,6 @@
 mod Asking
 pub mod BlockTexts
-mod Cuts
+pub mod Cuts
 pub mod Delivered
 pub mod Disks
 mod Draining

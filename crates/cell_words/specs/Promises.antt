@@ -22,35 +22,28 @@ IsEarlyStatus status = ((2 ≤ status) × (status ≤ 6)) ⊎ (status ≡ 9)
 pub record Promises (told : Told) (is_sound : Type 0) (task : Task) (status : ℕ) : Type 0 where
   -- Some outcome may come of the words, and is what the sink was given, with its status, and so was done to the disk.
   pub ends : Ends (Comes told task) told.sink status
-
   -- Every line of the output is one put, in its turn.
   pub lines : PutsLines (Comes told task) told.sink status
-
   -- Status 0: the files and the journal stand for what the command needs, and its answer was taken: the record of a shift, with the one
   -- history in rounds and the plan that drains the state behind it; the plan that drains the state behind a journal's grants; the record
   -- of the steps of that plan, and the disk stands for them; what a step would be told; `yes` for a record that is right; or the
   -- neighborhoods of a cell. Status 1: the record is not right, and the line that fails was taken, with why.
   pub done : status ≡ 0 → IsPrinted told task
   pub denied : status ≡ 1 → IsDenied told task
-
   -- Status 2 exactly where the words are no built command, unless the sink fails.
   pub no_command : status ≡ 2 → task ≡ Nothing
   pub usage : task ≡ Nothing → (status ≡ 2) ⊎ (status ≡ 8)
-
   pub read_fault : status ≡ 3 → Rose told.file_faults told.file_faults_after
   pub cell_refused : status ≡ 4 → IsCellRefused told task
   pub second_refused : status ≡ 5 → IsSecondRefused told task
   pub journal_refused : status ≡ 6 → IsJournalRefused told task
   pub sink_fault : status ≡ 8 → Rose told.sink.faults told.sink.faults_after
-
   -- Status 7 only where the disk failed: before a step of the plan was asked, and then the disk stands for what it stood for; or at one
   -- of the steps, and then the block that halts there was taken, and the disk stands for the steps before it without it or with it.
   pub device_fault : status ≡ 7 → Rose told.disk.faults told.disk.faults_after
   pub halted : status ≡ 7 → IsDeviceFault told task ⊎ IsDrainHalted told task
-
   -- Sound files that hold what the command names give no read fault.
   pub sound : is_sound → AreThere told.names (files_of task) → status ≡ 3 → ⊥
-
   -- Where nothing outside fails, what the files and the disk hold decides: a refused cell is answered by its fault, and so are a refused
   -- shift, a refused record, a word that is no step and a refused journal, for a cell that isn't; else it is done. Memory may be wanting
   -- in the place of each.
@@ -64,7 +57,6 @@ pub record Promises (told : Told) (is_sound : Type 0) (task : Task) (status : �
       → TakesAll told → IsAnswered told (journal_end why) status
   pub complete : IsAccepted told task → ReadsAll told is_sound task → DiskServes told task → TakesAll told
       → IsFinished task status ⊎ (status ≡ 9)
-
   -- An early end only reads the disk, and so do `plan` and `why` with every status. A crash at any moment since entry leaves, of a disk
   -- that stood for grants, no file of a drain but such as stand for them and first ones of the steps.
   pub early : IsEarlyStatus status → IsOnlyRead told.disk

@@ -40,12 +40,28 @@ pub fn read_journal<D: Disk>(alloc: Global, held: CellFile, disk: D) -> OnJourna
 {
     let CellFile { cell, text } = held;
     match restore(alloc, cell, &text, disk, MAX_ROOM) {
-        Restored::Open { core, stored, grants } => OnJournal {
-            made: Ok(Behind { core, grants: grants.len() }),
+        Restored::Open {
+            core,
+            stored,
+            grants,
+        } => OnJournal {
+            made: Ok(Behind {
+                core,
+                grants: grants.len(),
+            }),
             disk: stored.into_disk(),
         },
-        Restored::Refused { disk, why } => OnJournal { made: Err(Early::from(why)), disk },
-        Restored::Device { disk } => OnJournal { made: Err(Early::DeviceFault), disk },
-        Restored::Memory { disk } => OnJournal { made: Err(Early::Memory), disk },
+        Restored::Refused { disk, why } => OnJournal {
+            made: Err(Early::from(why)),
+            disk,
+        },
+        Restored::Device { disk } => OnJournal {
+            made: Err(Early::DeviceFault),
+            disk,
+        },
+        Restored::Memory { disk } => OnJournal {
+            made: Err(Early::Memory),
+            disk,
+        },
     }
 }

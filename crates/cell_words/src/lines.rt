@@ -17,7 +17,9 @@ use shift_checker::{Verdict, Why};
 pub fn usage_line() -> Line
     ensures { result ≡ usage_text }
 {
-    Line::of_word(b"usage: solo CELL SHIFT, plan CELL JOURNAL, drain CELL JOURNAL, why CELL JOURNAL STEP, check CELL RECORD, show CELL").end()
+    Line::of_word(
+        b"usage: solo CELL SHIFT, plan CELL JOURNAL, drain CELL JOURNAL, why CELL JOURNAL STEP, check CELL RECORD, show CELL",
+    ).end()
 }
 
 impl Early {

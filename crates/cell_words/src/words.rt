@@ -5,15 +5,25 @@ ghost use Rattle.cell_words.specs.Commands.{task_of};
 ghost use Rattle.cell_words.specs.Words.{task_in};
 
 /// A built command with its words.
+#[derive(Drop)]
 pub enum Command<'a> {
     /// Words that are no built command.
     Nothing,
     /// A shift on the empty cell, on one thread.
-    Solo { cell: &'a str, shift: &'a str },
+    Solo {
+        cell: &'a str,
+        shift: &'a str,
+    },
     /// The plan of the state behind a journal's grants.
-    Plan { cell: &'a str, journal: &'a str },
+    Plan {
+        cell: &'a str,
+        journal: &'a str,
+    },
     /// The steps of that plan, each asked and written to the journal.
-    Drain { cell: &'a str, journal: &'a str },
+    Drain {
+        cell: &'a str,
+        journal: &'a str,
+    },
     /// What a step would be told in that state.
     Why {
         cell: &'a str,
@@ -21,9 +31,14 @@ pub enum Command<'a> {
         step: &'a str,
     },
     /// Whether a record is right.
-    Check { cell: &'a str, record_file: &'a str },
+    Check {
+        cell: &'a str,
+        record_file: &'a str,
+    },
     /// A cell's neighborhoods.
-    Show { cell: &'a str },
+    Show {
+        cell: &'a str,
+    },
 }
 
 /// The command that the words are.

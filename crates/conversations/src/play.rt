@@ -7,7 +7,7 @@ use crate::torn_sink::TornSink;
 use anyhow::Result;
 use cell_base::List;
 use cell_program::{Ended, cell_main};
-use outside_io::{FreePace, MemSink, NullDisk, Sink};
+use outside_io::{FreePace, MemDisk, MemSink, Sink};
 use std::alloc::Global;
 use std::sync::Wait;
 use std::thread::Threads;
@@ -126,7 +126,7 @@ fn play_reads<R: Threads + Wait + Sync>(
 ) -> Result<Played> {
     for read in 1..3u64 {
         let told = call(rt, alloc, folder, conversation.words(), Failing::Read(read))?;
-        let may_end_before = whole.status > 1 || read >= conversation.words().len() as u64;
+        let may_end_before = whole.status > 1 || read > files_of(conversation.words());
         let ended_before = may_end_before && told.is(whole.status, whole.text.as_slice());
         if !ended_before && !told.is(3, b"read fault\n") {
             let failing = format!(in alloc; " where read {read} fails")?;
@@ -182,8 +182,27 @@ fn call_over<R: Threads + Wait + Sync, K: Sink>(
     out: &mut K,
 ) -> Result<u8> {
     let mut files = folder.in_memory(reads)?;
-    let Ended { status, .. } = cell_main(rt, alloc, words, &mut files, out, NullDisk, &FreePace);
+    let Ok(disk) = MemDisk::new(alloc, journal_of(folder, words), List::new(alloc)) else {
+        anyhow::bail!("want of memory");
+    };
+    let Ended { status, .. } = cell_main(rt, alloc, words, &mut files, out, disk, &FreePace);
     Ok(status)
+}
+
+// What the disk of a call holds: the file that the third word names.
+fn journal_of<'a>(folder: &'a Folder, words: &[String]) -> &'a [u8] {
+    match words {
+        [_, _, name, ..] => folder.bytes_of(name.as_str()).unwrap_or(&[]),
+        _ => &[],
+    }
+}
+
+// How many files a command reads.
+fn files_of(words: &[String]) -> u64 {
+    match words {
+        [verb, ..] if verb.as_str() == "solo" || verb.as_str() == "check" => 2,
+        _ => 1,
+    }
 }
 
 fn push(calls: &mut List<u64>, call: u64) -> Result<()> {

@@ -10,7 +10,7 @@
 //! | `-- FILE like OTHER` | the file is like the other one but for the lines that follow |
 //! | `-- FILE printed` | the file is what the last conversation is to print |
 //! | `-- FILE gone` | the file is taken away |
-//! | `$ WORDS` | the words of the call; what is printed follows |
+//! | `$ WORDS` | the words of the call, of which the last may stand in quotes; what is printed follows |
 //! | `= STATUS` | the exit status: the conversation is whole |
 //!
 //! Files stay from one conversation to the next. Within a file some lines have a meaning of their own:
@@ -101,8 +101,15 @@ impl Script {
         }
         if let Some(words) = line.strip_prefix("$") {
             self.keep_draft()?;
+            let (words, last) = match words.split_once(" \"") {
+                Some((words, last)) => (words, last.strip_suffix("\"")),
+                None => (words, None),
+            };
             for word in words.split(' ').skip(1) {
                 self.next.add_word(word)?;
+            }
+            if let Some(last) = last {
+                self.next.add_word(last)?;
             }
             self.part = Part::Printed;
             return Ok(());

@@ -14,9 +14,11 @@ returns-in-Err-clause-comes g c =
 pub returns-in-Err-read_step-clause-comes : goal.returns-in-Err-read_step-clause-comes
 returns-in-Err-read_step-clause-comes g c =
     let still = untouched g.D.Disk.reads_as g.D.Disk.may_leave g.D.Disk.moment g.D.Disk.left_since g.D.Disk.faults c.args.disk
-    (g.met.D.Disk.only_now c.args.disk) in
-    (read_untouched _ still, why_at_step _ _ _ _ _ _ c.in-Ok.held c.in-Ok.ensures.read _ c.in-Err-read_step.fault
-    (c.in-Err-read_step.ensures.step ∙ ap (step_of c.in-Ok.held.cell) c.as_bytes.ensures.value) c.from.ensures still)
+    (g.met.D.Disk.only_now c.args.disk) in (
+      read_untouched _ still,
+      why_at_step _ _ _ _ _ _ c.in-Ok.held c.in-Ok.ensures.read _ c.in-Err-read_step.fault
+          (c.in-Err-read_step.ensures.step ∙ ap (step_of c.in-Ok.held.cell) c.as_bytes.ensures.value) c.from.ensures still,
+    )
 
 pub returns-in-Ok-read_step-clause-comes : goal.returns-in-Ok-read_step-clause-comes
 returns-in-Ok-read_step-clause-comes g c = (
