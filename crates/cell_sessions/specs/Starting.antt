@@ -4,7 +4,7 @@ use Rattle.std.specs.List.{All}
 use Rattle.cell_base.specs.declared.shifts.Grant.{Grant}
 use Rattle.cell_base.specs.declared.shifts.Shift.{Shift}
 use Rattle.cell_base.specs.Rounds.{IsSession}
-use Rattle.cell_base.specs.Scripts.{Progress, IsStarted, begin_at, script_of, start}
+use Rattle.cell_base.specs.Scripts.{Progress, IsStarted, begin_at, start}
 use Rattle.cell_sessions.specs.declared.fault.BeginFault.{BeginFault}
 use Rattle.cell_sessions.specs.declared.fault.BeginFault.TheVariants.{OtherShift, Memory}
 
@@ -39,7 +39,7 @@ pub record AreBegun (shift : Shift) (opening : List Grant) (progress : List Prog
   pub count : length progress ≡ length shift.scripts
   pub each : StandAtStart shift opening progress
 
--- behind these grants this one is the next step of its session's script, and the session is the shift's
-pub record IsNextStep (shift : Shift) (grants : List Grant) (grant : Grant) : Type 0 where
-  pub session : IsSession shift grant.session
-  pub step : slice_get (script_of shift grant.session) (start shift grant.session grants) ≡ Some grant.request
+-- the grants are first steps of the scripts, and the sessions stand behind them
+pub record IsReached (shift : Shift) (grants : List Grant) (progress : List Progress) : Type 0 where
+  pub started : AreStarted shift grants
+  pub stand : StandAtStart shift grants progress

@@ -1,4 +1,7 @@
 //! Why sessions do not begin.
+ghost use Rattle.std.specs.Prelude.{◌≡◌};
+ghost use Rattle.cell_sessions.specs.declared.fault.BeginFault.TheVariants.{Memory};
+
 use cell_base::NoMemory;
 
 /// Why the sessions of a shift do not begin behind the grants of a journal.
@@ -12,7 +15,9 @@ pub enum BeginFault {
 }
 
 impl From<NoMemory> for BeginFault {
-    fn from(_: NoMemory) -> Self {
+    ghost from_gives = { λ _ fault. fault ≡ Memory };
+
+    fn from(_: NoMemory) -> BeginFault {
         BeginFault::Memory
     }
 }
