@@ -25,14 +25,11 @@ impl Model for Progress {
 }
 
 impl Progress {
-    /// Before the first step.
-    pub fn begin() -> Progress
-        ensures { result ≡ begin_at 0 }
+    /// At a step that was not refused yet.
+    pub fn begin_at(step: u64) -> Progress
+        ensures { result ≡ begin_at step }
     {
-        Progress {
-            step: 0,
-            refusals: 0,
-        }
+        Progress { step, refusals: 0 }
     }
 
     /// The number of the present step.
