@@ -1,6 +1,7 @@
 -- A session that goes on asks its present step, and ends by a reply or by a fault.
 use Rattle.std.proofs.Common.{◌≡◌, ℕ, ◌+◌, ◌-◌, ◌*◌, ◌<◌, ◌≤◌, Bool, true, false, ◌||◌, ◌⊎◌, cond, Option, Some, None, List, [], ◌∷◌, ◌++◌, length, slice_get, Result, Ok, Err, refl, ap, ◌∙◌, sym, subst, inl, inr, ⊎_elim, arith, append-nil}
-use Rattle.std.specs.List.{position_from}
+use Rattle.std.specs.List.{All, position_from}
+use Rattle.std.proofs.lemmas.List.Elements.{All-nil, All-cons}
 use Rattle.std.proofs.lemmas.Bool.{cases_lt}
 use Rattle.std.proofs.lemmas.Iterator.Adapters.{position_from-zero}
 use Rattle.std.proofs.lemmas.List.{append_assoc}
@@ -17,7 +18,7 @@ use Rattle.durable_cell.specs.declared.fault.AskFault.{AskFault}
 use Rattle.durable_cell.specs.declared.fault.AskFault.TheVariants.{Halted, Full, Device}
 use Rattle.durable_cell.specs.Asked.{entry, halted_at, is_halt}
 use Rattle.cell_lock.specs.declared.board.Opening.{Opening}
-use Rattle.cell_lock.specs.Standing.{LockId, Standing, KeepsName, Adds, Asked}
+use Rattle.cell_lock.specs.Standing.{LockId, Standing, KeepsName, Adds, AreNumbered, Asked}
 use Rattle.cell_sessions.specs.Sessions.{HasAsked, HasRun}
 use Rattle.cell_sessions.specs.Underway.{IsWithinScript, left_of}
 use Rattle.cell_sessions.proofs.Traces.{holds_halt-push, progress_behind-push, IsTrace-push}
@@ -165,3 +166,18 @@ left_of-le script patience at within =
     let whole : length script * patience ≡ (length script - at.step) * patience + at.step * patience =
     ap (λ m. m * patience) parts ∙ distributes (length script - at.step) at.step patience in
     omega (arith, whole)
+
+-- a script that is no longer than all has no more asks
+pub asks-le : (steps all patience : ℕ) → steps ≤ all → steps * patience ≤ all * patience
+asks-le steps all patience few =
+    let parts : all ≡ (all - steps) + steps = omega arith in
+    let whole : all * patience ≡ (all - steps) * patience + steps * patience =
+    ap (λ m. m * patience) parts ∙ distributes (all - steps) steps patience in
+    omega (arith, whole)
+
+-- passes that are numbered are of the lock
+pub of_lock : {D : Type 0} (lock : LockId D) (first : ℕ) (passes : List (Standing D)) → AreNumbered lock first passes
+    → All (λ (p : Standing D). p.lock ≡ lock) passes
+of_lock {D} lock first [] numbered = All-nil (λ (p : Standing D). p.lock ≡ lock)
+of_lock {D} lock first (p ∷ ps) numbered =
+    All-cons (λ (q : Standing D). q.lock ≡ lock) p ps numbered.0 (of_lock lock (first + 1) ps numbered.2)

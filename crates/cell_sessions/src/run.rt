@@ -1,5 +1,5 @@
 //! The sessions of a shift at the same time, each on a thread of its own.
-ghost use Rattle.std.specs.Prelude.{◌≡◌, ℕ, ◌+◌, ◌<◌, length, slice_index_or};
+ghost use Rattle.std.specs.Prelude.{◌≡◌, ℕ, ◌+◌, ◌<◌, length, slice_index_or, All};
 ghost use Rattle.cell_base.specs.Fits.{ShiftFits};
 ghost use Rattle.cell_base.specs.Scripts.{script_of};
 ghost use Rattle.cell_lock.specs.Standing.{AreAll};
@@ -34,7 +34,28 @@ pub fn run_shift<R: Threads + Wait + Sync, D: Disk + Send, P: Pace + Sync>(
     ensures passes { AreAll cell.now passes.new }
     ensures run { (k : ℕ) (d : _) → k < length passes.old
         → HasRun (script_of shift.now (k + 1)) shift.now.patience (progress_at progress.now k)
-            (slice_index_or passes.old k d) (slice_index_or passes.new k d) }
+        (slice_index_or passes.old k d) (slice_index_or passes.new k d) }
+{
+    run_all(rt, cell, passes, progress, shift, pace);
+}
+
+// As many threads as passes, each of which runs a session.
+fn run_all<R: Threads + Wait + Sync, D: Disk + Send, P: Pace + Sync>(
+    rt: &R,
+    cell: &SharedCell<D>,
+    passes: &mut [Pass<D>],
+    progress: &[Progress],
+    shift: &Shift,
+    pace: &P,
+)
+    requires shift { ShiftFits cell.now.opening.cell shift.now }
+    requires lock { All (λ pass. pass.lock ≡ cell.now) passes.old }
+    requires sessions { (length passes.old ≡ length shift.now.scripts) × (length progress.now ≡ length shift.now.scripts) }
+    requires within { (k : ℕ) → k < length shift.now.scripts
+        → IsWithinScript (script_of shift.now (k + 1)) shift.now.patience (progress_at progress.now k) }
+    ensures { (k : ℕ) (d : _) → k < length passes.old
+        → HasRun (script_of shift.now (k + 1)) shift.now.patience (progress_at progress.now k)
+        (slice_index_or passes.old k d) (slice_index_or passes.new k d) }
 {
     let threads = passes.len().max(1);
     thread::for_each_mut(
