@@ -48,7 +48,7 @@ module _ (shift : Shift) (cell : Cell) (start now : List Part) (history : List E
             record {
               trace = rw entries
                   (IsTrace-push (script_of shift (done + 1)) shift.patience (begin_at 0) (entries_of (done + 1) history)
-                  (done + 1) request reply
+                  (done + 1) request (Answered reply)
                   (holds_halt-entries_of (done + 1) history underway.unhalted) at.trace
                   (subst (λ (p : Progress). p.refusals < shift.patience) (sym at.stands) patient)
                   (subst (λ (p : Progress). slice_get (script_of shift (done + 1)) p.step ≡ Some request) (sym at.stands) step));
