@@ -3,8 +3,7 @@
 #![tactic(auto)]
 
 use cell_program::{DirFiles, FileDisk, OutSink, cell_main};
-use outside_io::FreePace;
-use std::fs::File;
+use outside_io::{Disk, FreePace};
 use std::io::{BufWriter, Write};
 use std::process::ExitCode;
 use std::rt::{Env, Files};
@@ -14,24 +13,26 @@ use std::{env, io};
 
 // A buffer makes one write of many lines. Where there is no memory for it, each line is a write.
 fn main(rt: HostRuntime) -> ExitCode {
+    let words = words_behind_name(&rt);
+    let disk = FileDisk::new(&rt, rt.alloc(), journal_in(&words));
     let status = match BufWriter::new(rt.alloc(), io::writer(&rt)) {
-        Ok(writer) => run_over(&rt, writer),
-        Err(_) => run_over(&rt, io::writer(&rt)),
+        Ok(writer) => run_over(&rt, &words, writer, disk),
+        Err(_) => run_over(&rt, &words, io::writer(&rt), disk),
     };
     ExitCode::from(status)
 }
 
 // Runs the command, and answers its status, or 8 where what it printed could not be written.
-fn run_over<R: Env + AllocGlobal + Files<File = File> + Threads + Wait + Sync, W: Write + Drop>(
+fn run_over<R: AllocGlobal + Files + Threads + Wait + Sync, W: Write + Drop, D: Disk + Send + Drop>(
     rt: &R,
+    words: &[String],
     writer: W,
+    disk: D,
 ) -> u8 {
-    let words = words_behind_name(rt);
     let mut files = DirFiles::new(rt);
     let mut out = OutSink::new(writer);
     let alloc = rt.alloc();
-    let disk = FileDisk::new(rt, alloc, journal_in(&words));
-    let ended = cell_main(rt, alloc, &words, &mut files, &mut out, disk, &FreePace);
+    let ended = cell_main(rt, alloc, words, &mut files, &mut out, disk, &FreePace);
     match out.flush() {
         Ok(()) => ended.status,
         Err(_) => 8,
