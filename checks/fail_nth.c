@@ -1,9 +1,9 @@
 // Loaded before the C library: makes the call numbered FAIL of one kind fail, and tells how many there were.
 //
-// KIND is open, read, pread, pwrite, fsync, fdatasync, flock, fstat or write; the numbers count its calls from 1, and 0 fails none.
-// A call that fails answers an error of the device (EIO). With SHORT set a pwrite or write takes one byte before it fails: the first
-// part of a torn write. With SLOW set each fdatasync takes so many microseconds more. At the end the number of calls of that
-// kind goes into the file named COUNT.
+// KIND is open, read, pread, pwrite, fsync, fdatasync, flock, statx, realpath or write; the numbers count its calls from 1, and 0 fails
+// none. A call that fails answers an error of the device (EIO). With SHORT set a pwrite takes one byte before it fails, the first part
+// of a torn write, and a write takes one byte and answers so, and the next one fails. With SLOW set each fdatasync takes so many
+// microseconds more. At the end the number of calls of that kind goes into the file named COUNT.
 #define _GNU_SOURCE
 #include <dlfcn.h>
 #include <errno.h>
@@ -17,7 +17,7 @@
 #include <unistd.h>
 
 static unsigned long calls, failing, slow;
-static int is_short;
+static int is_short, next_fails;
 static char kind[16], count_path[4096];
 
 __attribute__((constructor)) static void start(void) {
@@ -87,11 +87,15 @@ ssize_t pwrite(int file, const void *bytes, size_t size, off_t at) {
 ssize_t pwrite64(int file, const void *bytes, size_t size, off64_t at) { return pwrite(file, bytes, size, at); }
 
 ssize_t write(int file, const void *bytes, size_t size) {
-  if (fails("write")) {
-    if (is_short && REAL(ssize_t, "write", int, const void *, size_t)(file, bytes, 1) != 1)
-      _exit(70);
+  if (next_fails || (fails("write") && !is_short)) {
+    next_fails = 0;
     errno = EIO;
     return -1;
+  }
+  if (is_short && calls == failing && strcmp(kind, "write") == 0) {
+    is_short = 0;
+    next_fails = 1;
+    size = 1;
   }
   return REAL(ssize_t, "write", int, const void *, size_t)(file, bytes, size);
 }
@@ -106,12 +110,12 @@ int fdatasync(int file) {
 
 int flock(int file, int how) { return fails("flock") ? -1 : REAL(int, "flock", int, int)(file, how); }
 
-int fstat(int file, struct stat *found) {
-  return fails("fstat") ? -1 : REAL(int, "fstat", int, struct stat *)(file, found);
+int statx(int folder, const char *path, int flags, unsigned mask, struct statx *found) {
+  return fails("statx") ? -1 : REAL(int, "statx", int, const char *, int, unsigned, struct statx *)(folder, path, flags, mask, found);
 }
 
-int fstat64(int file, struct stat64 *found) {
-  return fails("fstat") ? -1 : REAL(int, "fstat64", int, struct stat64 *)(file, found);
+char *realpath(const char *path, char *out) {
+  return fails("realpath") ? NULL : REAL(char *, "realpath", const char *, char *)(path, out);
 }
 
 __attribute__((destructor)) static void finish(void) {
