@@ -11,7 +11,8 @@ use Rattle.cell_base.specs.declared.shifts.Shift.{Shift}
 use Rattle.cell_base.specs.Histories.{requests_of}
 use Rattle.cell_base.specs.Rounds.{IsSession}
 use Rattle.cell_base.specs.Scripts.{Progress, IsStarted, begin_at, granted_to, script_of, start}
-use Rattle.cell_sessions.specs.Starting.{AreBegun, AreStarted, IsOtherShift, IsReached, StandAtStart}
+use Rattle.cell_base.specs.Starts.{AreStarted, IsOtherShift}
+use Rattle.cell_sessions.specs.Starting.{AreBegun, IsReached, StandAtStart}
 use Rattle.cell_sessions.proofs.Counting.{script_at}
 use Rattle.cell_sessions.proofs.Ends.{same_everywhere}
 

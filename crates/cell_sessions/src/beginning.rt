@@ -3,7 +3,8 @@ ghost use Rattle.std.specs.Prelude.{◌≡◌, ◌<◌, ◌≤◌, ◌↔◌, Is
 ghost use Rattle.std.specs.Bool.{OnTrue, OnFalse};
 ghost use Rattle.cell_base.specs.declared.limits.TheConstants.{MAX_SESSIONS};
 ghost use Rattle.cell_base.specs.declared.shifts.Grant.{Grant as OneGrant};
-ghost use Rattle.cell_sessions.specs.Starting.{AreBegun, AreStarted, IsBeginFault, IsReached};
+ghost use Rattle.cell_base.specs.Starts.{AreStarted};
+ghost use Rattle.cell_sessions.specs.Starting.{AreBegun, IsBeginFault, IsReached};
 
 use crate::fault::BeginFault;
 use crate::progress::Progress;
