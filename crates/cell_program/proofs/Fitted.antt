@@ -1,4 +1,4 @@
--- The entries of a history in rounds fit the cell.
+-- The entries of a shift's history fit the cell.
 use Rattle.std.proofs.Common.{◌≡◌, ◌⊎◌, inl, inr, ℕ, ◌-◌, Bool, true, false, cond, Option, Some, None, List, [], ◌∷◌, Contains, All, refl, sym, ap, ◌∙◌, subst}
 use Rattle.std.specs.Prelude.{slice_get, unwrap_or, ◌==◌, ◌||◌}
 use Rattle.std.specs.List.{filter}
@@ -121,38 +121,56 @@ module _ (cell : Cell) where
         admitted_behind (state_after_entry cell parts entry.request entry.told) entries
         (stays parts entry.request entry.told admitted (All-head Fits entry entries fit)) (All-tail Fits entry entries fit)
 
-    module _ (shift : Shift) (history : List Entry) (shift_fits : ShiftFits cell shift) (rounds : IsRoundRobin cell [] shift history) where
-      -- an entry stands in the trace of its session
-      traced : (entry : Entry) → Contains history entry
-          → IsWholeTrace (script_of shift entry.session) shift.patience (begin_at 0) (entries_of entry.session history)
-          × Contains (entries_of entry.session history) entry
-      traced entry contains =
-          let session : ℕ = entry.session in (
-            rounds.whole session (All-contains (λ (e : Entry). IsSession shift e.session) history entry rounds.sessions contains),
-            Contains-filter (λ (e : Entry). e.session == session) history entry contains (eq-eqb session session refl),
-          )
-
+    -- a history of sessions that ask steps of their scripts
+    module _ (shift : Shift) (history : List Entry) (shift_fits : ShiftFits cell shift) (parts : List Part) (first : ℕ → Progress)
+        (legal : IsLegal cell parts history) (sessions : All (λ (entry : Entry). IsSession shift entry.session) history)
+        (traces : (session : ℕ) → IsSession shift session
+        → IsTrace (script_of shift session) shift.patience (first session) (entries_of session history)) where
       asked : (entry : Entry) → Contains history entry → RequestFits cell entry.request
       asked entry contains =
-          let own = traced entry contains in
-          All-contains (λ (e : Entry). RequestFits cell e.request) (entries_of entry.session history) entry
-          (trace_fits (script_of shift entry.session) shift.patience (begin_at 0) (entries_of entry.session history)
-          (script_fits shift entry.session shift_fits) own.0.trace) own.1
+          let session : ℕ = entry.session in
+          let is : IsSession shift session = All-contains (λ (e : Entry). IsSession shift e.session) history entry sessions contains in
+          All-contains (λ (e : Entry). RequestFits cell e.request) (entries_of session history) entry
+          (trace_fits (script_of shift session) shift.patience (first session) (entries_of session history)
+          (script_fits shift session shift_fits) (traces session is))
+          (Contains-filter (λ (e : Entry). e.session == session) history entry contains (eq-eqb session session refl))
 
       requests_fit : All (λ (entry : Entry). RequestFits cell entry.request) history
       requests_fit = All-from_Contains (λ (entry : Entry). RequestFits cell entry.request) history asked
 
-      -- the entries of a shift in rounds on the empty cell fit
-      pub rounds_fit : All (EntryFits cell) history
-      rounds_fit = entries_fit [] history (IsAdmitted-empty cell) rounds.legal requests_fit
+      module _ (admitted : IsAdmitted cell parts) where
+        -- the entries fit
+        pub history_fits : All (EntryFits cell) history
+        history_fits = entries_fit parts history admitted legal requests_fit
 
-      -- the state behind them is drained by its plan
+        -- the state behind them is admitted
+        pub history_admitted : IsAdmitted cell (after cell parts history)
+        history_admitted = admitted_behind parts history admitted requests_fit
+
+        -- and is drained by its plan
+        pub history_drains : let behind = after cell parts history in Drains cell behind (plan_of cell behind)
+        history_drains = (plan_law cell fits (after cell parts history) history_admitted).drains
+
+    -- a shift in rounds on the empty cell
+    module _ (shift : Shift) (history : List Entry) (shift_fits : ShiftFits cell shift) (rounds : IsRoundRobin cell [] shift history) where
+      round_traces : (session : ℕ) → IsSession shift session
+          → IsTrace (script_of shift session) shift.patience (begin_at 0) (entries_of session history)
+      round_traces session is = (rounds.whole session is).trace
+
+      pub rounds_fit : All (EntryFits cell) history
+      rounds_fit = history_fits shift history shift_fits [] (λ session. begin_at 0) rounds.legal rounds.sessions round_traces
+          (IsAdmitted-empty cell)
+
       pub rounds_drain : let behind = after cell [] history in Drains cell behind (plan_of cell behind)
-      rounds_drain = (plan_law cell fits (after cell [] history) (admitted_behind [] history (IsAdmitted-empty cell) requests_fit)).drains
+      rounds_drain = history_drains shift history shift_fits [] (λ session. begin_at 0) rounds.legal rounds.sessions round_traces
+          (IsAdmitted-empty cell)
 
       -- none of them halted
       pub rounds_unhalted : holds_halt history ≡ false
       rounds_unhalted =
           none_halted history
-          (All-from_Contains (λ (entry : Entry). was_halted entry.told ≡ false) history
-          (λ entry contains. let own = traced entry contains in halted_of (entries_of entry.session history) entry own.0.unhalted own.1))
+          (All-from_Contains (λ (entry : Entry). was_halted entry.told ≡ false) history (λ entry contains.
+          let session : ℕ = entry.session in
+          let is = All-contains (λ (e : Entry). IsSession shift e.session) history entry rounds.sessions contains in
+          halted_of (entries_of session history) entry (rounds.whole session is).unhalted
+          (Contains-filter (λ (e : Entry). e.session == session) history entry contains (eq-eqb session session refl))))

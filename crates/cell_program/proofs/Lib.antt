@@ -1,8 +1,16 @@
+mod Counting
 mod Facts
 mod Fitted
+mod OpenedOnce
 mod Owed
 mod Prefixes
 mod Promising
 mod Refusals
+mod RunDisks
+mod RunEnds
+mod RunHistories
+mod RunOwed
+mod RunSessions
 mod Standing
+mod Starts
 mod Statuses

@@ -5,12 +5,11 @@ use Rattle.std.proofs.Math.Seq.{take-append-add}
 use Rattle.outside_io.specs.Causes.{Rose}
 use Rattle.outside_io.specs.Puts.{TookAll, TookSome}
 use Rattle.outside_io.specs.PutLaws.{some_is_prefix}
-use Rattle.cell_words.specs.Commands.{Task, Nothing, Solo, Plan, Drain, Why, Check, Show, AreThere, Comes, files_of}
-use Rattle.cell_words.specs.DiskTold.{IsOnlyRead}
+use Rattle.cell_words.specs.Commands.{Task, Nothing, Solo, Run, Plan, Drain, Why, Check, Show, AreThere, Comes, files_of}
 use Rattle.cell_words.specs.Ends.{Ends, PutsLines, SinkFailed, Whole}
 use Rattle.cell_words.specs.Promises.{IsEarlyStatus, Promises}
 use Rattle.cell_words.specs.Serving.{DiskServes, IsAccepted, IsFinished, ReadsAll, TakesAll}
-use Rattle.cell_words.specs.Telling.{HasJournal, ReadsOnly}
+use Rattle.cell_words.specs.Telling.{HasJournal, KeepsEarly, ReadsOnly}
 use Rattle.cell_words.specs.Texts.{Outcome}
 use Rattle.cell_words.specs.Told.{Told}
 use Rattle.cell_program.proofs.Facts.{Fact, Tells, status_of, told_at}
@@ -33,9 +32,9 @@ complete_from told task outcome (suc (suc (suc (suc (suc (suc (suc (suc zero))))
 complete_from told task outcome (suc (suc (suc (suc (suc (suc (suc (suc (suc zero))))))))) fact accepted read serves = inr refl
 complete_from told task outcome (suc (suc (suc (suc (suc (suc (suc (suc (suc (suc n)))))))))) fact accepted read serves = absurd fact
 
--- an early end only read the disk
+-- an early end keeps the disk
 early_from : (told : Told) (task : Task) (outcome : Outcome) (status : ℕ) → Fact told task outcome status → IsEarlyStatus status
-    → IsOnlyRead told.disk
+    → KeepsEarly told task
 early_from told task outcome zero fact is = absurd (omega (arith, is))
 early_from told task outcome (suc zero) fact is = absurd (omega (arith, is))
 early_from told task outcome (suc (suc zero)) fact is = fact.2
@@ -52,6 +51,7 @@ early_from told task outcome (suc (suc (suc (suc (suc (suc (suc (suc (suc (suc n
 reads_from : (told : Told) (task : Task) (outcome : Outcome) → Comes told task outcome → ReadsOnly told task
 reads_from told Nothing outcome comes = tt
 reads_from told (Solo cell shift) outcome comes = tt
+reads_from told (Run cell shift journal) outcome comes = tt
 reads_from told (Plan cell journal) outcome comes = comes.0
 reads_from told (Drain cell journal) outcome comes = tt
 reads_from told (Why cell journal step) outcome comes = comes.0
@@ -136,7 +136,7 @@ module _ (told : Told) (task : Task) (status : ℕ) (ends : Ends (Comes told tas
         complete_from told task ends.outcome status (subst (Fact told task ends.outcome) (sym same) tells) accepted
         (no_read_fault reads) serves
 
-    early : IsEarlyStatus status → IsOnlyRead told.disk
+    early : IsEarlyStatus status → KeepsEarly told task
     early is = elim ends.delivered [
       | Whole same taken kept ↦
           early_from told task ends.outcome status (subst (Fact told task ends.outcome) (sym same) tells) is

@@ -18,10 +18,11 @@ use Rattle.step_text.specs.Steps.{step_of}
 use Rattle.cell_words.specs.CellEnds.{cell_end}
 use Rattle.cell_words.specs.JournalEnds.{journal_end}
 use Rattle.cell_words.specs.ShiftEnds.{shift_end}
-use Rattle.cell_words.specs.Commands.{Task, Nothing, Solo, Plan, Drain, Why, Check, Show, AfterFile, AfterJournal, AfterStep, Comes, FileFailed, FileRefused, FileRead, IsBeforeDisk, IsBeforeSteps, IsDone, JournalFailed, JournalFaulty, JournalOpened, NoStep, OwesCheck, OwesDrain, OwesPlan, OwesShow, OwesSolo, OwesWhy, StepRead}
+use Rattle.cell_words.specs.Commands.{Task, Nothing, Solo, Run, Plan, Drain, Why, Check, Show, AfterFile, AfterJournal, AfterOpening, AfterStep, Comes, FileFailed, FileRefused, FileRead, IsBeforeDisk, IsBeforeSteps, IsDone, JournalFailed, JournalFaulty, JournalOpened, NoStep, OwesCheck, OwesDrain, OwesPlan, OwesRun, OwesShow, OwesSolo, OwesWhy, StepRead}
 use Rattle.cell_words.specs.DiskTold.{DiskTold}
 use Rattle.cell_words.specs.Journals.{why_lines}
 use Rattle.cell_words.specs.RecordEnds.{record_end, record_read}
+use Rattle.cell_words.specs.Runs.{run_room}
 use Rattle.cell_words.specs.Serving.{HoldsBadCell, HoldsBadJournal, HoldsBadRecord, HoldsBadShift, IsAnswered, NamesNoStep, TakesAll}
 use Rattle.cell_words.specs.Telling.{HoldsCell}
 use Rattle.record_text.specs.BadLines.{IsRecordOf, RefusedAt}
@@ -85,14 +86,14 @@ module _ (names : Option Names) (faults faults_after : ℕ) (cell : List ℕ) (o
 
 module _ (names : Option Names) (faults faults_after : ℕ) (cell shift : List ℕ) (outcome : Outcome) where
   shift_refused : (c : Cell) (fault : ShiftFault) → TellsOf names shift (λ bytes. shift_of c bytes ≡ Err fault)
-      → AfterFile names faults faults_after shift (GivenBy (shift_of c)) shift_end (λ s. IsDone c s outcome) (IsEarly outcome)
-      → IsEnd outcome (shift_end fault)
-  shift_refused c fault bad (FileFailed is rose) = inr (inr (status_of is))
-  shift_refused c fault bad (FileRefused found made is) =
+      → (follows : Shift → Type 0) (ends : Early → Type 0) → ((e : Early) → ends e → IsEarly outcome e)
+      → AfterFile names faults faults_after shift (GivenBy (shift_of c)) shift_end follows ends → IsEnd outcome (shift_end fault)
+  shift_refused c fault bad follows ends early (FileFailed is rose) = inr (inr (status_of (early _ is)))
+  shift_refused c fault bad follows ends early (FileRefused found made is) =
       let same = value_held {V = Result Shift ShiftFault} (shift_of c) names shift (Err fault) (Err found) bad made in
       let one : found ≡ fault = cc in
-      inr (inl (is ∙ ap (λ (f : ShiftFault). early_outcome (shift_end f)) one))
-  shift_refused c fault bad (FileRead s made follows) =
+      inr (inl (early _ is ∙ ap (λ (f : ShiftFault). early_outcome (shift_end f)) one))
+  shift_refused c fault bad follows ends early (FileRead s made behind) =
       let same = value_held {V = Result Shift ShiftFault} (shift_of c) names shift (Err fault) (Ok s) bad made in absurd (cc)
 
   shift_owed : (c : Cell) (fault : ShiftFault) → TellsOf names cell (λ bytes. cell_of bytes ≡ Ok c)
@@ -106,15 +107,34 @@ module _ (names : Option Names) (faults faults_after : ℕ) (cell shift : List �
       let same = value_held {V = Result Cell CellFault} cell_of names cell (Ok c) (Ok read) good made in
       let one : c ≡ read = cc in
       shift_refused read fault
-      (subst (λ (on : Cell). TellsOf names shift (λ bytes. shift_of on bytes ≡ Err fault)) one bad) follows
+      (subst (λ (on : Cell). TellsOf names shift (λ bytes. shift_of on bytes ≡ Err fault)) one bad)
+      (λ s. IsDone read s outcome) (IsEarly outcome) (λ e is. is) follows
+
+  -- the same of a run
+  run_shift_owed : (disk : DiskTold) (c : Cell) (fault : ShiftFault) → TellsOf names cell (λ bytes. cell_of bytes ≡ Ok c)
+      → TellsOf names shift (λ bytes. shift_of c bytes ≡ Err fault)
+      → OwesRun names faults faults_after disk cell shift outcome → IsEnd outcome (shift_end fault)
+  unfolding OwesRun
+  run_shift_owed disk c fault good bad (FileFailed is rose) = inr (inr (status_of is.0))
+  run_shift_owed disk c fault good bad (FileRefused found made is) =
+      let same = value_held {V = Result Cell CellFault} cell_of names cell (Ok c) (Err found) good made in absurd (cc)
+  run_shift_owed disk c fault good bad (FileRead held made follows) =
+      let same = value_held {V = Result Cell CellFault} cell_of names cell (Ok c) (Ok held.cell) good (cell_alone names cell held made) in
+      let one : c ≡ held.cell = cc in
+      shift_refused held.cell fault
+      (subst (λ (on : Cell). TellsOf names shift (λ bytes. shift_of on bytes ≡ Err fault)) one bad)
+      _ (IsBeforeDisk disk outcome) (λ e is. is.0) follows
 
 cell_decides : (told : Told) (task : Task) (outcome : Outcome) (fault : CellFault) → HoldsBadCell told task fault
     → Comes told task outcome → IsEnd outcome (cell_end fault)
-unfolding OwesSolo OwesCheck OwesShow OwesPlan OwesDrain OwesWhy
+unfolding OwesSolo OwesRun OwesCheck OwesShow OwesPlan OwesDrain OwesWhy
 cell_decides told Nothing outcome fault bad comes = absurd bad
 cell_decides told (Solo cell shift) outcome fault bad (still, MemoryWanted is) = inl is
 cell_decides told (Solo cell shift) outcome fault bad (still, IsOwed owed) =
     alone_owed told.names told.file_faults told.file_faults_after cell outcome fault bad _ owed
+cell_decides told (Run cell shift journal) outcome fault bad (MemoryWanted is) = inl is.0
+cell_decides told (Run cell shift journal) outcome fault bad (IsOwed owed) =
+    text_owed told.names told.file_faults told.file_faults_after cell outcome told.disk fault bad _ owed
 cell_decides told (Plan cell journal) outcome fault bad (only, MemoryWanted is) = inl is
 cell_decides told (Plan cell journal) outcome fault bad (only, IsOwed owed) =
     text_owed told.names told.file_faults told.file_faults_after cell outcome told.disk fault bad _ owed
@@ -137,6 +157,9 @@ shift_decides told Nothing outcome fault bad comes = absurd bad
 shift_decides told (Solo cell shift) outcome fault bad (still, MemoryWanted is) = inl is
 shift_decides told (Solo cell shift) outcome fault bad (still, IsOwed owed) =
     shift_owed told.names told.file_faults told.file_faults_after cell shift outcome bad.0 fault bad.1 bad.2 owed
+shift_decides told (Run cell shift journal) outcome fault bad (MemoryWanted is) = inl is.0
+shift_decides told (Run cell shift journal) outcome fault bad (IsOwed owed) =
+    run_shift_owed told.names told.file_faults told.file_faults_after cell shift outcome told.disk bad.0 fault bad.1 bad.2 owed
 shift_decides told (Plan cell journal) outcome fault bad comes = absurd bad
 shift_decides told (Drain cell journal) outcome fault bad comes = absurd bad
 shift_decides told (Why cell journal step) outcome fault bad comes = absurd bad
@@ -190,6 +213,7 @@ module _ (names : Option Names) (faults faults_after : ℕ) (cell record_file : 
 record_decides : (told : Told) (task : Task) (outcome : Outcome) → HoldsBadRecord told task → Comes told task outcome → IsRefusal outcome
 record_decides told Nothing outcome bad comes = absurd bad
 record_decides told (Solo cell shift) outcome bad comes = absurd bad
+record_decides told (Run cell shift journal) outcome bad comes = absurd bad
 record_decides told (Plan cell journal) outcome bad comes = absurd bad
 record_decides told (Drain cell journal) outcome bad comes = absurd bad
 record_decides told (Why cell journal step) outcome bad comes = absurd bad
@@ -204,6 +228,7 @@ step_decides : (told : Told) (task : Task) (outcome : Outcome) → NamesNoStep t
 unfolding OwesWhy
 step_decides told Nothing outcome bad comes = absurd bad
 step_decides told (Solo cell shift) outcome bad comes = absurd bad
+step_decides told (Run cell shift journal) outcome bad comes = absurd bad
 step_decides told (Plan cell journal) outcome bad comes = absurd bad
 step_decides told (Drain cell journal) outcome bad comes = absurd bad
 step_decides told (Check cell record_file) outcome bad comes = absurd bad
@@ -225,22 +250,22 @@ step_decides told (Why cell journal step) outcome bad (only, IsOwed (FileRead he
 abbrev pub IsJournalEnd : Outcome → Early → Type 0
 IsJournalEnd outcome early = IsEnd outcome early ⊎ (outcome.status ≡ 7)
 
-module _ (disk : DiskTold) (known held : CellFile) (same : (held.cell ≡ known.cell) × (held.text.items ≡ known.text.items)) (why : JournalFault)
-    (bad : IsSomeAnd disk.reads (λ file. opened_as known.cell file known.text.items MAX_ROOM ≡ Err why)) (outcome : Outcome) where
+module _ (disk : DiskTold) (known held : CellFile) (same : (held.cell ≡ known.cell) × (held.text.items ≡ known.text.items)) (room : ℕ)
+    (why : JournalFault) (bad : IsSomeAnd disk.reads (λ file. opened_as known.cell file known.text.items room ≡ Err why)) (outcome : Outcome) where
   -- the bytes open as this fault and nothing else
   opens_so : (result : Result (List Grant) JournalFault)
-      → IfSome disk.reads (λ file. opened_as held.cell file held.text.items MAX_ROOM ≡ result) → result ≡ Err why
+      → IfSome disk.reads (λ file. opened_as held.cell file held.text.items room ≡ result) → result ≡ Err why
   opens_so result is = by_told disk.reads bad is
     where
-      by_told : (reads : Option (List ℕ)) → IsSomeAnd reads (λ file. opened_as known.cell file known.text.items MAX_ROOM ≡ Err why)
-          → IfSome reads (λ file. opened_as held.cell file held.text.items MAX_ROOM ≡ result) → result ≡ Err why
+      by_told : (reads : Option (List ℕ)) → IsSomeAnd reads (λ file. opened_as known.cell file known.text.items room ≡ Err why)
+          → IfSome reads (λ file. opened_as held.cell file held.text.items room ≡ result) → result ≡ Err why
       by_told None bad is = absurd bad
       by_told (Some file) bad is =
-          sym is ∙ ap (λ (c : Cell). opened_as c file held.text.items MAX_ROOM) same.0
-          ∙ ap (λ (text : List ℕ). opened_as known.cell file text MAX_ROOM) same.1 ∙ bad
+          sym is ∙ ap (λ (c : Cell). opened_as c file held.text.items room) same.0
+          ∙ ap (λ (text : List ℕ). opened_as known.cell file text room) same.1 ∙ bad
 
   journal_owed : (follows : List Grant → Type 0) (ends : Early → Type 0) → ((e : Early) → ends e → IsEarly outcome e)
-      → AfterJournal disk held follows ends → IsJournalEnd outcome (journal_end why)
+      → AfterOpening disk held room follows ends → IsJournalEnd outcome (journal_end why)
   journal_owed follows ends early (JournalFailed is rose) = inr (status_of (early _ is))
   journal_owed follows ends early (JournalFaulty found refused is only) =
       let both = opens_so (Err found) refused in
@@ -261,21 +286,46 @@ module _ (told : Told) (cell : List ℕ) (outcome : Outcome) (known : CellFile) 
       absurd (cc)
   held_owed follows early then (FileRead held made is) = then held (one_cell told.names cell known held holds made) is
 
+-- then the shift that is held is read, and then the journal is opened
+module _ (told : Told) (cell shift : List ℕ) (outcome : Outcome) (why : JournalFault) (known : CellFile) (known_shift : Shift)
+    (holds : TellsOf told.names shift (λ bytes. shift_of known.cell bytes ≡ Ok known_shift))
+    (bad : IsSomeAnd told.disk.reads (λ file. opened_as known.cell file known.text.items (run_room known_shift) ≡ Err why)) where
+  run_journal_owed : (held : CellFile) → (held.cell ≡ known.cell) × (held.text.items ≡ known.text.items)
+      → (follows : Shift → List Grant → Type 0)
+      → AfterFile told.names told.file_faults told.file_faults_after shift (GivenBy (shift_of held.cell)) shift_end
+      (λ s. AfterOpening told.disk held (run_room s) (follows s) (IsBeforeSteps told.disk held.text.items outcome)) (IsBeforeDisk told.disk outcome)
+      → IsJournalEnd outcome (journal_end why)
+  run_journal_owed held same follows (FileFailed is rose) = inl (inr (inr (status_of is.0)))
+  run_journal_owed held same follows (FileRefused found made is) =
+      let both = value_held {V = Result Shift ShiftFault} (shift_of known.cell) told.names shift (Ok known_shift) (Err found) holds
+      (subst (λ (c : Cell). IsMadeOfFile told.names shift (shift_of c) (Err found)) same.0 made) in absurd (cc)
+  run_journal_owed held same follows (FileRead s made after) =
+      let both = value_held {V = Result Shift ShiftFault} (shift_of known.cell) told.names shift (Ok known_shift) (Ok s) holds
+      (subst (λ (c : Cell). IsMadeOfFile told.names shift (shift_of c) (Ok s)) same.0 made) in
+      let one : known_shift ≡ s = cc in
+      journal_owed told.disk known held same (run_room s) why
+      (subst (λ (at : Shift). IsSomeAnd told.disk.reads (λ file. opened_as known.cell file known.text.items (run_room at) ≡ Err why)) one bad)
+      outcome (follows s) (IsBeforeSteps told.disk held.text.items outcome) (λ e is. is.0) after
+
 journal_decides : (told : Told) (task : Task) (outcome : Outcome) (why : JournalFault) → HoldsBadJournal told task why
     → Comes told task outcome → IsJournalEnd outcome (journal_end why)
-unfolding OwesPlan OwesDrain OwesWhy
+unfolding OwesRun OwesPlan OwesDrain OwesWhy
 journal_decides told Nothing outcome why bad comes = absurd bad
 journal_decides told (Solo cell shift) outcome why bad comes = absurd bad
+journal_decides told (Run cell shift journal) outcome why bad (MemoryWanted is) = inl (inl is.0)
+journal_decides told (Run cell shift journal) outcome why bad (IsOwed owed) =
+    held_owed told cell outcome bad.0 bad.1 _ (journal_end why)
+    (λ held same. run_journal_owed told cell shift outcome why bad.0 bad.2.0 bad.2.1 bad.2.2 held same _) owed
 journal_decides told (Check cell record_file) outcome why bad comes = absurd bad
 journal_decides told (Show cell) outcome why bad comes = absurd bad
 journal_decides told (Plan cell journal) outcome why bad (only, MemoryWanted is) = inl (inl is)
 journal_decides told (Plan cell journal) outcome why bad (only, IsOwed owed) =
     held_owed told cell outcome bad.0 bad.1 _ (journal_end why)
-    (λ held same. journal_owed told.disk bad.0 held same why bad.3 outcome _ (IsEarly outcome) (λ e is. is)) owed
+    (λ held same. journal_owed told.disk bad.0 held same MAX_ROOM why bad.3 outcome _ (IsEarly outcome) (λ e is. is)) owed
 journal_decides told (Drain cell journal) outcome why bad (MemoryWanted is) = inl (inl is.0)
 journal_decides told (Drain cell journal) outcome why bad (IsOwed owed) =
     held_owed told cell outcome bad.0 bad.1 _ (journal_end why)
-    (λ held same. journal_owed told.disk bad.0 held same why bad.3 outcome _ (IsBeforeSteps told.disk held.text.items outcome) (λ e is. is.0)) owed
+    (λ held same. journal_owed told.disk bad.0 held same MAX_ROOM why bad.3 outcome _ (IsBeforeSteps told.disk held.text.items outcome) (λ e is. is.0)) owed
 journal_decides told (Why cell journal step) outcome why bad (only, MemoryWanted is) = inl (inl is)
 journal_decides told (Why cell journal step) outcome why bad (only, IsOwed owed) =
     held_owed told cell outcome bad.0 bad.1 _ (journal_end why) (λ held same. by_step held same) owed
@@ -287,7 +337,7 @@ journal_decides told (Why cell journal step) outcome why bad (only, IsOwed owed)
     by_step held same (NoStep fault fails is) =
         let both = sym fails ∙ ap (λ (c : Cell). step_of c step) same.0 ∙ bad.2.1 in absurd (cc)
     by_step held same (StepRead request is_step follows) =
-        journal_owed told.disk bad.0 held same why bad.3 outcome _ (IsEarly outcome) (λ e is. is) follows
+        journal_owed told.disk bad.0 held same MAX_ROOM why bad.3 outcome _ (IsEarly outcome) (λ e is. is) follows
 
 -- the end is answered where no file failed, and the sink did not
 answered : (told : Told) (task : Task) (status : ℕ) (early : Early) (ends : Ends (Comes told task) told.sink status)

@@ -7,7 +7,6 @@ use Rattle.cell_base.specs.declared.cells.Cell.{Cell}
 use Rattle.cell_base.specs.declared.shifts.Grant.{Grant}
 use Rattle.cell_file.specs.Walk.{cell_of}
 use Rattle.durable_cell.specs.Replayed.{AreDue, first_stray, opened_as, replayed, replayed_reading}
-use Rattle.durable_cell.specs.declared.replays.TheConstants.{MAX_ROOM}
 use Rattle.durable_cell.proofs.Replaying.{due_replayed}
 use Rattle.move_journal.specs.Blanks.{IsBlank}
 use Rattle.move_journal.specs.Journals.{IsJournal, StandsFor}
@@ -16,38 +15,26 @@ use Rattle.shift_recovery.specs.declared.faults.JournalFault.{JournalFault}
 use Rattle.shift_recovery.specs.declared.faults.JournalFault.TheVariants.{Damaged}
 use Rattle.shift_recovery.specs.Readings.{read_as}
 use Rattle.shift_recovery.proofs.Standing.{stands_found}
-use Rattle.cell_words.specs.DiskTold.{DiskTold, IsOnlyRead, StandsForNone, StandsStill, StoodFor, StoodStill}
+use Rattle.cell_words.specs.Commands.{WasOpened}
+use Rattle.cell_words.specs.DiskTold.{DiskTold, IsOnlyRead, StandsForNone, StandsOpened, StandsStill, StoodFor, StoodStill}
+use Rattle.cell_words.specs.Journals.{IsOpenedIn}
 use Rattle.cell_words.specs.Reading.{IsCellFile, cell_file_read}
+use Rattle.cell_words.specs.Runs.{run_room}
 use Rattle.cell_words.specs.Telling.{KeepsGrants}
 use Rattle.cell_words.specs.Told.{Told, TellsOf}
 use Rattle.cell_words.specs.declared.reading.CellFile.{CellFile}
+use Rattle.cell_program.proofs.OpenedOnce.{opened_once}
 
 -- ---- a file
 
 -- what stands for grants that are due opens as them
-stands_opened : (cell : Cell) (file text : List ℕ) (grants : List Grant) → StandsFor file text grants → AreDue cell grants
-    → length grants ≤ MAX_ROOM → opened_as cell file text MAX_ROOM ≡ Ok grants
-stands_opened cell file text grants stands due few =
-    elim (stands_found file text MAX_ROOM grants stands few) [
+stands_opened : (cell : Cell) (file text : List ℕ) (room : ℕ) (grants : List Grant) → StandsFor file text grants → AreDue cell grants
+    → length grants ≤ room → opened_as cell file text room ≡ Ok grants
+stands_opened cell file text room grants stands due few =
+    elim (stands_found file text room grants stands few) [
       | inl blank ↦ ap (replayed_reading cell text) blank.0 ∙ ap Ok (sym blank.1)
       | inr found ↦ ap (replayed_reading cell text) found ∙ due_replayed cell text grants due
     ]
-
--- and as no others
-pub only_opened : (cell : Cell) (file text : List ℕ) (grants found : List Grant) → StandsFor file text grants → length grants ≤ MAX_ROOM
-    → opened_as cell file text MAX_ROOM ≡ Ok found → found ≡ grants
-only_opened cell file text grants found stands few opened =
-    elim (stands_found file text MAX_ROOM grants stands few) [
-      | inl blank ↦
-          let both = sym opened ∙ ap (replayed_reading cell text) blank.0 in
-          let none : found ≡ [] = cc in none ∙ sym blank.1
-      | inr read ↦
-          by_stray (first_stray cell [] (13 + length text) grants) (sym opened ∙ ap (replayed_reading cell text) read)
-    ]
-  where
-    by_stray : (stray : Option ℕ) → Ok found ≡ option_map_or (λ at. Err (Damaged at)) stray (Ok grants) → found ≡ grants
-    by_stray None is = cc
-    by_stray (Some at) is = absurd (cc)
 
 -- a blank file stands for no grants alone
 stands_once : (file text : List ℕ) (grants : List Grant) → IsBlank file → StandsFor file text grants → grants ≡ []
@@ -60,15 +47,15 @@ stands_once file text grants blank (inr journal) =
 module _ (disk : DiskTold) (now : IfSome disk.reads disk.leaves) (text : List ℕ) (grants : List Grant)
     (stood : StoodFor disk text grants) where
   -- one that stood for grants that are due, with room for them, is not refused
-  pub accepted_opens : (cell : Cell) → length grants ≤ MAX_ROOM → AreDue cell grants → (why : JournalFault)
-      → IfSome disk.reads (λ file. opened_as cell file text MAX_ROOM ≡ Err why) → ⊥
-  accepted_opens cell few due why refused = by_told disk.reads now stood.0 refused
+  pub accepted_opens : (cell : Cell) (room : ℕ) → length grants ≤ room → AreDue cell grants → (why : JournalFault)
+      → IfSome disk.reads (λ file. opened_as cell file text room ≡ Err why) → ⊥
+  accepted_opens cell room few due why refused = by_told disk.reads now stood.0 refused
     where
       by_told : (reads : Option (List ℕ)) → IfSome reads disk.leaves → IsSome reads
-          → IfSome reads (λ file. opened_as cell file text MAX_ROOM ≡ Err why) → ⊥
+          → IfSome reads (λ file. opened_as cell file text room ≡ Err why) → ⊥
       by_told None now tells refused = absurd (cc)
       by_told (Some file) now tells refused =
-          let both = sym refused ∙ stands_opened cell file text grants (stood.1 file now) due few in absurd (cc)
+          let both = sym refused ∙ stands_opened cell file text room grants (stood.1 file now) due few in absurd (cc)
 
   -- one that was only read stands for them still
   pub still_by_read : IsOnlyRead disk → StandsStill disk text grants
@@ -103,6 +90,26 @@ module _ (disk : DiskTold) (now : IfSome disk.reads disk.leaves) (text : List �
         | inl at_entry ↦ subst (StandsFor left text) no_grants (stood.1 left at_entry)
         | inr stands ↦ stands
       ]
+
+  -- one that was opened stood for the grants that were found
+  pub found_same : (cell : Cell) (room : ℕ) (found : List Grant) → IfSome disk.reads (λ file. opened_as cell file text room ≡ Ok found)
+      → found ≡ grants
+  found_same cell room found opened = by_told disk.reads now stood.0 opened
+    where
+      by_told : (reads : Option (List ℕ)) → IfSome reads disk.leaves → IsSome reads
+          → IfSome reads (λ file. opened_as cell file text room ≡ Ok found) → found ≡ grants
+      by_told None now tells opened = absurd (cc)
+      by_told (Some file) now tells opened = opened_once cell file text room found grants (stood.1 file now) opened
+
+  -- and stands for them still, where nothing was added
+  pub still_by_opened : StandsOpened text grants disk → StandsStill disk text grants
+  still_by_opened stands = (stands.now, by_told disk.reads stands.any_moment)
+    where
+      by_told : (reads : Option (List ℕ))
+          → IfSome reads (λ _. (left : List ℕ) → disk.left left → disk.leaves left ⊎ StandsFor left text grants)
+          → IfSome reads (λ _. (left : List ℕ) → disk.left left → StandsFor left text grants)
+      by_told None always = tt
+      by_told (Some file) always = λ left is. elim (always left is) [ inl at_entry ↦ stood.1 left at_entry | inr stands ↦ stands ]
 
   pub still_standing : StoodStill text disk → StandsStill disk text grants
   still_standing (inl only) = still_by_read only
@@ -150,3 +157,18 @@ module _ (told : Told) (cell : List ℕ) (now : IfSome told.disk.reads told.disk
   keeps_by_still held read still text holds grants stood =
       still_standing told.disk now text grants stood
       (subst (λ (t : List ℕ). StoodStill t told.disk) (text_held told.names cell text held holds read) still)
+
+  pub keeps_by_opened : (held : CellFile) → IsCellFile told.names cell held → (room : ℕ) (opening : List Grant)
+      → IsOpenedIn told.disk held.cell held.text.items room opening → StandsOpened held.text.items opening told.disk → KeepsGrants told cell
+  keeps_by_opened held read room opening opened stands text holds grants stood =
+      let same = text_held told.names cell text held holds read in
+      let one : opening ≡ grants =
+      found_same told.disk now text grants stood held.cell room opening
+      (subst (λ (t : List ℕ). IfSome told.disk.reads (λ file. opened_as held.cell file t room ≡ Ok opening)) same opened.1) in
+      still_by_opened told.disk now text grants stood
+      (subst (λ (gs : List Grant). StandsOpened text gs told.disk) one (subst (λ (t : List ℕ). StandsOpened t opening told.disk) same stands))
+
+  -- where memory was wanting in a run
+  pub keeps_by_memory : IsOnlyRead told.disk ⊎ WasOpened told.names told.disk cell → KeepsGrants told cell
+  keeps_by_memory (inl only) = keeps_by_read only
+  keeps_by_memory (inr (held, read, (s, opening, opened, stands))) = keeps_by_opened held read (run_room s) opening opened stands

@@ -5,6 +5,8 @@ use Rattle.outside_io.specs.Puts.{TookAll}
 use Rattle.cell_base.specs.declared.cells.Cell.{Cell}
 use Rattle.cell_base.specs.declared.requests.Request.{Request}
 use Rattle.cell_base.specs.declared.shifts.Grant.{Grant}
+use Rattle.cell_base.specs.declared.shifts.Shift.{Shift}
+use Rattle.durable_cell.specs.declared.replays.TheConstants.{MAX_ROOM}
 use Rattle.cell_base.specs.Histories.{replay}
 use Rattle.cell_file.specs.Walk.{cell_of}
 use Rattle.shift_file.specs.Walk.{shift_of}
@@ -25,15 +27,16 @@ use Rattle.shift_checker.specs.declared.verdict.Verdict.TheVariants.{Yes, No}
 use Rattle.cell_words.specs.CellEnds.{cell_end}
 use Rattle.cell_words.specs.JournalEnds.{journal_end}
 use Rattle.cell_words.specs.ShiftEnds.{shift_end}
-use Rattle.cell_words.specs.Commands.{Task, Nothing, Solo, Plan, Drain, Why, Check, Show, AfterFile, AfterJournal, AfterStep, Comes, FileFailed, FileRefused, FileRead, IsBeforeDisk, IsBeforeSteps, IsDone, IsPlanned, JournalFailed, JournalFaulty, JournalOpened, NoStep, OwesCheck, OwesDrain, OwesPlan, OwesShow, OwesSolo, OwesWhy, StepRead}
-use Rattle.cell_words.specs.DiskTold.{DiskTold, IsOnlyRead}
+use Rattle.cell_words.specs.Commands.{Task, Nothing, Solo, Run, Plan, Drain, Why, Check, Show, AfterFile, AfterJournal, AfterOpening, AfterStart, AfterStep, Comes, FileFailed, FileRefused, FileRead, IsBeforeDisk, IsBeforeSessions, IsBeforeSteps, IsDone, IsPlanned, JournalFailed, JournalFaulty, JournalOpened, NoStep, OwesCheck, OwesDrain, OwesPlan, OwesRun, OwesShow, OwesSolo, OwesWhy, StartRefused, Started, StepRead}
+use Rattle.cell_words.specs.DiskTold.{DiskTold, IsOnlyRead, IsUntouched}
 use Rattle.cell_words.specs.Drains.{IsDrained, IsHalted}
 use Rattle.cell_words.specs.Ends.{IsEarly, IsOwed, MemoryWanted}
-use Rattle.cell_words.specs.Journals.{IsOpenedWith, IsRefusedBy, why_lines}
+use Rattle.cell_words.specs.Journals.{IsOpenedIn, IsOpenedWith, IsRefusedBy, why_lines}
 use Rattle.cell_words.specs.Reading.{GivenBy, IsCellFile, cell_file_read}
 use Rattle.cell_words.specs.RecordEnds.{record_end, record_read}
+use Rattle.cell_words.specs.Runs.{AreStarted, IsOtherShift, IsRun, IsRunHalted, run_room}
 use Rattle.cell_words.specs.Serving.{AcceptsJournal, IsAccepted}
-use Rattle.cell_words.specs.Telling.{HasJournal, IsCellRefused, KeepsGrants}
+use Rattle.cell_words.specs.Telling.{HasJournal, IsCellRefused, IsJournalRefused, KeepsEarly, KeepsGrants}
 use Rattle.cell_words.specs.Texts.{Outcome, done, early_outcome, early_text, verdict_outcome}
 use Rattle.cell_words.specs.Told.{Told, HoldsOf, IsMadeOfFile}
 use Rattle.cell_words.specs.declared.early.Early.{Early}
@@ -42,7 +45,8 @@ use Rattle.cell_words.specs.declared.reading.CellFile.{CellFile}
 use Rattle.cell_words.proofs.Disks.{read_untouched}
 use Rattle.cell_words.proofs.Cuts.{cell_alone}
 use Rattle.cell_program.proofs.Facts.{Tells, at, lines_of, status_of}
-use Rattle.cell_program.proofs.Standing.{accepted_opens, keeps_by_read, keeps_by_still}
+use Rattle.cell_program.proofs.Standing.{accepted_opens, found_same, keeps_by_memory, keeps_by_opened, keeps_by_read, keeps_by_still}
+use Rattle.cell_program.proofs.Starts.{other_not_started}
 
 -- a fault of a file has its status, and want of memory its own
 cell_status : (fault : CellFault) → ((early_outcome (cell_end fault)).status ≡ 4) ⊎ ((early_outcome (cell_end fault)).status ≡ 9)
@@ -83,10 +87,10 @@ module _ (told : Told) (task : Task) (outcome : Outcome) where
   abbrev Refusal : Type 0 → Type 0
   Refusal fact = fact × (IsAccepted told task → ⊥)
 
-  starved : IsEarly outcome Starved → IsOnlyRead told.disk → Tells told task outcome
+  starved : IsEarly outcome Starved → KeepsEarly told task → Tells told task outcome
   starved is read = at told task outcome 9 (status_of is) read
 
-  cell_refused : (fault : CellFault) → IsEarly outcome (cell_end fault) → IsOnlyRead told.disk → Refusal (IsCellRefused told task)
+  cell_refused : (fault : CellFault) → IsEarly outcome (cell_end fault) → KeepsEarly told task → Refusal (IsCellRefused told task)
       → Tells told task outcome
   cell_refused fault is read refused = by_status (cell_status fault)
     where
@@ -96,7 +100,7 @@ module _ (told : Told) (task : Task) (outcome : Outcome) where
 
   -- a cell is read first
   after_cell : {V : Type 0} (cell : List ℕ) (reads : List ℕ → Result V CellFault → Type 0) (follows : V → Type 0) (ends : Early → Type 0)
-      → ((e : Early) → ends e → IsEarly outcome e × IsOnlyRead told.disk)
+      → ((e : Early) → ends e → IsEarly outcome e × KeepsEarly told task)
       → ((fault : CellFault) → HoldsOf told.names cell (λ bytes. reads bytes (Err fault)) → Refusal (IsCellRefused told task))
       → ((value : V) → HoldsOf told.names cell (λ bytes. reads bytes (Ok value)) → follows value → Tells told task outcome)
       → AfterFile told.names told.file_faults told.file_faults_after cell reads cell_end follows ends → Tells told task outcome
@@ -107,13 +111,16 @@ module _ (told : Told) (task : Task) (outcome : Outcome) where
   after_cell cell reads follows ends early refused tells (FileRead value made is) = tells value made is
 
   -- then a journal is opened, of a command that has one
-  after_journal : (cell : List ℕ) → ((P : List ℕ → Type 0) → P cell → HasJournal task P) → (IsAccepted told task → AcceptsJournal told cell)
+  after_journal : (cell : List ℕ) → ((P : List ℕ → Type 0) → P cell → HasJournal task P)
+      → (HasJournal task (λ name. (h : CellFile) × IsCellFile told.names name h
+      × ((w : JournalFault) × IsRefusedBy told.disk h.cell h.text.items w)) → IsJournalRefused told task)
+      → (IsOnlyRead told.disk → KeepsEarly told task) → (IsAccepted told task → AcceptsJournal told cell)
       → IfSome told.disk.reads told.disk.leaves
       → (held : CellFile) → IsCellFile told.names cell held → (follows : List Grant → Type 0) (ends : Early → Type 0)
       → ((e : Early) → ends e → IsEarly outcome e) → (ends DeviceFault → KeepsGrants told cell)
       → ((grants : List Grant) → IsOpenedWith told.disk held.cell held.text.items grants → follows grants → Tells told task outcome)
       → AfterJournal told.disk held follows ends → Tells told task outcome
-  after_journal cell has accepts now held read follows ends early keeps tells (JournalFailed is rose) =
+  after_journal cell has refuses kept accepts now held read follows ends early keeps tells (JournalFailed is rose) =
       let e = early _ is in
       at told task outcome 7 (status_of e) (
         rose,
@@ -121,15 +128,15 @@ module _ (told : Told) (task : Task) (outcome : Outcome) where
         λ taken. inl (has (λ name. TookAll told.sink (early_text DeviceFault ∷ []) × KeepsGrants told name)
             (subst (TookAll told.sink) (lines_of e) taken, keeps is)),
       )
-  after_journal cell has accepts now held read follows ends early keeps tells (JournalFaulty why refused is only) =
+  after_journal cell has refuses kept accepts now held read follows ends early keeps tells (JournalFaulty why refused is only) =
       at told task outcome 6 (status_of (early _ is) ∙ journal_status why) (
-        has (λ name. (h : CellFile) × IsCellFile told.names name h × ((w : JournalFault) × IsRefusedBy told.disk h.cell h.text.items w))
-            (held, read, (why, refused)),
+        refuses (has (λ name. (h : CellFile) × IsCellFile told.names name h × ((w : JournalFault) × IsRefusedBy told.disk h.cell h.text.items w))
+            (held, read, (why, refused))),
         λ accepted. let journal = accepts accepted held read in
-            accepted_opens told.disk now held.text.items journal.0 journal.1 held.cell journal.2 journal.3 why refused,
-        only,
+            accepted_opens told.disk now held.text.items journal.0 journal.1 held.cell MAX_ROOM journal.2 journal.3 why refused,
+        kept only,
       )
-  after_journal cell has accepts now held read follows ends early keeps tells (JournalOpened grants opened is) = tells grants opened is
+  after_journal cell has refuses kept accepts now held read follows ends early keeps tells (JournalOpened grants opened is) = tells grants opened is
 
 -- the words of a command that has a journal
 plan_has : (cell journal : List ℕ) (P : List ℕ → Type 0) → P cell → HasJournal (Plan cell journal) P
@@ -193,7 +200,7 @@ module _ (told : Told) (now : IfSome told.disk.reads told.disk.leaves) (cell jou
   plan_tells : IsOnlyRead told.disk → AfterJournal told.disk held (λ grants. IsPlanned held.cell grants outcome) (IsEarly outcome)
       → Tells told (Plan cell journal) outcome
   plan_tells only =
-      after_journal told (Plan cell journal) outcome cell (plan_has cell journal) (λ accepted. accepted.1) now held read
+      after_journal told (Plan cell journal) outcome cell (plan_has cell journal) (λ is. is) (λ is. is) (λ accepted. accepted.1) now held read
       (λ grants. IsPlanned held.cell grants outcome) (IsEarly outcome)
       (λ e is. is) (λ is. keeps_by_read told cell now only) (λ grants opened planned.
       at told (Plan cell journal) outcome 0 (status_of planned.2)
@@ -207,7 +214,7 @@ module _ (told : Told) (now : IfSome told.disk.reads told.disk.leaves) (cell jou
         → AfterJournal told.disk held (λ grants. outcome ≡ done (why_lines held.cell (replay held.cell grants) request)) (IsEarly outcome)
         → Tells told why outcome
     answered request is_step =
-        after_journal told why outcome cell (why_has cell journal step) (λ accepted. accepted.2) now held read
+        after_journal told why outcome cell (why_has cell journal step) (λ is. is) (λ is. is) (λ accepted. accepted.2) now held read
         (λ grants. outcome ≡ done (why_lines held.cell (replay held.cell grants) request)) (IsEarly outcome)
         (λ e is. is) (λ is. keeps_by_read told cell now only) (λ grants opened is.
         at told why outcome 0 (status_of is)
@@ -236,16 +243,86 @@ module _ (told : Told) (now : IfSome told.disk.reads told.disk.leaves) (cell jou
       ⊎ IsHalted told.disk held.cell held.text.items grants outcome) (IsBeforeSteps told.disk held.text.items outcome)
       → Tells told (Drain cell journal) outcome
   drain_tells =
-      after_journal told (Drain cell journal) outcome cell (drain_has cell journal) (λ accepted. accepted.1) now held read
+      after_journal told (Drain cell journal) outcome cell (drain_has cell journal) (λ is. is) (λ is. is) (λ accepted. accepted.1) now held read
       (λ grants. IsDrained told.disk held.cell held.text.items grants outcome ⊎ IsHalted told.disk held.cell held.text.items grants outcome)
       (IsBeforeSteps told.disk held.text.items outcome)
       (λ e is. is.0) (λ is. keeps_by_still told cell now held read is.1) drained_tells
+
+-- ---- `run`
+
+module _ (told : Told) (now : IfSome told.disk.reads told.disk.leaves) (cell shift journal : List ℕ) (outcome : Outcome) (held : CellFile)
+    (read : IsCellFile told.names cell held) where
+  abbrev run : Task
+  run = Run cell shift journal
+
+  untouched_kept : IsUntouched told.disk → KeepsGrants told cell
+  untouched_kept still = keeps_by_read told cell now (read_untouched told.disk still)
+
+  module _ (s : Shift) (given : IsMadeOfFile told.names shift (shift_of held.cell) (Ok s)) where
+    -- grants that are another shift's are none behind which the sessions start
+    not_accepted : (opening : List Grant) → IsOpenedIn told.disk held.cell held.text.items (run_room s) opening → (session : ℕ)
+        → IsOtherShift s opening session → IsAccepted told run → ⊥
+    not_accepted opening opened session other accepted =
+        let journal = accepted.2 held read s given in
+        let one : opening ≡ journal.0 =
+        found_same told.disk now held.text.items journal.0 journal.1 held.cell (run_room s) opening opened.1 in
+        other_not_started s opening session other (subst (AreStarted s) (sym one) journal.4)
+
+    started : (opening : List Grant) → IsOpenedIn told.disk held.cell held.text.items (run_room s) opening
+        → AfterStart s opening (IsRun told.disk held.cell held.text.items s opening outcome
+        ⊎ IsRunHalted told.disk held.cell held.text.items s opening outcome) (IsBeforeSessions told.disk held.text.items opening outcome)
+        → Tells told run outcome
+    started opening opened (StartRefused session other is) =
+        at told run outcome 6 (status_of is.0) (
+          (held, read, (s, given, inr (opening, opened, (session, other)))),
+          not_accepted opening opened session other,
+          keeps_by_opened told cell now held read (run_room s) opening opened is.1,
+        )
+    started opening opened (Started begun (inl whole)) =
+        at told run outcome 0 (status_of whole.printed)
+        (λ taken. (held, read, (s, given, (opening, opened, begun, (outcome, whole, taken)))), refl)
+    started opening opened (Started begun (inr halted)) =
+        at told run outcome 7 (status_of halted.printed)
+        (halted.cause, tt, λ taken. inr (held, read, (s, given, (opening, opened, begun, (outcome, halted, taken)))))
+
+    opened_tells : AfterOpening told.disk held (run_room s) (λ opening. AfterStart s opening
+        (IsRun told.disk held.cell held.text.items s opening outcome ⊎ IsRunHalted told.disk held.cell held.text.items s opening outcome)
+        (IsBeforeSessions told.disk held.text.items opening outcome)) (IsBeforeSteps told.disk held.text.items outcome)
+        → Tells told run outcome
+    opened_tells (JournalFailed is rose) =
+        at told run outcome 7 (status_of is.0)
+        (rose, tt, λ taken. inl (subst (TookAll told.sink) (lines_of is.0) taken, keeps_by_still told cell now held read is.1))
+    opened_tells (JournalFaulty why refused is only) =
+        at told run outcome 6 (status_of is.0 ∙ journal_status why) (
+          (held, read, (s, given, inl ((why, refused), only))),
+          λ accepted. let journal = accepted.2 held read s given in
+              accepted_opens told.disk now held.text.items journal.0 journal.1 held.cell (run_room s) journal.2 journal.3 why refused,
+          keeps_by_read told cell now only,
+        )
+    opened_tells (JournalOpened opening opened follows) = started opening opened follows
+
+  run_tells : AfterFile told.names told.file_faults told.file_faults_after shift (GivenBy (shift_of held.cell)) shift_end
+      (λ s. AfterOpening told.disk held (run_room s) (λ opening. AfterStart s opening
+      (IsRun told.disk held.cell held.text.items s opening outcome ⊎ IsRunHalted told.disk held.cell held.text.items s opening outcome)
+      (IsBeforeSessions told.disk held.text.items opening outcome)) (IsBeforeSteps told.disk held.text.items outcome))
+      (IsBeforeDisk told.disk outcome) → Tells told run outcome
+  run_tells (FileFailed is rose) = at told run outcome 3 (status_of is.0) (rose, untouched_kept is.1)
+  run_tells (FileRefused fault refused is) = by_status (shift_status fault)
+    where
+      alone : IsMadeOfFile told.names cell cell_of (Ok held.cell)
+      alone = cell_alone told.names cell held read
+
+      by_status : ((early_outcome (shift_end fault)).status ≡ 5) ⊎ ((early_outcome (shift_end fault)).status ≡ 9) → Tells told run outcome
+      by_status (inl five) = at told run outcome 5 (status_of is.0 ∙ five)
+          ((held.cell, alone, (fault, refused)), λ accepted. accepted.1 held.cell alone fault refused, untouched_kept is.1)
+      by_status (inr nine) = at told run outcome 9 (status_of is.0 ∙ nine) (untouched_kept is.1)
+  run_tells (FileRead s given follows) = opened_tells s given follows
 
 -- ---- every command
 
 pub comes_tells : (told : Told) → IfSome told.disk.reads told.disk.leaves → (task : Task) (outcome : Outcome) → Comes told task outcome
     → Tells told task outcome
-unfolding OwesSolo OwesCheck OwesShow OwesPlan OwesDrain OwesWhy
+unfolding OwesSolo OwesRun OwesCheck OwesShow OwesPlan OwesDrain OwesWhy
 comes_tells told now Nothing outcome comes =
     at told Nothing outcome 2 (status_of comes.1) (refl, λ none. none, read_untouched told.disk comes.0)
 comes_tells told now (Solo cell shift) outcome (still, MemoryWanted is) =
@@ -254,6 +331,13 @@ comes_tells told now (Solo cell shift) outcome (still, IsOwed owed) =
     let only = read_untouched told.disk still in
     after_cell told (Solo cell shift) outcome cell (GivenBy cell_of) _ (IsEarly outcome) (λ e is. (is, only))
     (λ fault made. ((fault, made), λ accepted. accepted.0 fault made)) (solo_tells told cell shift outcome only) owed
+comes_tells told now (Run cell shift journal) outcome (MemoryWanted is) =
+    starved told (Run cell shift journal) outcome is.0 (keeps_by_memory told cell now is.1)
+comes_tells told now (Run cell shift journal) outcome (IsOwed owed) =
+    after_cell told (Run cell shift journal) outcome cell cell_file_read _ (IsBeforeDisk told.disk outcome)
+    (λ e is. (is.0, keeps_by_read told cell now (read_untouched told.disk is.1)))
+    (λ fault made. ((fault, made), λ accepted. accepted.0 fault made))
+    (λ held read. run_tells told now cell shift journal outcome held read) owed
 comes_tells told now (Plan cell journal) outcome (only, MemoryWanted is) = starved told (Plan cell journal) outcome is only
 comes_tells told now (Plan cell journal) outcome (only, IsOwed owed) =
     after_cell told (Plan cell journal) outcome cell cell_file_read _ (IsBeforeDisk told.disk outcome) (λ e is. (is.0, only))

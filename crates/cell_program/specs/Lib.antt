@@ -1,2 +1,3 @@
+pub mod JournalRuns
 pub mod OutSink
 pub mod Runs

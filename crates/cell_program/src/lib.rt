@@ -14,8 +14,12 @@
 #![tactic(auto)]
 
 mod dir_files;
+mod disk_laws;
 mod file_disk;
+mod journal_run;
 mod out_sink;
+mod rest_pace;
+mod running;
 mod solo;
 mod top;
 
@@ -23,4 +27,5 @@ pub use cell_words::Ended;
 pub use dir_files::DirFiles;
 pub use file_disk::FileDisk;
 pub use out_sink::OutSink;
+pub use rest_pace::RestPace;
 pub use top::cell_main;

@@ -1,5 +1,5 @@
 //! The top call.
-ghost use Rattle.std.specs.Prelude.{◌≡◌, map, IfSome, ⊤};
+ghost use Rattle.std.specs.Prelude.{◌≡◌, map, ⊤};
 ghost use Rattle.std.specs.String.{string_bytes};
 ghost use Rattle.outside_io.specs.Puts.{sink_told};
 ghost use Rattle.cell_words.specs.Commands.{AreThere, Comes, files_of, task_of};
@@ -9,6 +9,8 @@ ghost use Rattle.cell_words.specs.Promises.{Promises};
 ghost use Rattle.cell_words.specs.Telling.{HasJournal};
 ghost use Rattle.cell_words.specs.Told.{told_by};
 
+use crate::disk_laws::{leaves_only_now, reads_an_image};
+use crate::running::run_on_journal;
 use crate::solo::run_solo;
 use cell_words::{
     Command, Ended, command_of, finish, run_check, run_drain, run_plan, run_show, run_why,
@@ -22,13 +24,13 @@ use std::thread::Threads;
 /// Runs one command. The words are matched by their number and the first one; the tests come in the order: words, cell,
 /// shift or step or record, journal, the run, output. A sink that failed gives status 8 whatever else happened.
 pub fn cell_main<R: Threads + Wait + Sync, F: Files, K: Sink, D: Disk + Send, P: Pace + Sync>(
-    _rt: &R,
+    rt: &R,
     alloc: Global,
     words: &[String],
     files: &mut F,
     out: &mut K,
     disk: D,
-    _pace: &P,
+    pace: &P,
 ) -> Ended<D>
     // What each status tells, what is answered where nothing outside fails, and what is done to the disk: each promise by its
     // name in `Promises`.
@@ -41,21 +43,18 @@ pub fn cell_main<R: Threads + Wait + Sync, F: Files, K: Sink, D: Disk + Send, P:
     ensures untouched { (HasJournal (task_of (map string_bytes words.now)) (λ _. ⊤) → ⊥) → result.disk ≡ disk }
 {
     reads_an_image(&disk);
-    run_command(alloc, words, files, out, disk)
+    run_command(rt, alloc, words, files, out, disk, pace)
 }
 
-// What a disk reads as is one of the files that a crash may leave.
-fn reads_an_image<D: Disk>(disk: &D)
-    ensures { IfSome (D.reads_as disk.now) (D.may_leave disk.now) }
-{}
-
 // Finds the command and runs it.
-fn run_command<F: Files, K: Sink, D: Disk>(
+fn run_command<R: Threads + Wait + Sync, F: Files, K: Sink, D: Disk + Send, P: Pace + Sync>(
+    rt: &R,
     alloc: Global,
     words: &[String],
     files: &mut F,
     out: &mut K,
     disk: D,
+    pace: &P,
 ) -> Ended<D>
     ensures ends { let disk = disk_told D.reads_as D.may_leave D.moment D.left_since D.faults disk result.disk in
         let sink = sink_told K.taken K.was_put K.faults out.old out.new in
@@ -65,6 +64,7 @@ fn run_command<F: Files, K: Sink, D: Disk>(
         → result.status ≡ 3 → ⊥ }
     ensures untouched { (HasJournal (task_of (map string_bytes words.now)) (λ _. ⊤) → ⊥) → result.disk ≡ disk }
 {
+    leaves_only_now(&disk);
     match command_of(words) {
         Command::Nothing => Ended {
             status: finish(out, 2, &usage_line()),
@@ -74,6 +74,9 @@ fn run_command<F: Files, K: Sink, D: Disk>(
             status: run_solo(alloc, files, out, cell, shift),
             disk,
         },
+        Command::Run { cell, shift, .. } => run_on_journal(
+            rt, alloc, files, out, cell, shift, disk, pace,
+        ),
         Command::Plan { cell, .. } => run_plan(alloc, files, out, cell, disk),
         Command::Drain { cell, .. } => run_drain(alloc, files, out, cell, disk),
         Command::Why { cell, step, .. } => run_why(alloc, files, out, cell, step, disk),

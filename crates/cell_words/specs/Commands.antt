@@ -10,6 +10,7 @@ use Rattle.cell_base.specs.declared.shifts.Shift.{Shift}
 use Rattle.cell_base.specs.Histories.{replay}
 use Rattle.cell_file.specs.Walk.{cell_of}
 use Rattle.shift_file.specs.Walk.{shift_of}
+use Rattle.durable_cell.specs.declared.replays.TheConstants.{MAX_ROOM}
 use Rattle.shift_recovery.specs.declared.faults.JournalFault.{JournalFault}
 use Rattle.step_text.specs.Steps.{step_of}
 use Rattle.step_text.specs.declared.faults.StepFault.{StepFault}
@@ -18,12 +19,13 @@ use Rattle.shift_checker.specs.Judging.{judge}
 use Rattle.cell_words.specs.CellEnds.{cell_end}
 use Rattle.cell_words.specs.ShiftEnds.{shift_end}
 use Rattle.cell_words.specs.RecordEnds.{record_end, record_read}
-use Rattle.cell_words.specs.DiskTold.{DiskTold, IsUntouched, IsOnlyRead, StoodStill}
+use Rattle.cell_words.specs.DiskTold.{DiskTold, IsUntouched, IsOnlyRead, StandsOpened, StoodStill}
 use Rattle.cell_words.specs.Drains.{IsDrained, IsDrainOf, IsHalted}
 use Rattle.cell_words.specs.Ends.{IsEarly, MayCome}
 use Rattle.cell_words.specs.JournalEnds.{journal_end}
-use Rattle.cell_words.specs.Journals.{IsOpenedWith, IsRefusedBy, IsPlanRecord, why_lines}
-use Rattle.cell_words.specs.Reading.{GivenBy, cell_file_read}
+use Rattle.cell_words.specs.Journals.{IsOpenedIn, IsOpenedWith, IsRefusedIn, IsPlanRecord, why_lines}
+use Rattle.cell_words.specs.Reading.{GivenBy, IsCellFile, cell_file_read}
+use Rattle.cell_words.specs.Runs.{AreStarted, IsOtherShift, IsRun, IsRunHalted, other_shift_end, run_room}
 use Rattle.cell_words.specs.SoloRecords.{IsSoloRecord}
 use Rattle.cell_words.specs.Texts.{Outcome, done, usage, verdict_outcome}
 use Rattle.cell_words.specs.Told.{Told, HoldsOf}
@@ -36,6 +38,7 @@ use Rattle.cell_words.specs.declared.reading.CellFile.{CellFile}
 pub data Task : Type 0 where
   Nothing : Task
   Solo : (cell shift : List ℕ) → Task
+  Run : (cell shift journal : List ℕ) → Task
   Plan : (cell journal : List ℕ) → Task
   Drain : (cell journal : List ℕ) → Task
   Why : (cell journal step : List ℕ) → Task
@@ -51,17 +54,25 @@ task_of_two verb cell other =
     else (if bytes_eq verb (codes "check") then Check cell other
     else Nothing)))
 
+-- a command of a cell and two words more
+abbrev pub task_of_three : List ℕ → List ℕ → List ℕ → List ℕ → Task
+task_of_three verb cell second third =
+    if bytes_eq verb (codes "run") then Run cell second third
+    else (if bytes_eq verb (codes "why") then Why cell second third
+    else Nothing)
+
 -- the command that the words are: their number and the first of them decide
 abbrev pub task_of : List (List ℕ) → Task
 task_of (verb ∷ cell ∷ []) = if bytes_eq verb (codes "show") then Show cell else Nothing
 task_of (verb ∷ cell ∷ other ∷ []) = task_of_two verb cell other
-task_of (verb ∷ cell ∷ journal ∷ step ∷ []) = if bytes_eq verb (codes "why") then Why cell journal step else Nothing
+task_of (verb ∷ cell ∷ second ∷ third ∷ []) = task_of_three verb cell second third
 task_of words = Nothing
 
 -- the file of the cell, which each command reads first
 abbrev pub cell_in : Task → Option (List ℕ)
 cell_in Nothing = None
 cell_in (Solo cell shift) = Some cell
+cell_in (Run cell shift journal) = Some cell
 cell_in (Plan cell journal) = Some cell
 cell_in (Drain cell journal) = Some cell
 cell_in (Why cell journal step) = Some cell
@@ -72,6 +83,7 @@ cell_in (Show cell) = Some cell
 abbrev pub files_of : Task → List (List ℕ)
 files_of Nothing = []
 files_of (Solo cell shift) = cell ∷ shift ∷ []
+files_of (Run cell shift journal) = cell ∷ shift ∷ []
 files_of (Plan cell journal) = cell ∷ []
 files_of (Drain cell journal) = cell ∷ []
 files_of (Why cell journal step) = cell ∷ []
@@ -100,14 +112,24 @@ pub data AfterStep (cell : Cell) (word : List ℕ) (follows : Request → Type 0
   NoStep : (fault : StepFault) → step_of cell word ≡ Err fault → ends StepRefused → AfterStep cell word follows ends
   StepRead : (request : Request) → step_of cell word ≡ Ok request → follows request → AfterStep cell word follows ends
 
--- The journal is opened, with the cell and its text: the device failed, or the bytes are refused, at which the program ends, or they
--- stand for grants, of which this follows. A refused journal is only read.
-pub data AfterJournal (disk : DiskTold) (held : CellFile) (follows : List Grant → Type 0) (ends : Early → Type 0) : Type 0 where
-  JournalFailed : ends DeviceFault → Rose disk.faults disk.faults_after → AfterJournal disk held follows ends
-  JournalFaulty : (why : JournalFault) → IsRefusedBy disk held.cell held.text.items why → ends (journal_end why) → IsOnlyRead disk
-      → AfterJournal disk held follows ends
-  JournalOpened : (grants : List Grant) → IsOpenedWith disk held.cell held.text.items grants → follows grants
-      → AfterJournal disk held follows ends
+-- The journal is opened, with the cell, its text and room for so many grants: the device failed, or the bytes are refused, at which the
+-- program ends, or they stand for grants, of which this follows. A refused journal is only read.
+pub data AfterOpening (disk : DiskTold) (held : CellFile) (room : ℕ) (follows : List Grant → Type 0) (ends : Early → Type 0) : Type 0 where
+  JournalFailed : ends DeviceFault → Rose disk.faults disk.faults_after → AfterOpening disk held room follows ends
+  JournalFaulty : (why : JournalFault) → IsRefusedIn disk held.cell held.text.items room why → ends (journal_end why) → IsOnlyRead disk
+      → AfterOpening disk held room follows ends
+  JournalOpened : (grants : List Grant) → IsOpenedIn disk held.cell held.text.items room grants → follows grants
+      → AfterOpening disk held room follows ends
+
+-- the same of a command that adds no more than a drain does
+abbrev pub AfterJournal : DiskTold → CellFile → (List Grant → Type 0) → (Early → Type 0) → Type 0
+AfterJournal disk held follows ends = AfterOpening disk held MAX_ROOM follows ends
+
+-- The sessions of a shift start behind the grants: some are another shift's, at which the program ends, or they are first steps of its
+-- scripts, and this follows.
+pub data AfterStart (shift : Shift) (opening : List Grant) (follows : Type 0) (ends : Early → Type 0) : Type 0 where
+  StartRefused : (session : ℕ) → IsOtherShift shift opening session → ends (other_shift_end session) → AfterStart shift opening follows ends
+  Started : AreStarted shift opening → follows → AfterStart shift opening follows ends
 
 -- such an end of a command on a journal
 abbrev pub EndsAtJournal : DiskTold → CellFile → Early → Type 0
@@ -192,6 +214,23 @@ DrainMade disk held (Ok drain) =
 DrainMade disk held (Err early) =
     ((early ≡ Memory) × IsOnlyRead disk) ⊎ (EndsAtJournal disk held early × StoodStill held.text.items disk)
 
+-- the sessions were not started: the disk stands for the grants that were found on it
+abbrev pub IsBeforeSessions : DiskTold → List ℕ → List Grant → Outcome → Early → Type 0
+IsBeforeSessions disk text opening outcome early = IsEarly outcome early × StandsOpened text opening disk
+
+-- what `run` owes: the cell is read, then the shift, then the journal is opened, and then the sessions run, to their ends or to a halt
+unfoldable pub OwesRun : Option Names → ℕ → ℕ → DiskTold → List ℕ → List ℕ → Outcome → Type 0
+OwesRun names faults faults_after disk cell_name shift_name outcome =
+    AfterFile names faults faults_after cell_name cell_file_read cell_end
+    (λ held. AfterFile names faults faults_after shift_name (GivenBy (shift_of held.cell)) shift_end
+    (λ shift. AfterOpening disk held (run_room shift)
+    (λ opening. AfterStart shift opening
+    (IsRun disk held.cell held.text.items shift opening outcome ⊎ IsRunHalted disk held.cell held.text.items shift opening outcome)
+    (IsBeforeSessions disk held.text.items opening outcome))
+    (IsBeforeSteps disk held.text.items outcome))
+    (IsBeforeDisk disk outcome))
+    (IsBeforeDisk disk outcome)
+
 -- ---- what may come
 
 -- of a command that needs no disk
@@ -206,11 +245,24 @@ MayComeReading disk owes outcome = IsOnlyRead disk × MayCome (IsEarly outcome) 
 abbrev pub MayComeWriting : DiskTold → (Outcome → Type 0) → Outcome → Type 0
 MayComeWriting disk owes outcome = MayCome (λ early. IsEarly outcome early × IsOnlyRead disk) (owes outcome)
 
+-- the disk stands for the grants that the cell of this name and some shift were opened with
+abbrev pub WasOpened : Option Names → DiskTold → List ℕ → Type 0
+WasOpened names disk cell_name = (held : CellFile) × IsCellFile names cell_name held × ((shift : Shift) × (opening : List Grant)
+    × IsOpenedIn disk held.cell held.text.items (run_room shift) opening × StandsOpened held.text.items opening disk)
+
+-- of a command that runs sessions: memory may also be wanting once the journal is opened
+abbrev pub MayComeRunning : Option Names → DiskTold → List ℕ → (Outcome → Type 0) → Outcome → Type 0
+MayComeRunning names disk cell_name owes outcome =
+    MayCome (λ early. IsEarly outcome early × (IsOnlyRead disk ⊎ WasOpened names disk cell_name)) (owes outcome)
+
 -- The outcome that may come of a command, and what was done to the disk. Words that are none take no memory.
 abbrev pub Comes : Told → Task → Outcome → Type 0
 Comes told Nothing outcome = IsUntouched told.disk × (outcome ≡ usage)
 Comes told (Solo cell shift) outcome =
     IsUntouched told.disk × MayComeOf (OwesSolo told.names told.file_faults told.file_faults_after cell shift) outcome
+Comes told (Run cell shift journal) outcome =
+    MayComeRunning told.names told.disk cell
+    (OwesRun told.names told.file_faults told.file_faults_after told.disk cell shift) outcome
 Comes told (Plan cell journal) outcome =
     MayComeReading told.disk (OwesPlan told.names told.file_faults told.file_faults_after told.disk cell) outcome
 Comes told (Drain cell journal) outcome =

@@ -65,6 +65,11 @@ pub record StandsForNone (text : List ℕ) (disk : DiskTold) : Type 0 where
 abbrev pub StoodStill : List ℕ → DiskTold → Type 0
 StoodStill text disk = IsOnlyRead disk ⊎ StandsForNone text disk
 
+-- It stands for these grants; and so does each file since entry that a crash at entry might not have left.
+pub record StandsOpened (text : List ℕ) (opening : List Grant) (disk : DiskTold) : Type 0 where
+  pub now : IsNow disk (λ file. StandsFor file text opening)
+  pub any_moment : IsAlways disk (λ file. disk.leaves file ⊎ StandsFor file text opening)
+
 -- it told at entry, and a crash then might have left no file but such as stand for these grants
 abbrev pub StoodFor : DiskTold → List ℕ → List Grant → Type 0
 StoodFor disk text grants = IsSome disk.reads × ((left : List ℕ) → disk.leaves left → StandsFor left text grants)

@@ -30,13 +30,21 @@ use Rattle.cell_words.specs.declared.reading.CellFile.{CellFile}
 
 -- ---- opening
 
--- grants that fit the cell and are granted in their turns; where the disk tells, its bytes at entry open as them, with this cell text
-abbrev pub IsOpenedWith : DiskTold → Cell → List ℕ → List Grant → Type 0
-IsOpenedWith disk cell text grants = AreDue cell grants × IfSome disk.reads (λ file. opened_as cell file text MAX_ROOM ≡ Ok grants)
+-- grants that fit the cell and are granted in their turns; where the disk tells, its bytes at entry open as them, with this cell text and
+-- with room for so many
+abbrev pub IsOpenedIn : DiskTold → Cell → List ℕ → ℕ → List Grant → Type 0
+IsOpenedIn disk cell text room grants = AreDue cell grants × IfSome disk.reads (λ file. opened_as cell file text room ≡ Ok grants)
 
--- where the disk tells, its bytes at entry are no journal of this cell with this text, by this fault
+-- where the disk tells, its bytes at entry are no journal of this cell with this text and so few grants, by this fault
+abbrev pub IsRefusedIn : DiskTold → Cell → List ℕ → ℕ → JournalFault → Type 0
+IsRefusedIn disk cell text room why = IfSome disk.reads (λ file. opened_as cell file text room ≡ Err why)
+
+-- the same of a command that adds no more than a drain does
+abbrev pub IsOpenedWith : DiskTold → Cell → List ℕ → List Grant → Type 0
+IsOpenedWith disk cell text grants = IsOpenedIn disk cell text MAX_ROOM grants
+
 abbrev pub IsRefusedBy : DiskTold → Cell → List ℕ → JournalFault → Type 0
-IsRefusedBy disk cell text why = IfSome disk.reads (λ file. opened_as cell file text MAX_ROOM ≡ Err why)
+IsRefusedBy disk cell text why = IsRefusedIn disk cell text MAX_ROOM why
 
 -- the state behind such grants, and how many they are
 pub record IsBehind (cell : Cell) (grants : List Grant) (behind : Behind) : Type 0 where

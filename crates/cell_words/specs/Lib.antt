@@ -11,6 +11,7 @@ pub mod Reading
 pub mod RecordEnds
 pub mod Serving
 pub mod ShiftEnds
+pub mod Runs
 pub mod SoloRecords
 pub mod Telling
 pub mod Texts

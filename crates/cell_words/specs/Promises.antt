@@ -6,12 +6,11 @@ use Rattle.shift_file.specs.declared.faults.ShiftFault.{ShiftFault}
 use Rattle.shift_recovery.specs.declared.faults.JournalFault.{JournalFault}
 use Rattle.cell_words.specs.CellEnds.{cell_end}
 use Rattle.cell_words.specs.Commands.{Task, Nothing, AreThere, Comes, files_of}
-use Rattle.cell_words.specs.DiskTold.{IsOnlyRead}
 use Rattle.cell_words.specs.Ends.{Ends, PutsLines}
 use Rattle.cell_words.specs.JournalEnds.{journal_end}
 use Rattle.cell_words.specs.Serving.{DiskServes, HoldsBadCell, HoldsBadJournal, HoldsBadRecord, HoldsBadShift, IsAccepted, IsAnswered, IsFinished, NamesNoStep, ReadsAll, TakesAll}
 use Rattle.cell_words.specs.ShiftEnds.{shift_end}
-use Rattle.cell_words.specs.Telling.{IsCellRefused, IsDenied, IsDeviceFault, IsDrainHalted, IsJournalRefused, IsPrinted, IsSecondRefused, KeepsPrefix, ReadsOnly}
+use Rattle.cell_words.specs.Telling.{IsCellRefused, IsDenied, IsDeviceFault, HasHalted, IsJournalRefused, IsPrinted, IsSecondRefused, KeepsEarly, KeepsPrefix, ReadsOnly}
 use Rattle.cell_words.specs.Told.{Told}
 use Rattle.cell_words.specs.declared.early.Early.TheVariants.{StepRefused}
 
@@ -25,9 +24,9 @@ pub record Promises (told : Told) (is_sound : Type 0) (task : Task) (status : �
   -- Every line of the output is one put, in its turn.
   pub lines : PutsLines (Comes told task) told.sink status
   -- Status 0: the files and the journal stand for what the command needs, and its answer was taken: the record of a shift, with the one
-  -- history in rounds and the plan that drains the state behind it; the plan that drains the state behind a journal's grants; the record
-  -- of the steps of that plan, and the disk stands for them; what a step would be told; `yes` for a record that is right; or the
-  -- neighborhoods of a cell. Status 1: the record is not right, and the line that fails was taken, with why.
+  -- history in rounds, or with the one history that its sessions made on a journal, which the disk then stands for, and the plan that
+  -- drains the state behind it; the plan that drains the state behind a journal's grants; the record of the steps of that plan, and the
+  -- disk stands for them; what a step would be told; `yes` for a record that is right; or the neighborhoods of a cell. Status 1: the record is not right, and the line that fails was taken, with why.
   pub done : status ≡ 0 → IsPrinted told task
   pub denied : status ≡ 1 → IsDenied told task
   -- Status 2 exactly where the words are no built command, unless the sink fails.
@@ -38,10 +37,11 @@ pub record Promises (told : Told) (is_sound : Type 0) (task : Task) (status : �
   pub second_refused : status ≡ 5 → IsSecondRefused told task
   pub journal_refused : status ≡ 6 → IsJournalRefused told task
   pub sink_fault : status ≡ 8 → Rose told.sink.faults told.sink.faults_after
-  -- Status 7 only where the disk failed: before a step of the plan was asked, and then the disk stands for what it stood for; or at one
-  -- of the steps, and then the block that halts there was taken, and the disk stands for the steps before it without it or with it.
+  -- Status 7 only where the disk failed: before a step of the plan or a session asked, and then the disk stands for what it stood for; or
+  -- at one of these asks, and then the block that halts there was taken, and the disk stands for the grants before it without it or
+  -- with it.
   pub device_fault : status ≡ 7 → Rose told.disk.faults told.disk.faults_after
-  pub halted : status ≡ 7 → IsDeviceFault told task ⊎ IsDrainHalted told task
+  pub halted : status ≡ 7 → IsDeviceFault told task ⊎ HasHalted told task
   -- Sound files that hold what the command names give no read fault.
   pub sound : is_sound → AreThere told.names (files_of task) → status ≡ 3 → ⊥
   -- Where nothing outside fails, what the files and the disk hold decides: a refused cell is answered by its fault, and so are a refused
@@ -57,8 +57,9 @@ pub record Promises (told : Told) (is_sound : Type 0) (task : Task) (status : �
       → TakesAll told → IsAnswered told (journal_end why) status
   pub complete : IsAccepted told task → ReadsAll told is_sound task → DiskServes told task → TakesAll told
       → IsFinished task status ⊎ (status ≡ 9)
-  -- An early end only reads the disk, and so do `plan` and `why` with every status. A crash at any moment since entry leaves, of a disk
-  -- that stood for grants, no file of a drain but such as stand for them and first ones of the steps.
-  pub early : IsEarlyStatus status → IsOnlyRead told.disk
+  -- An early end only reads the disk, or in a run leaves it standing for what it stood for; and `plan` and `why` only read it with every
+  -- status. A crash at any moment since entry leaves, of a disk that stood for grants, no file of a drain but such as stand for them and
+  -- first ones of the steps, and none of a run but such as stand for them and first ones of the grants that it adds.
+  pub early : IsEarlyStatus status → KeepsEarly told task
   pub reads_only : ReadsOnly told task
   pub crash : KeepsPrefix told task

@@ -9,6 +9,7 @@ use Rattle.cell_base.specs.Histories.{replay}
 use Rattle.cell_base.specs.Plans.{plan_of}
 use Rattle.cell_file.specs.Walk.{cell_of}
 use Rattle.cell_file.specs.declared.faults.CellFault.{CellFault}
+use Rattle.durable_cell.specs.Kept.{StandsForFirst}
 use Rattle.durable_cell.specs.declared.replays.TheConstants.{MAX_ROOM}
 use Rattle.shift_file.specs.Walk.{shift_of}
 use Rattle.shift_file.specs.declared.faults.ShiftFault.{ShiftFault}
@@ -22,11 +23,12 @@ use Rattle.refusal_reason.specs.Shown.{show_lines}
 use Rattle.shift_checker.specs.Judging.{judge}
 use Rattle.shift_checker.specs.declared.verdict.Verdict.TheVariants.{Yes, No}
 use Rattle.shift_checker.specs.declared.verdict.Why.{Why}
-use Rattle.cell_words.specs.Commands.{Task, Nothing, Solo, Plan, Drain, Why as AskWhy, Check, Show, cell_in}
-use Rattle.cell_words.specs.DiskTold.{IsAlways, IsNow, IsOnlyRead, StandsStill, StoodFor}
+use Rattle.cell_words.specs.Commands.{Task, Nothing, Solo, Run, Plan, Drain, Why as AskWhy, Check, Show, cell_in}
+use Rattle.cell_words.specs.DiskTold.{DiskTold, IsAlways, IsNow, IsOnlyRead, StandsStill, StoodFor}
 use Rattle.cell_words.specs.Drains.{IsDrained, IsHalted, StandsForSome}
-use Rattle.cell_words.specs.Journals.{IsOpenedWith, IsPlanRecord, IsRefusedBy, why_lines}
+use Rattle.cell_words.specs.Journals.{IsOpenedIn, IsOpenedWith, IsPlanRecord, IsRefusedBy, IsRefusedIn, why_lines}
 use Rattle.cell_words.specs.Reading.{IsCellFile, cell_file_read}
+use Rattle.cell_words.specs.Runs.{AreStarted, IsOtherShift, IsRun, IsRunHalted, run_room}
 use Rattle.cell_words.specs.SoloRecords.{IsSoloRecord}
 use Rattle.cell_words.specs.Texts.{Outcome, early_text, verdict_text}
 use Rattle.cell_words.specs.Told.{Told, HoldsOf, IsMadeOfFile, TellsOf}
@@ -39,12 +41,17 @@ use Rattle.cell_words.specs.declared.reading.CellFile.{CellFile}
 abbrev pub IsCellRefused : Told → Task → Type 0
 IsCellRefused told task = IsSomeAnd (cell_in task) (λ cell. (fault : CellFault) × IsMadeOfFile told.names cell cell_of (Err fault))
 
--- the cell's bytes were read and stand for a cell, and those of the shift or of the record were read, or the step was, and are refused
-abbrev pub IsSecondRefused : Told → Task → Type 0
-IsSecondRefused told Nothing = ⊥
-IsSecondRefused told (Solo cell shift) =
+-- the cell's bytes were read and stand for a cell, and those of the shift were read, and are refused
+abbrev pub IsShiftRefused : Told → List ℕ → List ℕ → Type 0
+IsShiftRefused told cell shift =
     (c : Cell) × IsMadeOfFile told.names cell cell_of (Ok c)
     × ((fault : ShiftFault) × IsMadeOfFile told.names shift (shift_of c) (Err fault))
+
+-- the same of the shift or of the record, or the step is refused
+abbrev pub IsSecondRefused : Told → Task → Type 0
+IsSecondRefused told Nothing = ⊥
+IsSecondRefused told (Solo cell shift) = IsShiftRefused told cell shift
+IsSecondRefused told (Run cell shift journal) = IsShiftRefused told cell shift
 IsSecondRefused told (Plan cell journal) = ⊥
 IsSecondRefused told (Drain cell journal) = ⊥
 IsSecondRefused told (AskWhy cell journal step) =
@@ -56,13 +63,28 @@ IsSecondRefused told (Show cell) = ⊥
 
 -- the command has a journal, and this holds of the name of its cell's file
 abbrev pub HasJournal : Task → (List ℕ → Type 0) → Type 0
+HasJournal (Run cell shift journal) P = P cell
 HasJournal (Plan cell journal) P = P cell
 HasJournal (Drain cell journal) P = P cell
 HasJournal (AskWhy cell journal step) P = P cell
 HasJournal task P = ⊥
 
--- the cell's bytes were read and stand for a cell, and the journal is none of this cell
+-- both files were read, and stand for a cell and a shift of it, of which this holds
+abbrev pub IsShiftRead : Told → List ℕ → List ℕ → (CellFile → Shift → Type 0) → Type 0
+IsShiftRead told cell shift P =
+    (held : CellFile) × IsCellFile told.names cell held
+    × ((s : Shift) × IsMadeOfFile told.names shift (shift_of held.cell) (Ok s) × P held s)
+
+-- the journal is none of this cell, and was only read; or its grants of the shift's number are no first steps of its sessions
+abbrev pub IsRunRefused : Told → CellFile → Shift → Type 0
+IsRunRefused told held shift =
+    (((why : JournalFault) × IsRefusedIn told.disk held.cell held.text.items (run_room shift) why) × IsOnlyRead told.disk)
+    ⊎ ((opening : List Grant) × IsOpenedIn told.disk held.cell held.text.items (run_room shift) opening
+    × ((session : ℕ) × IsOtherShift shift opening session))
+
+-- the cell's bytes were read and stand for a cell, and the journal is none of this cell, or of another shift with the same number
 abbrev pub IsJournalRefused : Told → Task → Type 0
+IsJournalRefused told (Run cell shift journal) = IsShiftRead told cell shift (IsRunRefused told)
 IsJournalRefused told task =
     HasJournal task (λ cell. (held : CellFile) × IsCellFile told.names cell held
     × ((why : JournalFault) × IsRefusedBy told.disk held.cell held.text.items why))
@@ -81,6 +103,14 @@ IsOpened told cell P =
     (held : CellFile) × IsCellFile told.names cell held
     × ((grants : List Grant) × IsOpenedWith told.disk held.cell held.text.items grants × P held grants)
 
+-- the journal stands for grants behind which the sessions of the shift start, and this holds of them and of an outcome whose lines the
+-- sink took
+abbrev pub IsRunTold : Told → List ℕ → List ℕ → (DiskTold → Cell → List ℕ → Shift → List Grant → Outcome → Type 0) → Type 0
+IsRunTold told cell shift P =
+    IsShiftRead told cell shift (λ held s. (opening : List Grant)
+    × IsOpenedIn told.disk held.cell held.text.items (run_room s) opening × AreStarted s opening
+    × ((outcome : Outcome) × P told.disk held.cell held.text.items s opening outcome × TookAll told.sink outcome.lines))
+
 -- The files and the journal stand for what the command needs, and the sink took its answer: the lines of the record of the shift, or
 -- of the plan behind the grants; the record of the plan's steps, for which the disk then stands; what a request would be told, and the
 -- jobs in its way; `yes`, and the record is right; or the lines of the cell's neighborhoods.
@@ -89,6 +119,7 @@ IsPrinted told Nothing = ⊥
 IsPrinted told (Solo cell shift) =
     (c : Cell) × IsMadeOfFile told.names cell cell_of (Ok c) × ((s : Shift) × IsMadeOfFile told.names shift (shift_of c) (Ok s)
     × ((lines : List (List ℕ)) × IsSoloRecord c s lines × TookAll told.sink lines))
+IsPrinted told (Run cell shift journal) = IsRunTold told cell shift IsRun
 IsPrinted told (Plan cell journal) =
     IsOpened told cell (λ held grants. (lines : List (List ℕ)) × IsPlanRecord held.cell grants lines × TookAll told.sink lines)
 IsPrinted told (Drain cell journal) =
@@ -120,14 +151,24 @@ KeepsGrants told cell =
     (text : List ℕ) → TellsOf told.names cell (λ bytes. bytes ≡ text)
     → (grants : List Grant) → StoodFor told.disk text grants → StandsStill told.disk text grants
 
--- where the disk of a drain stood for grants, with the text of its cell, each file since entry stands for them and first ones of the steps of the plan
+-- Where the disk of a drain stood for grants, with the text of its cell, each file since entry stands for them and first ones of the steps
+-- of the plan; and where that of a run did, for them and first ones of others, which are those of the printed history.
 abbrev pub KeepsPrefix : Told → Task → Type 0
 KeepsPrefix told (Drain cell journal) =
     (held : CellFile) → HoldsCell told cell held → (grants : List Grant) → length grants ≤ MAX_ROOM
     → StoodFor told.disk held.text.items grants
     → let steps = plan_of held.cell (replay held.cell grants) in
     IsNow told.disk (StandsForSome held.text.items grants steps) × IsAlways told.disk (StandsForSome held.text.items grants steps)
+KeepsPrefix told (Run cell shift journal) =
+    (held : CellFile) → HoldsCell told cell held → (grants : List Grant) → StoodFor told.disk held.text.items grants
+    → (since : List Grant) × IsNow told.disk (StandsForFirst held.text.items grants since)
+    × IsAlways told.disk (StandsForFirst held.text.items grants since)
 KeepsPrefix told task = ⊤
+
+-- an early end only reads the disk; one of a run may have made a blank disk a journal, and the disk stands for what it stood for
+abbrev pub KeepsEarly : Told → Task → Type 0
+KeepsEarly told (Run cell shift journal) = KeepsGrants told cell
+KeepsEarly told task = IsOnlyRead told.disk
 
 -- a command that makes nothing of its journal only reads the disk
 abbrev pub ReadsOnly : Told → Task → Type 0
@@ -137,12 +178,13 @@ ReadsOnly told task = ⊤
 
 -- ---- the device failed
 
--- a drain halted, and the sink took the block that ends there
-abbrev pub IsDrainHalted : Told → Task → Type 0
-IsDrainHalted told (Drain cell journal) =
+-- a drain or a run halted, and the sink took the block that ends there
+abbrev pub HasHalted : Told → Task → Type 0
+HasHalted told (Run cell shift journal) = IsRunTold told cell shift IsRunHalted
+HasHalted told (Drain cell journal) =
     IsOpened told cell
     (λ held grants. (outcome : Outcome) × IsHalted told.disk held.cell held.text.items grants outcome × TookAll told.sink outcome.lines)
-IsDrainHalted told task = ⊥
+HasHalted told task = ⊥
 
 -- the sink took the line of a device that failed before a step of a plan was asked
 abbrev pub IsDeviceFault : Told → Task → Type 0

@@ -14,6 +14,9 @@ use durable_cell::{MAX_ROOM, Restored, restore};
 use outside_io::Disk;
 use std::alloc::Global;
 
+/// The most grants of a journal and steps of a shift together that runs on it, so that a drain behind it has room.
+pub const MAX_RUN_ROOM: u64 = 1_572_864;
+
 /// What a command makes of a journal, or the early end in its place, and the disk that was handed in.
 #[derive(Drop)]
 pub struct OnJournal<T, D> {

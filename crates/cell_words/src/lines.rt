@@ -18,7 +18,7 @@ pub fn usage_line() -> Line
     ensures { result ≡ usage_text }
 {
     Line::of_word(
-        b"usage: solo CELL SHIFT, plan CELL JOURNAL, drain CELL JOURNAL, why CELL JOURNAL STEP, check CELL RECORD, show CELL",
+        b"usage: solo CELL SHIFT, run CELL SHIFT JOURNAL, plan CELL JOURNAL, drain CELL JOURNAL, why CELL JOURNAL STEP, check CELL RECORD, show CELL",
     ).end()
 }
 

@@ -14,6 +14,12 @@ pub enum Command<'a> {
         cell: &'a str,
         shift: &'a str,
     },
+    /// A shift on a journal, its sessions at the same time.
+    Run {
+        cell: &'a str,
+        shift: &'a str,
+        journal: &'a str,
+    },
     /// The plan of the state behind a journal's grants.
     Plan {
         cell: &'a str,
@@ -49,6 +55,11 @@ pub fn command_of(words: &[String]) -> Command<'_>
         [verb, cell, shift] if verb.as_str() == "solo" => Command::Solo {
             cell: cell.as_str(),
             shift: shift.as_str(),
+        },
+        [verb, cell, shift, journal] if verb.as_str() == "run" => Command::Run {
+            cell: cell.as_str(),
+            shift: shift.as_str(),
+            journal: journal.as_str(),
         },
         [verb, cell, journal] if verb.as_str() == "plan" => Command::Plan {
             cell: cell.as_str(),

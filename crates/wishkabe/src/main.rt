@@ -2,8 +2,8 @@
 //! output.
 #![tactic(auto)]
 
-use cell_program::{DirFiles, FileDisk, OutSink, cell_main};
-use outside_io::{Disk, FreePace};
+use cell_program::{DirFiles, FileDisk, OutSink, RestPace, cell_main};
+use outside_io::{Disk, Pace};
 use std::io::{BufWriter, Write};
 use std::process::ExitCode;
 use std::rt::{Env, Files};
@@ -15,24 +15,25 @@ use std::{env, io};
 fn main(rt: HostRuntime) -> ExitCode {
     let words = words_behind_name(&rt);
     let disk = FileDisk::new(&rt, rt.alloc(), journal_in(&words));
+    let pace = RestPace::new(&rt);
     let status = match BufWriter::new(rt.alloc(), io::writer(&rt)) {
-        Ok(writer) => run_over(&rt, &words, writer, disk),
-        Err(_) => run_over(&rt, &words, io::writer(&rt), disk),
+        Ok(writer) => run_over(&rt, &words, writer, disk, &pace),
+        Err(_) => run_over(&rt, &words, io::writer(&rt), disk, &pace),
     };
     ExitCode::from(status)
 }
 
 // Runs the command, and answers its status, or 8 where what it printed could not be written.
-fn run_over<R: AllocGlobal + Files + Threads + Wait + Sync, W: Write + Drop, D: Disk + Send + Drop>(
-    rt: &R,
-    words: &[String],
-    writer: W,
-    disk: D,
-) -> u8 {
+fn run_over<
+    R: AllocGlobal + Files + Threads + Wait + Sync,
+    W: Write + Drop,
+    D: Disk + Send + Drop,
+    P: Pace + Sync,
+>(rt: &R, words: &[String], writer: W, disk: D, pace: &P) -> u8 {
     let mut files = DirFiles::new(rt);
     let mut out = OutSink::new(writer);
     let alloc = rt.alloc();
-    let ended = cell_main(rt, alloc, words, &mut files, &mut out, disk, &FreePace);
+    let ended = cell_main(rt, alloc, words, &mut files, &mut out, disk, pace);
     match out.flush() {
         Ok(()) => ended.status,
         Err(_) => 8,
