@@ -22,7 +22,8 @@ use Rattle.durable_cell.specs.Kept.{KeepsDisk, KeepsHistory}
 use Rattle.record_text.specs.Fitting.{EntryFits}
 use Rattle.cell_words.specs.Blocks.{block_of, history_lines, planned_block}
 use Rattle.cell_words.specs.DiskTold.{DiskTold, disk_told}
-use Rattle.cell_words.specs.Runs.{AreStarted, IsOneHistory}
+use Rattle.cell_base.specs.Starts.{AreStarted}
+use Rattle.cell_words.specs.Runs.{IsOneHistory}
 use Rattle.cell_words.specs.Texts.{Outcome, done}
 use Rattle.cell_words.proofs.BlockTexts.{halted_text, planned_text}
 use Rattle.cell_words.proofs.OwedJournals.{replay_admitted}

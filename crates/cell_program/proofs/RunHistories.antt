@@ -19,7 +19,8 @@ use Rattle.cell_base.specs.Rounds.{IsSession}
 use Rattle.cell_base.specs.Scripts.{IsStarted, IsTrace, IsWholeTrace, HasEnded, begin_at, holds_halt, progress_behind, script_of, start}
 use Rattle.cell_sessions.proofs.Traces.{holds_halt-entries_of}
 use Rattle.durable_cell.specs.Asked.{halted_in}
-use Rattle.cell_words.specs.Runs.{AreStarted, EachSession}
+use Rattle.cell_base.specs.Starts.{AreStarted}
+use Rattle.cell_words.specs.Runs.{EachSession}
 use Rattle.cell_program.specs.JournalRuns.{HasGone}
 use Rattle.cell_program.proofs.Counting.{each_ended}
 

@@ -17,7 +17,7 @@ use Rattle.cell_lock.specs.declared.board.Opening.{Opening}
 use Rattle.cell_lock.specs.Openings.{Outside, first_parts, opening_of}
 use Rattle.cell_lock.specs.Standing.{AreAll, AreNumbered, LockId, Standing, new_pass, new_passes}
 use Rattle.cell_sessions.specs.Underway.{IsWithinScript, progress_at}
-use Rattle.cell_words.specs.Runs.{AreStarted}
+use Rattle.cell_base.specs.Starts.{AreStarted}
 use Rattle.cell_program.specs.JournalRuns.{HasGone, IsBehindSessions}
 use Rattle.cell_sessions.specs.Sessions.{HasRun, IsCutShort}
 use Rattle.cell_sessions.specs.Starting.{AreBegun}

@@ -9,8 +9,7 @@ use Rattle.cell_base.specs.declared.shifts.Shift.{Shift}
 use Rattle.cell_base.specs.Histories.{requests_of}
 use Rattle.cell_base.specs.Rounds.{IsSession}
 use Rattle.cell_base.specs.Scripts.{granted_to, script_of}
-use Rattle.cell_sessions.specs.Starting as starting
-use Rattle.cell_words.specs.Runs.{AreStarted, IsOtherShift}
+use Rattle.cell_base.specs.Starts.{AreStarted, IsOtherShift}
 
 all_front : (P : Grant → Type 0) (front rest : List Grant) → All P (front ++ rest) → All P front
 all_front P [] rest all = All-nil P
@@ -43,19 +42,3 @@ pub other_not_started : (shift : Shift) (opening : List Grant) (session : ℕ) �
 other_not_started shift opening session other started =
     other.strays (started_front shift (other.before ++ other.stray ∷ []) other.behind
     (subst (AreStarted shift) (other.parted ∙ sym (append_assoc other.before (other.stray ∷ []) other.behind)) started))
-
--- what the sessions tell of their start
-pub started_so : (shift : Shift) (opening : List Grant) → starting.AreStarted shift opening → AreStarted shift opening
-started_so shift opening started = record { each = started.each; known = started.known }
-
-pub other_so : (shift : Shift) (opening : List Grant) (session : ℕ) → starting.IsOtherShift shift opening session
-    → IsOtherShift shift opening session
-other_so shift opening session other = record {
-  before = other.before;
-  stray = other.stray;
-  behind = other.behind;
-  parted = other.parted;
-  started = started_so shift other.before other.started;
-  strays = λ started. other.strays (record { each = started.each; known = started.known });
-  session_is = other.session_is;
-}

@@ -34,7 +34,8 @@ use Rattle.cell_words.specs.Ends.{IsEarly, IsOwed, MemoryWanted}
 use Rattle.cell_words.specs.Journals.{IsOpenedIn, IsOpenedWith, IsRefusedBy, why_lines}
 use Rattle.cell_words.specs.Reading.{GivenBy, IsCellFile, cell_file_read}
 use Rattle.cell_words.specs.RecordEnds.{record_end, record_read}
-use Rattle.cell_words.specs.Runs.{AreStarted, IsOtherShift, IsRun, IsRunHalted, run_room}
+use Rattle.cell_base.specs.Starts.{AreStarted, IsOtherShift}
+use Rattle.cell_words.specs.Runs.{IsRun, IsRunHalted, run_room}
 use Rattle.cell_words.specs.Serving.{AcceptsJournal, IsAccepted}
 use Rattle.cell_words.specs.Telling.{HasJournal, IsCellRefused, IsJournalRefused, KeepsEarly, KeepsGrants}
 use Rattle.cell_words.specs.Texts.{Outcome, done, early_outcome, early_text, verdict_outcome}

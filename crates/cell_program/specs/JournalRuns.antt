@@ -17,7 +17,8 @@ use Rattle.cell_words.specs.Blocks.{block_of, history_lines}
 use Rattle.cell_words.specs.Commands.{AfterOpening, AfterStart}
 use Rattle.cell_words.specs.DiskTold.{DiskTold, IsOnlyRead, StandsOpened, StoodStill}
 use Rattle.cell_words.specs.Journals.{IsOpenedIn}
-use Rattle.cell_words.specs.Runs.{AreStarted, EachSession, IsRun, IsRunHalted, run_room}
+use Rattle.cell_base.specs.Starts.{AreStarted}
+use Rattle.cell_words.specs.Runs.{EachSession, IsRun, IsRunHalted, run_room}
 use Rattle.cell_words.specs.Texts.{Outcome, done, early_outcome}
 use Rattle.cell_words.specs.declared.early.Early.{Early}
 use Rattle.cell_words.specs.declared.early.Early.TheVariants.{Memory}

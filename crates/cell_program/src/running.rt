@@ -15,7 +15,7 @@ ghost use Rattle.cell_words.specs.Commands.{MayComeRunning, OwesRun};
 ghost use Rattle.cell_words.specs.DiskTold.{StandsOpened, disk_told};
 ghost use Rattle.cell_words.specs.Drains.{IsFresh};
 ghost use Rattle.cell_words.specs.Ends.{Ends};
-ghost use Rattle.cell_words.specs.Runs.{AreStarted};
+ghost use Rattle.cell_base.specs.Starts.{AreStarted};
 ghost use Rattle.cell_sessions.specs.Starting.{AreBegun};
 ghost use Rattle.cell_words.specs.declared.early.Early.TheVariants.{ReadFault};
 ghost use Rattle.cell_program.specs.JournalRuns.{IsBehindSessions, IsRunOf, RunMade, StartMade, run_outcome};

@@ -25,7 +25,8 @@ use Rattle.cell_words.specs.Ends.{IsEarly, MayCome}
 use Rattle.cell_words.specs.JournalEnds.{journal_end}
 use Rattle.cell_words.specs.Journals.{IsOpenedIn, IsOpenedWith, IsRefusedIn, IsPlanRecord, why_lines}
 use Rattle.cell_words.specs.Reading.{GivenBy, IsCellFile, cell_file_read}
-use Rattle.cell_words.specs.Runs.{AreStarted, IsOtherShift, IsRun, IsRunHalted, other_shift_end, run_room}
+use Rattle.cell_base.specs.Starts.{AreStarted, IsOtherShift}
+use Rattle.cell_words.specs.Runs.{IsRun, IsRunHalted, other_shift_end, run_room}
 use Rattle.cell_words.specs.SoloRecords.{IsSoloRecord}
 use Rattle.cell_words.specs.Texts.{Outcome, done, usage, verdict_outcome}
 use Rattle.cell_words.specs.Told.{Told, HoldsOf}

@@ -13,7 +13,7 @@ use Rattle.cell_base.specs.Histories.{IsLegal, after, entries_of, grants, replay
 use Rattle.cell_base.specs.Plans.{Drains, plan_of}
 use Rattle.cell_base.specs.Policy.{IsAdmitted}
 use Rattle.cell_base.specs.Rounds.{IsSession}
-use Rattle.cell_base.specs.Scripts.{Progress, IsStarted, IsTrace, IsWholeTrace, begin_at, script_of, start}
+use Rattle.cell_base.specs.Scripts.{Progress, IsTrace, IsWholeTrace, begin_at, script_of, start}
 use Rattle.durable_cell.specs.Asked.{grant_of}
 use Rattle.durable_cell.specs.Kept.{StandsForFirst}
 use Rattle.move_journal.specs.Journals.{StandsFor}
@@ -30,22 +30,6 @@ abbrev pub run_room : Shift → ℕ
 run_room shift = MAX_RUN_ROOM - steps_of shift
 
 -- ---- where the sessions start
-
--- The grants of the shift's number are the first steps of its sessions' scripts, and are no one else's.
-pub record AreStarted (shift : Shift) (opening : List Grant) : Type 0 where
-  pub each : (session : ℕ) → IsSession shift session → IsStarted shift session opening
-  pub known : All (λ grant. grant.shift ≡ shift.number → IsSession shift grant.session) opening
-
--- With this grant of the session, and with none before it, they are not: it is not the next step of its script, or the session is none
--- of the shift.
-pub record IsOtherShift (shift : Shift) (opening : List Grant) (session : ℕ) : Type 0 where
-  pub before : List Grant
-  pub stray : Grant
-  pub behind : List Grant
-  pub parted : opening ≡ before ++ stray ∷ behind
-  pub started : AreStarted shift before
-  pub strays : AreStarted shift (before ++ stray ∷ []) → ⊥
-  pub session_is : session ≡ stray.session
 
 -- the end at the grant of such a session
 abbrev pub other_shift_end : ℕ → Early

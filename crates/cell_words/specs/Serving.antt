@@ -20,7 +20,8 @@ use Rattle.step_text.specs.declared.faults.StepFault.{StepFault}
 use Rattle.cell_words.specs.Commands.{Task, Nothing, Solo, Run, Plan, Drain, Why, Check, Show, AreThere, cell_in, files_of}
 use Rattle.cell_words.specs.DiskTold.{StoodFor}
 use Rattle.cell_words.specs.Reading.{IsCellFile}
-use Rattle.cell_words.specs.Runs.{AreStarted, run_room}
+use Rattle.cell_base.specs.Starts.{AreStarted}
+use Rattle.cell_words.specs.Runs.{run_room}
 use Rattle.cell_words.specs.Telling.{HasJournal, HoldsCell}
 use Rattle.cell_words.specs.Texts.{early_status, early_text}
 use Rattle.cell_words.specs.Told.{Told, HoldsOf, IsMadeOfFile, TellsOf}

@@ -28,7 +28,8 @@ use Rattle.cell_words.specs.DiskTold.{DiskTold, IsAlways, IsNow, IsOnlyRead, Sta
 use Rattle.cell_words.specs.Drains.{IsDrained, IsHalted, StandsForSome}
 use Rattle.cell_words.specs.Journals.{IsOpenedIn, IsOpenedWith, IsPlanRecord, IsRefusedBy, IsRefusedIn, why_lines}
 use Rattle.cell_words.specs.Reading.{IsCellFile, cell_file_read}
-use Rattle.cell_words.specs.Runs.{AreStarted, IsOtherShift, IsRun, IsRunHalted, run_room}
+use Rattle.cell_base.specs.Starts.{AreStarted, IsOtherShift}
+use Rattle.cell_words.specs.Runs.{IsRun, IsRunHalted, run_room}
 use Rattle.cell_words.specs.SoloRecords.{IsSoloRecord}
 use Rattle.cell_words.specs.Texts.{Outcome, early_text, verdict_text}
 use Rattle.cell_words.specs.Told.{Told, HoldsOf, IsMadeOfFile, TellsOf}

@@ -1,22 +1,19 @@
 -- The sessions start, or some grants are another shift's.
 use Rattle.std.proofs.Common.{ℕ, List, Result, inr, sym, ap, subst}
 use Rattle.cell_base.specs.declared.shifts.Grant.{Grant}
+use Rattle.cell_base.specs.Starts.{AreStarted, IsOtherShift}
 use Rattle.cell_words.specs.Commands.{StartRefused}
 use Rattle.cell_words.specs.DiskTold.{disk_told}
-use Rattle.cell_words.specs.Runs.{IsOtherShift}
 use Rattle.cell_words.specs.Texts.{counted}
 use Rattle.cell_words.specs.declared.early.Early.{Early}
 use Rattle.cell_words.specs.declared.early.Early.TheVariants.{JournalRefused}
-use Rattle.cell_sessions.specs.Starting as starting
 use Rattle.cell_program.specs.JournalRuns.{StartMade}
 use Rattle.cell_program.specs.declared.journal_run.JournalRun.{JournalRun}
-use Rattle.cell_program.proofs.Starts.{other_so, started_so}
 use Rattle.cell_program.proofs.running.start.Goals as goal
 
 pub share-requires-clause-started : goal.share-requires-clause-started
 share-requires-clause-started g c κs inside =
-    started_so c.args.shift.now c.args.durable.opening
-    (subst (λ (opening : List Grant). starting.AreStarted c.args.shift.now opening) c.opening.ensures c.in-Ok.ensures.started)
+    subst (AreStarted c.args.shift.now) c.opening.ensures c.in-Ok.ensures.started
 
 pub returns-in-Err-OtherShift-clause-made : goal.returns-in-Err-OtherShift-clause-made
 returns-in-Err-OtherShift-clause-made g c =
@@ -26,8 +23,7 @@ returns-in-Err-OtherShift-clause-made g c =
     subst (λ (made : Result JournalRun Early).
     StartMade disk c.args.durable.cell c.args.durable.text c.args.shift.now c.args.durable.opening made) (sym c.give_back.ensures.made) (
       inr (StartRefused c.in-Err-OtherShift.session
-          (other_so c.args.shift.now c.args.durable.opening c.in-Err-OtherShift.session
-          (subst (λ (opening : List Grant). starting.IsOtherShift c.args.shift.now opening c.in-Err-OtherShift.session) c.opening.ensures other))
+          (subst (λ (opening : List Grant). IsOtherShift c.args.shift.now opening c.in-Err-OtherShift.session) c.opening.ensures other)
     (ap (λ (n : ℕ). JournalRefused (counted 5 n)) c.from.ensures)),
       c.give_back.ensures.stands,
     )
