@@ -59,7 +59,8 @@ module _ {D : Type 0} (old : DurableState D) where
   pub comes_to_end : (now : DurableState D) → Asking old now → plan_of now.cell (parts now) ≡ []
       → now ≡ after_steps old (plan_of old.cell (first_parts old))
   comes_to_end now so_far none =
-      so_far.is ∙ ap (after_steps old) (sym (append-nil so_far.steps) ∙ ap (λ (l : List Request). so_far.steps ++ l) (sym (so_far.left ∙ none)) ∙ sym so_far.parted)
+      so_far.is ∙ ap (after_steps old) (sym (append-nil so_far.steps)
+      ∙ ap (λ (l : List Request). so_far.steps ++ l) (sym (so_far.left ∙ none)) ∙ sym so_far.parted)
 
   -- one more step was granted, and is an entry and a grant more
   one_more : (steps : List Request) (step : Request)

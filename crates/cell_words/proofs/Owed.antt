@@ -57,7 +57,8 @@ module _ (names : Option Names) (faults faults_after : ℕ) where
       check_at_record early ends =
           owed_or_starved (OwesCheck names faults faults_after cell_name record_file) early
           (elim (early_in record_file (record_read cell) record_end
-          (λ blocks. early_outcome early ≡ verdict_outcome (judge cell blocks)) (IsEarly (early_outcome early)) early (is_early early) ends) [
+          (λ blocks. early_outcome early ≡ verdict_outcome (judge cell blocks)) (IsEarly (early_outcome early)) early (is_early early)
+          ends) [
             | inl is ↦ inl is
             | inr owed ↦ inr (FileRead cell made owed)
           ])

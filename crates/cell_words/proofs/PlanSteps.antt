@@ -58,7 +58,8 @@ module _ (cell : Cell) (fits : CellFits cell) where
     where
       -- the next step, and those behind it
       by_step : (n : ℕ) (parts : List Part) → IsAdmitted cell parts → n ≡ work cell parts
-          → ((m : ℕ) (behind : List Part) → m + 1 ≡ n → IsAdmitted cell behind → m ≡ work cell behind → All (RequestFits cell) (plan_of cell behind))
+          → ((m : ℕ) (behind : List Part) → m + 1 ≡ n → IsAdmitted cell behind → m ≡ work cell behind
+          → All (RequestFits cell) (plan_of cell behind))
           → (next : Option Request) → plan_step cell parts ≡ next → All (RequestFits cell) (plan_of cell parts)
       by_step n parts admitted is later None none =
           subst (λ (ps : List Part). All (RequestFits cell) (plan_of cell ps)) (sym ((plan_law cell fits parts admitted).none.0 none))
@@ -96,7 +97,8 @@ module _ (cell : Cell) (fits : CellFits cell) where
       (drained_to_fit first rest last (All-tail (RequestFits cell) step (first ++ last ∷ rest) fit))
 
 -- the state behind steps that were granted
-pub after_drained : (cell : Cell) (parts : List Part) (steps : List Request) → after cell parts (drained steps) ≡ after_requests cell parts steps
+pub after_drained : (cell : Cell) (parts : List Part) (steps : List Request)
+    → after cell parts (drained steps) ≡ after_requests cell parts steps
 after_drained cell parts [] = refl
 after_drained cell parts (step ∷ steps) = after_drained cell (state_after cell parts step) steps
 
