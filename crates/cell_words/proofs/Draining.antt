@@ -1,8 +1,7 @@
 -- A drain that came to its end: what is printed of it, and for which grants its disk stands.
 use Rattle.std.specs.Prelude.{IfOk, IfSome, IsOk, MatchOption, if◌then◌else◌}
 use Rattle.std.specs.List.{concat}
-use Rattle.std.specs.Option.{option_to_list}
-use Rattle.std.proofs.Common.{◌≡◌, ◌⊎◌, inl, inr, ℕ, Bool, true, false, List, [], ◌∷◌, ◌++◌, length, map, take, All, Option, Some, None, Result, Ok, Err, refl, sym, ◌∙◌, ap, subst, append-nil}
+use Rattle.std.proofs.Common.{◌≡◌, ◌⊎◌, inl, inr, ℕ, Bool, true, false, List, [], ◌∷◌, ◌++◌, length, map, take, All, Option, Result, Ok, Err, sym, ◌∙◌, ap, subst, append-nil}
 use Rattle.std.proofs.lemmas.List.{map-append, take-map}
 use Rattle.outside_io.specs.Causes.{Rose}
 use Rattle.outside_io.specs.Disk.{LeavesOnly}
@@ -20,7 +19,6 @@ use Rattle.durable_cell.specs.Openings.{fresh}
 use Rattle.durable_cell.specs.Replayed.{AreDue, opened_as}
 use Rattle.durable_cell.specs.declared.replays.TheConstants.{MAX_ROOM}
 use Rattle.durable_cell.specs.Kept.{KeepsDisk, StandsBetween, StandsNow}
-use Rattle.move_journal.specs.Disks.{Shows}
 use Rattle.move_journal.specs.Journals.{StandsFor}
 use Rattle.policy_laws.proofs.Plans.{plan_law}
 use Rattle.record_text.specs.Fitting.{EntryFits}

@@ -11,7 +11,7 @@ use Rattle.refusal_reason.specs.Shown.{show_lines}
 use Rattle.shift_checker.specs.Judging.{judge}
 use Rattle.shift_checker.specs.declared.verdict.Verdict.{Verdict}
 use Rattle.cell_words.specs.Commands.{AfterFile, FileFailed, FileRefused, FileRead, MayComeOf, OwesCheck, OwesShow}
-use Rattle.cell_words.specs.Ends.{IsEarly, MayCome, IsOwed, MemoryWanted}
+use Rattle.cell_words.specs.Ends.{IsEarly, IsOwed, MemoryWanted}
 use Rattle.cell_words.specs.Reading.{ByFault, ByMemory, EndsEarly, GivenBy, Unread, Refused}
 use Rattle.cell_words.specs.Texts.{Outcome, done, early_outcome, verdict_outcome}
 use Rattle.cell_words.specs.Told.{HoldsOf, IsMadeOfFile}

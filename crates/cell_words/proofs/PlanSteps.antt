@@ -1,5 +1,5 @@
 -- The steps of a plan: how many they are at most, that they fit the cell, and the state behind them.
-use Rattle.std.proofs.Common.{◌≡◌, ℕ, zero, suc, ◌+◌, ◌*◌, ◌≤◌, Bool, true, false, cond, List, [], ◌∷◌, ◌++◌, length, get_or, drop, length-drop, All, Option, Some, None, refl, sym, ◌∙◌, ap, subst, arith}
+use Rattle.std.proofs.Common.{◌≡◌, ℕ, zero, suc, ◌+◌, ◌≤◌, Bool, true, false, cond, List, [], ◌∷◌, ◌++◌, get_or, drop, length-drop, All, Option, Some, None, refl, sym, subst, arith}
 use Rattle.std.proofs.lemmas.List.Elements.{All-nil, All-cons, All-head, All-tail, All-map, All-weaker}
 use Rattle.std.proofs.lemmas.List.Sums.{sum_by-le}
 use Rattle.cell_base.specs.declared.cells.Cell.{Cell}
@@ -14,7 +14,6 @@ use Rattle.cell_base.specs.Plans.{plan_of, plan_step, work, work_at, work_of}
 use Rattle.cell_base.specs.Policy.{IsAdmitted}
 use Rattle.cell_base.specs.Scripts.{holds_halt}
 use Rattle.cell_base.specs.Stages.{IsStage, first_branch_path, places_left, stage_of}
-use Rattle.policy_laws.specs.Laws.{HasPlan}
 use Rattle.policy_laws.proofs.Limits.{length-route_of}
 use Rattle.policy_laws.proofs.Plans.{plan_law}
 use Rattle.policy_laws.proofs.Units.{units_law}
