@@ -47,10 +47,6 @@ by_test : {H : Type 0} (less more : H → Result (Option (List Grant)) JournalFa
 by_test less more v true x y first second = first
 by_test less more v false x y first second = second
 
-same_read : {H : Type 0} (less more : H → Result (Option (List Grant)) JournalFault) (v : Option (List Grant)) (head : H)
-    (read : Result (Option (List Grant)) JournalFault) → less head ≡ read → more head ≡ read → Goes less more v head
-same_read less more v head read is is_more was = is_more ∙ sym is ∙ was
-
 module _ (file text : List ℕ) (room more : ℕ) (le : room ≤ more) (v : Option (List Grant)) where
   found_more : (less : Result (List Grant) JournalFault) (most : Result (List Grant) JournalFault)
       → ((rest : List Grant) → less ≡ Ok rest → most ≡ Ok rest) → found less ≡ Ok v → found most ≡ Ok v
@@ -71,12 +67,12 @@ module _ (file text : List ℕ) (room more : ℕ) (le : room ≤ more) (v : Opti
   read_more =
       let less = from_head file text room in
       let most = from_head file text more in
-      by_test less most v (nat_lt (length file) 2) _ _ (same_read less most v _ _ refl refl)
-      (by_test less most v (slice_index file 0 == 0) _ _ (same_read less most v _ _ refl refl)
-      (by_test less most v (not (has_name (length file) file)) _ _ (same_read less most v _ _ refl refl)
-      (by_test less most v (not (slice_index file 0 == 1)) _ _ (same_read less most v _ _ refl refl)
+      by_test less most v (nat_lt (length file) 2) _ _ (λ is. is)
+      (by_test less most v (slice_index file 0 == 0) _ _ (λ is. is)
+      (by_test less most v (not (has_name (length file) file)) _ _ (λ is. is)
+      (by_test less most v (not (slice_index file 0 == 1)) _ _ (λ is. is)
       (by_test less most v (nat_lt (length file) 13 || nat_lt (length file) (13 + number_4 file 9)) _ _
-      (same_read less most v _ _ refl refl) (behind_more_head (number_4 file 9))))))
+      (λ is. is) (behind_more_head (number_4 file 9))))))
 
 -- ---- one list of grants
 
