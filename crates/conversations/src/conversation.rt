@@ -1,19 +1,24 @@
-//! A conversation: the words of a call, and what it is to print with which status.
+//! A conversation: the words of a call, what it is to print with which status, and what it is to leave of its journal.
 
+use crate::command::runs_at_once;
+use crate::cut::Cut;
 use anyhow::{Result, bail};
 use std::alloc::Global;
 
-/// The words of one call, what it is to print, and its status.
+/// The words of one call, what it is to print, its status, and what it is to leave of its journal.
 #[derive(Drop)]
 pub struct Conversation {
     alloc: Global,
     name: String,
+    cut: Option<Cut>,
     words: Vec<String>,
     // What is to be printed; where any lines may stand in it, what comes before the first of them, and then each piece
     // behind some.
     printed: String,
     behind: Vec<String>,
     status: u8,
+    // The file that the journal is to be left as, where the script names one.
+    left: Option<String>,
 }
 
 impl Conversation {
@@ -22,11 +27,18 @@ impl Conversation {
         Ok(Conversation {
             alloc,
             name: String::from_str(alloc, name)?,
+            cut: None,
             words: Vec::new(alloc),
             printed: String::new(alloc),
             behind: Vec::new(alloc),
             status: 0,
+            left: None,
         })
+    }
+
+    /// Is played with a file cut to each of these lengths.
+    pub fn cut(&mut self, cut: Cut) {
+        self.cut = Some(cut);
     }
 
     /// Adds a word of the call.
@@ -47,8 +59,15 @@ impl Conversation {
         }
     }
 
-    /// Ends with this exit status.
-    pub fn end(&mut self, status: &str) -> Result<()> {
+    /// Ends with this exit status, behind which the file may stand that the journal is left as.
+    pub fn end(&mut self, end: &str) -> Result<()> {
+        let status = match end.split_once(" leaves ") {
+            Some((status, file)) => {
+                self.left = Some(String::from_str(self.alloc, file)?);
+                status
+            }
+            None => end,
+        };
         match status.parse::<u8>() {
             Ok(status) => self.status = status,
             Err(_) => bail!("no status"),
@@ -66,13 +85,28 @@ impl Conversation {
         self.words.as_slice()
     }
 
-    /// What is to be printed, where no lines are left open.
-    pub fn whole_printed(&self) -> Result<Option<String>> {
-        if !self.behind.is_empty() {
-            return Ok(None);
+    /// The file that is cut, with its lengths.
+    pub fn file_cut(&self) -> Option<&Cut> {
+        self.cut.as_ref()
+    }
+
+    /// The name of the file that the journal is to be left as.
+    pub fn file_left(&self) -> Option<&String> {
+        self.left.as_ref()
+    }
+
+    /// Whether lines are left open of what a run prints, since its sessions ask at the same time.
+    pub fn is_open_run(&self) -> bool {
+        runs_at_once(self.words.as_slice()) && !self.behind.is_empty()
+    }
+
+    /// How many lines are written of what is to be printed.
+    pub fn lines(&self) -> u64 {
+        let mut lines = lines_in(self.printed.as_str());
+        for piece in &self.behind {
+            lines = lines.saturating_add(lines_in(piece.as_str()));
         }
-        let printed = String::from_str(self.alloc, self.printed.as_str())?;
-        Ok(Some(printed))
+        lines
     }
 
     /// Whether a call that ended like this went as written.
@@ -110,6 +144,10 @@ impl Conversation {
         let text = text.as_str();
         Ok(format!(in self.alloc; "{text}= {status}\n")?)
     }
+}
+
+fn lines_in(text: &str) -> u64 {
+    text.lines().count() as u64
 }
 
 fn add_line(text: &mut String, line: &str) -> Result<()> {
