@@ -33,7 +33,9 @@ pub fn check_look<R: Wait, D: Disk + Drop>(
 fn open<D: Disk + Drop>(alloc: Global, disk: D) -> Result<Durable<D>>
     ensures { IfOk result (λ durable. durable.history ≡ []) }
 {
-    let cell = read_cell(alloc, CELL).ok().context("no cell")?;
+    let Ok(cell) = read_cell(alloc, CELL) else {
+        bail!("no cell");
+    };
     match Durable::open(alloc, cell, CELL, disk, 10, 10) {
         Opening::Open(durable) => Ok(durable),
         _ => bail!("not opened"),
