@@ -34,6 +34,20 @@ def entry(numbers, step, session, shift):
     return struct.pack(">BBHIII", kind, 0, session, shift, job, argument)
 
 
+def step_in(numbers, data):
+    """The session of an entry, and the words of its step."""
+    kind, _, session, _, job, argument = struct.unpack(">BBHIII", data)
+    verb = {number: word for word, number in KINDS.items()}[kind]
+    words = [verb] if verb == "process" else [verb, str(job)]
+    if verb == "load":
+        words.append(list(numbers.types)[argument])
+    if verb == "process":
+        words.append(list(numbers.resources)[argument])
+    if verb == "move" and argument:
+        words.append(str(argument))
+    return [str(session), *words]
+
+
 def journal(text, entries):
     """The bytes of a journal of these entries."""
     head = b"\x01" + NAME + struct.pack(">I", len(text)) + text

@@ -92,7 +92,12 @@ counted_below : (first : ℕ) (scripts : List (List Request)) (e : Entry) (histo
     → counted first scripts (e ∷ history) ≡ counted first scripts history
 counted_below first [] e history below = refl
 counted_below first (s ∷ ss) e history below =
-    omega (arith, of_another first e history (λ same. omega (arith, same, below)), counted_below (first + 1) ss e history (omega (arith, below)))
+    omega (
+      arith,
+      of_another first e history (λ same. omega (arith, same, below)),
+      counted_below (first + 1) ss e history
+          (omega (arith, below)),
+    )
 
 counted_more : (first : ℕ) (scripts : List (List Request)) (e : Entry) (history : List Entry) → first ≤ e.session
     → e.session < first + length scripts → counted first scripts (e ∷ history) ≡ counted first scripts history + 1
@@ -141,8 +146,10 @@ parted patience script scripts entries counted all = (λ few. omega (arith, all,
 
 parted_at : (patience first : ℕ) (script : List Request) (scripts : List (List Request)) (history : List Entry)
     → sum_by length (script ∷ scripts) * patience ≤ counted first (script ∷ scripts) history
-    → (length (entries_of first history) ≤ length script * patience → sum_by length scripts * patience ≤ counted (first + 1) scripts history)
-    × (counted (first + 1) scripts history ≤ sum_by length scripts * patience → length script * patience ≤ length (entries_of first history))
+    → (length (entries_of first history) ≤ length script * patience
+    → sum_by length scripts * patience ≤ counted (first + 1) scripts history)
+    × (counted (first + 1) scripts history ≤ sum_by length scripts * patience
+    → length script * patience ≤ length (entries_of first history))
 parted_at patience first script scripts history all =
     parted patience (length script) (sum_by length scripts) (length (entries_of first history)) (counted (first + 1) scripts history)
     (subst (λ (n : ℕ). n * patience ≤ counted first (script ∷ scripts) history) (sum_by-cons (length {A = Request}) script scripts) all)
@@ -206,7 +213,8 @@ module _ (shift : Shift) (history : List Entry) (start : ℕ → ℕ) where
         let number : session ≡ (session - 1) + 1 = omega (arith, is.0) in
         let own : script ≡ script_of shift session = sym (ap (script_of shift) number ∙ script_at shift (session - 1) script there) in
         let full : length script * shift.patience ≤ length (entries_of session history) =
-        each_full shift.patience 1 shift.scripts history at_most (omega (arith, all, all_counted shift history sessions)) (session - 1) session
+        each_full shift.patience 1 shift.scripts history at_most (omega (arith, all, all_counted shift history sessions)) (session - 1)
+        session
         script (omega (arith, is.0)) there in
         let most = left session is in
         none_left (script_of shift session) shift.patience _ most.0

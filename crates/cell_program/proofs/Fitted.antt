@@ -113,7 +113,8 @@ module _ (cell : Cell) where
         (stays parts entry.request entry.told admitted here) legal.1 (All-tail Fits entry entries fit))
 
     -- the state behind the entries is admitted
-    admitted_behind : (parts : List Part) (entries : List Entry) → IsAdmitted cell parts → All (λ (entry : Entry). RequestFits cell entry.request) entries
+    admitted_behind : (parts : List Part) (entries : List Entry) → IsAdmitted cell parts
+        → All (λ (entry : Entry). RequestFits cell entry.request) entries
         → IsAdmitted cell (after cell parts entries)
     admitted_behind parts [] admitted fit = admitted
     admitted_behind parts (entry ∷ entries) admitted fit =

@@ -107,7 +107,8 @@ module _ (told : Told) (task : Task) (status : ℕ) (ends : Ends (Comes told tas
     }
   ]
     where
-      first_lines : (took : TookSome told.sink ends.outcome.lines) → take (length took.whole + 1) ends.outcome.lines ≡ took.whole ++ took.last ∷ []
+      first_lines : (took : TookSome told.sink ends.outcome.lines)
+          → take (length took.whole + 1) ends.outcome.lines ≡ took.whole ++ took.last ∷ []
       first_lines took =
           ap (take (length took.whole + 1)) took.parted ∙ take-append-add took.whole (took.last ∷ took.rest) 1
 

@@ -79,7 +79,8 @@ module _ {D : Type 0} (reads_as : D → Option (List ℕ)) (may_leave : D → Li
   pub stands_opened : IsFresh durable → StandsOpened durable.text durable.opening disk
   stands_opened fresh = record {
     now = now _ (λ file. ⊎_elim (moved file _ _ (ap (λ (gs : List Grant). durable.opening ++ gs) fresh.added ∙ append-nil durable.opening))
-        (moved file _ _ (ap (λ (gs : List Grant). durable.opening ++ gs) (since_added [] fresh.added fresh.unsure) ∙ append-nil durable.opening)));
+        (moved file _ _ (ap (λ (gs : List Grant). durable.opening ++ gs) (since_added [] fresh.added fresh.unsure)
+        ∙ append-nil durable.opening)));
     any_moment = always_told (reads_as durable.entry) (reads_as new) (left_since new (moment durable.entry))
         (LeavesOnly moment left_since durable.entry new (λ file. may_leave durable.entry file ⊎ StandsBetween durable file)) _ _
         (λ file. ⊎_elim (λ was. inl was) (λ first. inr (none_first file first))) (λ only file left. only.each file left) keeps.tells

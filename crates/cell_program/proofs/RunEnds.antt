@@ -74,7 +74,8 @@ module _ {D : Type 0} (reads_as : D → Option (List ℕ)) (may_leave : D → Li
   pub run_fits : All (EntryFits run.core.cell) run.history
   run_fits =
       let all : All (EntryFits durable.cell) durable.history =
-      history_fits durable.cell kept.fits shift durable.history fits (first_parts durable) (λ session. begin_at (start shift session durable.opening))
+      history_fits durable.cell kept.fits shift durable.history fits (first_parts durable)
+      (λ session. begin_at (start shift session durable.opening))
       behind.legal behind.sessions (traces shift durable.opening durable.history started behind.sessions behind.gone) first_admitted in
       subst (λ (core : CoreState). All (EntryFits core.cell) run.history) (sym is.core)
       (subst (λ (history : List Entry). All (EntryFits durable.cell) history) (sym is.history) all)
@@ -99,7 +100,8 @@ module _ {D : Type 0} (reads_as : D → Option (List ℕ)) (may_leave : D → Li
         written = ap (λ (o : Outcome). concat o.lines) lines
             ∙ planned_text durable.cell (first_parts durable) shift.number (length durable.opening) durable.history
             (plan_of durable.cell (parts durable)) no_halt;
-        stands = whole_now reads_as may_leave moment left_since faults durable new keeps (grants shift.number durable.history) behind.added unsure;
+        stands = whole_now reads_as may_leave moment left_since faults durable new keeps (grants shift.number durable.history)
+            behind.added unsure;
         any_moment = whole_always reads_as may_leave moment left_since faults durable new keeps (grants shift.number durable.history)
             behind.added unsure;
       })
@@ -127,13 +129,15 @@ module _ {D : Type 0} (reads_as : D → Option (List ℕ)) (may_leave : D → Li
             (grant_of shift.number last) unsure;
         any_moment = halted_always reads_as may_leave moment left_since faults durable new keeps (grants shift.number durable.history)
             behind.added (grant_of shift.number last) unsure;
-        cause = halted_cause reads_as may_leave moment left_since faults durable new keeps (grants shift.number durable.history) behind.added
+        cause = halted_cause reads_as may_leave moment left_since faults durable new keeps (grants shift.number durable.history)
+            behind.added
             (grant_of shift.number last) unsure;
       })
 
   pub run_ends : IsRunOf disk durable.cell durable.text shift durable.opening run
   run_ends = by_halt (halted_in durable.history) refl
     where
-      by_halt : (found : Option Entry) → halted_in durable.history ≡ found → IsRunOf disk durable.cell durable.text shift durable.opening run
+      by_halt : (found : Option Entry) → halted_in durable.history ≡ found
+          → IsRunOf disk durable.cell durable.text shift durable.opening run
       by_halt None found = whole found
       by_halt (Some last) found = halts_at last found

@@ -140,7 +140,8 @@ module _ (shift : Shift) (opening : List Grant) (history : List Entry) (started 
   full no_halt all session is = record {
     trace = traces session is;
     unhalted = holds_halt-entries_of session history no_halt;
-    ended = each_ended shift history (λ s. start shift s opening) no_halt traces (starts_within shift opening started) sessions all session is;
+    ended = each_ended shift history (λ s. start shift s opening) no_halt traces (starts_within shift opening started) sessions all
+        session is;
   }
 
   pub whole_traces : holds_halt history ≡ false → EachSession IsWholeTrace shift opening history

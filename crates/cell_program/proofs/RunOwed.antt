@@ -50,7 +50,8 @@ module _ (names : Option Names) (faults faults_after : ℕ) (disk : DiskTold) (c
       → MayComeRunning names disk cell_name Owes (early_outcome early)
   unfolding OwesRun
   run_at_cell early ends still =
-      elim (early_in names faults faults_after cell_name cell_file_read cell_end _ _ early (λ end is. (is_early early end is, still)) ends) [
+      elim (early_in names faults faults_after cell_name cell_file_read cell_end _ _ early (λ end is. (is_early early end is, still))
+      ends) [
         | inl is ↦ MemoryWanted (is_early early Memory is, inl (read_untouched disk still))
         | inr owed ↦ IsOwed owed
       ]
@@ -104,7 +105,8 @@ pub run_opened : {D : Type 0} (reads_as : D → Option (List ℕ)) (may_leave : 
     (limit : ℕ) → durable ≡ fresh held.cell held.text.items disk durable.opening limit
     → IfSome (reads_as disk) (λ file. opened_as held.cell file held.text.items (run_room shift) ≡ Ok durable.opening)
     → AreDue durable.cell durable.opening → (made : Result JournalRun Early)
-    → StartMade (disk_told reads_as may_leave moment left_since faults durable.entry new) durable.cell durable.text shift durable.opening made
+    → StartMade (disk_told reads_as may_leave moment left_since faults durable.entry new) durable.cell durable.text shift durable.opening
+    made
     → RunMade (disk_told reads_as may_leave moment left_since faults disk new) held shift made
 run_opened {D} reads_as may_leave moment left_since faults held shift disk new durable limit is exact due made started = inl (
   durable.opening,

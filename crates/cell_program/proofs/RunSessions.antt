@@ -160,7 +160,8 @@ module _ {D : Type 0} (shift : Shift) (lock : LockId D) (progress : List Progres
     added = closed.added ∙ ap (λ (n : ℕ). grants n durable.history) number;
     unsure = closed.unsure ∙ ap (λ (n : ℕ). unsure_grant n durable.history) number;
     sessions = all_sessions shift durable.history
-        (λ number outside. closed.others number (elim outside [ inl none ↦ inl none | inr beyond ↦ inr (omega (arith, beyond, sessions)) ]));
+        (λ number outside. closed.others number (elim outside
+        [ inl none ↦ inl none | inr beyond ↦ inr (omega (arith, beyond, sessions)) ]));
     gone = λ session is. subst (λ (gs : List Grant). HasGone shift gs durable.history session) (sym grants_is) (gone_at session is);
   }
     where

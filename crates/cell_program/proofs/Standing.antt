@@ -62,10 +62,12 @@ module _ (disk : DiskTold) (now : IfSome disk.reads disk.leaves) (text : List �
   still_by_read only = (by_told disk.reads disk.reads_after only.reads now, always disk.reads)
     where
       by_told : (reads after : Option (List ℕ)) → after ≡ reads → IfSome reads disk.leaves
-          → IfSome reads (λ _. IsSomeAnd after (λ file. StandsFor file text grants × ((left : List ℕ) → disk.leaves_after left → StandsFor left text grants)))
+          → IfSome reads (λ _. IsSomeAnd after (λ file. StandsFor file text grants
+          × ((left : List ℕ) → disk.leaves_after left → StandsFor left text grants)))
       by_told None after same now = tt
       by_told (Some file) after same now =
-          subst (λ (a : Option (List ℕ)). IsSomeAnd a (λ f. StandsFor f text grants × ((left : List ℕ) → disk.leaves_after left → StandsFor left text grants)))
+          subst (λ (a : Option (List ℕ)). IsSomeAnd a (λ f. StandsFor f text grants
+          × ((left : List ℕ) → disk.leaves_after left → StandsFor left text grants)))
           (sym same) (stood.1 file now, λ left is. stood.1 left (only.leaves left is))
 
       always : (reads : Option (List ℕ)) → IfSome reads (λ _. (left : List ℕ) → disk.left left → StandsFor left text grants)
@@ -134,12 +136,14 @@ pub known_cell : (names : Option Names) (cell : List ℕ) (known : CellFile) →
 known_cell None cell known tells = absurd tells
 known_cell (Some names) cell known tells = by_held (names cell) tells
   where
-    by_held : (at : Option (List ℕ)) → IsSomeAnd at (λ bytes. cell_file_read bytes (Ok known)) → IsSomeAnd at (λ bytes. cell_of bytes ≡ Ok known.cell)
+    by_held : (at : Option (List ℕ)) → IsSomeAnd at (λ bytes. cell_file_read bytes (Ok known))
+        → IsSomeAnd at (λ bytes. cell_of bytes ≡ Ok known.cell)
     by_held None tells = absurd tells
     by_held (Some bytes) tells = sym tells.0
 
 -- a cell file that is held is the one that was read
-pub one_cell : (names : Option Names) (cell : List ℕ) (known read : CellFile) → TellsOf names cell (λ bytes. cell_file_read bytes (Ok known))
+pub one_cell : (names : Option Names) (cell : List ℕ) (known read : CellFile)
+    → TellsOf names cell (λ bytes. cell_file_read bytes (Ok known))
     → IsCellFile names cell read → (read.cell ≡ known.cell) × (read.text.items ≡ known.text.items)
 one_cell None cell known read tells is = absurd tells
 one_cell (Some names) cell known read tells is = by_held (names cell) tells is
@@ -166,7 +170,8 @@ module _ (told : Told) (cell : List ℕ) (now : IfSome told.disk.reads told.disk
       found_same told.disk now text grants stood held.cell room opening
       (subst (λ (t : List ℕ). IfSome told.disk.reads (λ file. opened_as held.cell file t room ≡ Ok opening)) same opened.1) in
       still_by_opened told.disk now text grants stood
-      (subst (λ (gs : List Grant). StandsOpened text gs told.disk) one (subst (λ (t : List ℕ). StandsOpened t opening told.disk) same stands))
+      (subst (λ (gs : List Grant). StandsOpened text gs told.disk) one
+      (subst (λ (t : List ℕ). StandsOpened t opening told.disk) same stands))
 
   -- where memory was wanting in a run
   pub keeps_by_memory : IsOnlyRead told.disk ⊎ WasOpened told.names told.disk cell → KeepsGrants told cell

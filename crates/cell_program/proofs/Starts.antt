@@ -38,7 +38,8 @@ started_front shift front rest started = record {
 }
 
 -- behind grants of which one is another shift's they don't start
-pub other_not_started : (shift : Shift) (opening : List Grant) (session : ℕ) → IsOtherShift shift opening session → AreStarted shift opening → ⊥
+pub other_not_started : (shift : Shift) (opening : List Grant) (session : ℕ) → IsOtherShift shift opening session
+    → AreStarted shift opening → ⊥
 other_not_started shift opening session other started =
     other.strays (started_front shift (other.before ++ other.stray ∷ []) other.behind
     (subst (AreStarted shift) (other.parted ∙ sym (append_assoc other.before (other.stray ∷ []) other.behind)) started))

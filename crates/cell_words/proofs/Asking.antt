@@ -1,13 +1,12 @@
 -- The steps of a plan, asked in turn in a durable cell: so far each was granted.
-use Rattle.std.proofs.Common.{◌≡◌, ℕ, ◌+◌, ◌<◌, ◌≤◌, List, [], ◌∷◌, ◌++◌, length, map, Option, Some, None, Result, Ok, Err, refl, sym, ◌∙◌, ap, subst, arith, append_assoc, append-nil}
+use Rattle.std.proofs.Common.{◌≡◌, ◌<◌, ◌≤◌, List, [], ◌∷◌, ◌++◌, length, map, Some, None, Ok, Err, refl, sym, ◌∙◌, ap, subst, arith, append_assoc, append-nil}
 use Rattle.std.proofs.lemmas.List.{length-append, length-map, map-append}
 use Rattle.cell_base.specs.declared.requests.Reply.{Reply}
 use Rattle.cell_base.specs.declared.requests.Reply.TheVariants.{Granted}
 use Rattle.cell_base.specs.declared.requests.Request.{Request}
 use Rattle.cell_base.specs.declared.requests.Told.TheVariants.{Answered, Halted}
 use Rattle.cell_base.specs.declared.shifts.Entry.{Entry}
-use Rattle.cell_base.specs.declared.shifts.Grant.{Grant}
-use Rattle.cell_base.specs.Outcomes.{reply_to, state_after}
+use Rattle.cell_base.specs.Outcomes.{state_after}
 use Rattle.cell_base.specs.Plans.{plan_of, plan_step, work}
 use Rattle.cell_base.specs.Policy.{IsAdmitted}
 use Rattle.policy_laws.specs.Laws.{HasPlan}
@@ -20,7 +19,7 @@ use Rattle.durable_cell.specs.declared.fault.AskFault.{AskFault}
 use Rattle.durable_cell.specs.declared.fault.AskFault.TheVariants as fault
 use Rattle.durable_cell.proofs.Grown.{no_halt_yet}
 use Rattle.durable_cell.proofs.Halts.{after-push}
-use Rattle.cell_words.specs.Drains.{HaltsIn, IsFresh, after_steps, asked, drained, drained_to, step_grant}
+use Rattle.cell_words.specs.Drains.{HaltsIn, IsFresh, after_steps, asked, drained_to, step_grant}
 use Rattle.cell_words.specs.declared.drains.TheConstants.{MAX_PLAN}
 
 -- these steps were granted, and those of the plan at the present state are left
@@ -59,7 +58,8 @@ module _ {D : Type 0} (old : DurableState D) where
   pub comes_to_end : (now : DurableState D) → Asking old now → plan_of now.cell (parts now) ≡ []
       → now ≡ after_steps old (plan_of old.cell (first_parts old))
   comes_to_end now so_far none =
-      so_far.is ∙ ap (after_steps old) (sym (append-nil so_far.steps) ∙ ap (λ (l : List Request). so_far.steps ++ l) (sym (so_far.left ∙ none)) ∙ sym so_far.parted)
+      so_far.is ∙ ap (after_steps old) (sym (append-nil so_far.steps)
+      ∙ ap (λ (l : List Request). so_far.steps ++ l) (sym (so_far.left ∙ none)) ∙ sym so_far.parted)
 
   -- one more step was granted, and is an entry and a grant more
   one_more : (steps : List Request) (step : Request)

@@ -86,7 +86,8 @@ uncut most bytes short = elim (cases_lt most (length bytes)) [
 ]
 
 -- a cell that was made of the bytes that were read was made of the whole file
-text_uncut : (held : CellFile) (bytes : List ℕ) → cell_file_read (take (MAX_CELL_BYTES + 1) bytes) (Ok held) → cell_file_read bytes (Ok held)
+text_uncut : (held : CellFile) (bytes : List ℕ) → cell_file_read (take (MAX_CELL_BYTES + 1) bytes) (Ok held)
+    → cell_file_read bytes (Ok held)
 text_uncut held bytes is =
     subst (λ (read : List ℕ). cell_file_read read (Ok held))
     (uncut MAX_CELL_BYTES bytes (cell_short held.cell (take (MAX_CELL_BYTES + 1) bytes) is.0)) is
@@ -165,7 +166,8 @@ module _ (names : Option Names) (name : List ℕ) where
       in_names (Some held) is = in_held (held name) is
 
   pub cell_alone : (held : CellFile) → IsCellFile names name held → IsMadeOfFile names name cell_of (Ok held.cell)
-  cell_alone held is = held_weaker (λ bytes. cell_file_read bytes (Ok held)) (λ bytes. Ok held.cell ≡ cell_of bytes) (λ bytes both. both.0) is
+  cell_alone held is = held_weaker (λ bytes. cell_file_read bytes (Ok held)) (λ bytes. Ok held.cell ≡ cell_of bytes)
+      (λ bytes both. both.0) is
 
   pub ends_alone : (faults faults_after : ℕ) (early : Early) → EndsEarly names name cell_file_read cell_end faults faults_after early
       → EndsEarly names name (GivenBy cell_of) cell_end faults faults_after early

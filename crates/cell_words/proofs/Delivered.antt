@@ -26,7 +26,13 @@ rest_at items i d within = rw add-one (drop-cons items i d within)
 -- a line has a byte
 no_line : (line rest : List ℕ) → IsLine line → [] ≡ line ++ rest → ⊥
 no_line line rest is none =
-    let long : 1 ≤ length (line ++ rest) = omega (arith, length-append line rest, ap (λ (l : List ℕ). length l) is.ended, length-append is.words (10 ∷ [])) in
+    let long : 1 ≤ length (line ++ rest) = omega (
+      arith,
+      length-append line rest,
+      ap (λ (l : List ℕ). length l) is.ended,
+      length-append
+          is.words (10 ∷ []),
+    ) in
     let short : length (line ++ rest) ≡ 0 = sym (ap (λ (l : List ℕ). length l) none) in
     omega (arith, long, short)
 
@@ -82,7 +88,8 @@ module _ {K : Type 0} (taken : K → Option (List ℕ)) (was_put : K → List �
   pub text_ends : (lines : Lines) (a b : K) (text : List ℕ) → text ≡ [] → AtLine lines a b text → TookAll (told a b) lines
   text_ends lines a b text none at = whole at.rest at.each at.is at.so_far
     where
-      whole : (rest : Lines) → All IsLine rest → text ≡ concat rest → Underway (told a b) (λ line. line) lines rest → TookAll (told a b) lines
+      whole : (rest : Lines) → All IsLine rest → text ≡ concat rest → Underway (told a b) (λ line. line) lines rest
+          → TookAll (told a b) lines
       whole [] each is so_far = subst (TookAll (told a b)) (map-id lines) (ends (λ line. line) lines a b so_far)
       whole (line ∷ rest) each is so_far = absurd (no_line line (concat rest) (All-head IsLine line rest each) (sym none ∙ is))
 
@@ -92,7 +99,8 @@ module _ {K : Type 0} (taken : K → Option (List ℕ)) (was_put : K → List �
     pub text_goes_on : AtLine lines a b text → TookAll (told b c) (line ∷ []) → AtLine lines a c behind
     text_goes_on at more = step at.rest at.each at.is at.so_far
       where
-        step : (rest : Lines) → All IsLine rest → text ≡ concat rest → Underway (told a b) (λ line. line) lines rest → AtLine lines a c behind
+        step : (rest : Lines) → All IsLine rest → text ≡ concat rest → Underway (told a b) (λ line. line) lines rest
+            → AtLine lines a c behind
         step [] each is so_far = absurd (some is)
         step (first ∷ rest) each is so_far =
             let at_cut = cut first (concat rest) (All-head IsLine first rest each) is in
@@ -106,7 +114,8 @@ module _ {K : Type 0} (taken : K → Option (List ℕ)) (was_put : K → List �
     pub text_breaks_off : AtLine lines a b text → TookSome (told b c) (line ∷ []) → TookSome (told a c) lines
     text_breaks_off at part = step at.rest at.each at.is at.so_far
       where
-        step : (rest : Lines) → All IsLine rest → text ≡ concat rest → Underway (told a b) (λ line. line) lines rest → TookSome (told a c) lines
+        step : (rest : Lines) → All IsLine rest → text ≡ concat rest → Underway (told a b) (λ line. line) lines rest
+            → TookSome (told a c) lines
         step [] each is so_far = absurd (some is)
         step (first ∷ rest) each is so_far =
             let at_cut = cut first (concat rest) (All-head IsLine first rest each) is in

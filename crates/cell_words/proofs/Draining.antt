@@ -1,8 +1,7 @@
 -- A drain that came to its end: what is printed of it, and for which grants its disk stands.
 use Rattle.std.specs.Prelude.{IfOk, IfSome, IsOk, MatchOption, if◌then◌else◌}
 use Rattle.std.specs.List.{concat}
-use Rattle.std.specs.Option.{option_to_list}
-use Rattle.std.proofs.Common.{◌≡◌, ◌⊎◌, inl, inr, ℕ, Bool, true, false, List, [], ◌∷◌, ◌++◌, length, map, take, All, Option, Some, None, Result, Ok, Err, refl, sym, ◌∙◌, ap, subst, append-nil}
+use Rattle.std.proofs.Common.{◌≡◌, ◌⊎◌, inl, inr, ℕ, Bool, true, false, List, [], ◌∷◌, ◌++◌, length, map, take, All, Option, Result, Ok, Err, sym, ◌∙◌, ap, subst, append-nil}
 use Rattle.std.proofs.lemmas.List.{map-append, take-map}
 use Rattle.outside_io.specs.Causes.{Rose}
 use Rattle.outside_io.specs.Disk.{LeavesOnly}
@@ -20,7 +19,6 @@ use Rattle.durable_cell.specs.Openings.{fresh}
 use Rattle.durable_cell.specs.Replayed.{AreDue, opened_as}
 use Rattle.durable_cell.specs.declared.replays.TheConstants.{MAX_ROOM}
 use Rattle.durable_cell.specs.Kept.{KeepsDisk, StandsBetween, StandsNow}
-use Rattle.move_journal.specs.Disks.{Shows}
 use Rattle.move_journal.specs.Journals.{StandsFor}
 use Rattle.policy_laws.proofs.Plans.{plan_law}
 use Rattle.record_text.specs.Fitting.{EntryFits}
@@ -51,7 +49,8 @@ module _ {D : Type 0} (reads_as : D → Option (List ℕ)) (may_leave : D → Li
   is_always : (Q : List ℕ → Type 0) → old.entry ≡ new.entry → ((file : List ℕ) → StandsBetween new file → Q file)
       → IsAlways (disk_told reads_as may_leave moment left_since faults old.entry disk) (λ file. may_leave old.entry file ⊎ Q file)
   is_always Q entry weaker =
-      subst (λ (e : D). IsAlways (disk_told reads_as may_leave moment left_since faults e disk) (λ file. may_leave e file ⊎ Q file)) (sym entry)
+      subst (λ (e : D). IsAlways (disk_told reads_as may_leave moment left_since faults e disk) (λ file. may_leave e file ⊎ Q file))
+      (sym entry)
       (always_told (reads_as new.entry) (reads_as disk) (left_since disk (moment new.entry))
       (LeavesOnly moment left_since new.entry disk (λ file. may_leave new.entry file ⊎ StandsBetween new file))
       (λ file. may_leave new.entry file ⊎ StandsBetween new file) (λ file. may_leave new.entry file ⊎ Q file)
@@ -102,11 +101,12 @@ module _ {D : Type 0} (reads_as : D → Option (List ℕ)) (may_leave : D → Li
       ∙ ap (λ (d : DurableState D). record { status = 7; lines = history_lines d.cell 0 (length d.opening) d.history }) asked.is
 
   whole_stands : new ≡ after_steps old plan → (file : List ℕ) → StandsNow new file → StandsFor file old.text (with_steps old.opening plan)
-  whole_stands is file = subst (λ (d : DurableState D). StandsNow d file → StandsFor file old.text (with_steps old.opening plan)) (sym is) (λ now. elim now [
-    | inl stands ↦ stands
-    | inr stands ↦
-        subst (λ (grants : List Grant). StandsFor file old.text (old.opening ++ grants)) (append-nil (map step_grant plan)) stands
-  ])
+  whole_stands is file = subst (λ (d : DurableState D). StandsNow d file → StandsFor file old.text (with_steps old.opening plan)) (sym is)
+      (λ now. elim now [
+        | inl stands ↦ stands
+        | inr stands ↦
+            subst (λ (grants : List Grant). StandsFor file old.text (old.opening ++ grants)) (append-nil (map step_grant plan)) stands
+      ])
 
   whole_between : new ≡ after_steps old plan → (file : List ℕ) → StandsBetween new file → StandsForSome old.text old.opening plan file
   whole_between is file =
@@ -165,7 +165,8 @@ module _ {D : Type 0} (reads_as : D → Option (List ℕ)) (may_leave : D → Li
             (drained_to_halted asked.first asked.last);
         stands = is_now reads_as may_leave moment left_since faults old new disk kept _ entry (halted_stands asked);
         any_moment = is_always reads_as may_leave moment left_since faults old new disk kept _ entry (halted_between asked);
-        cause = subst (λ (d : DurableState D). MatchOption d.unsure (faults disk ≡ faults d.entry) (λ _. Rose (faults d.entry) (faults disk)))
+        cause = subst (λ (d : DurableState D). MatchOption d.unsure (faults disk ≡ faults d.entry)
+            (λ _. Rose (faults d.entry) (faults disk)))
             asked.is kept.count;
       })
     where
@@ -191,12 +192,14 @@ pub drain_opened : {D : Type 0} (reads_as : D → Option (List ℕ)) (may_leave 
     → durable ≡ fresh held.cell held.text.items disk durable.opening limit
     → IfSome (reads_as disk) (λ file. opened_as held.cell file held.text.items MAX_ROOM ≡ Ok durable.opening)
     → AreDue durable.cell durable.opening → (made : Result Drain Early) → IsOk made
-    → IfOk made (IsDrainOf (disk_told reads_as may_leave moment left_since faults durable.entry new) durable.cell durable.text durable.opening)
+    → IfOk made (IsDrainOf (disk_told reads_as may_leave moment left_since faults durable.entry new) durable.cell durable.text
+    durable.opening)
     → DrainMade (disk_told reads_as may_leave moment left_since faults disk new) held made
 drain_opened reads_as may_leave moment left_since faults held disk new durable limit is exact due (Err early) ok made = absurd (cc)
 drain_opened reads_as may_leave moment left_since faults held disk new durable limit is exact due (Ok drain) ok made = (
   durable.opening,
   (subst (λ (d : DurableState _). AreDue d.cell durable.opening) is due, exact),
-  subst (λ (d : DurableState _). IsDrainOf (disk_told reads_as may_leave moment left_since faults d.entry new) d.cell d.text durable.opening drain)
+  subst (λ (d : DurableState _). IsDrainOf (disk_told reads_as may_leave moment left_since faults d.entry new) d.cell d.text
+      durable.opening drain)
       is made,
 )

@@ -11,7 +11,7 @@ use Rattle.refusal_reason.specs.Shown.{show_lines}
 use Rattle.shift_checker.specs.Judging.{judge}
 use Rattle.shift_checker.specs.declared.verdict.Verdict.{Verdict}
 use Rattle.cell_words.specs.Commands.{AfterFile, FileFailed, FileRefused, FileRead, MayComeOf, OwesCheck, OwesShow}
-use Rattle.cell_words.specs.Ends.{IsEarly, MayCome, IsOwed, MemoryWanted}
+use Rattle.cell_words.specs.Ends.{IsEarly, IsOwed, MemoryWanted}
 use Rattle.cell_words.specs.Reading.{ByFault, ByMemory, EndsEarly, GivenBy, Unread, Refused}
 use Rattle.cell_words.specs.Texts.{Outcome, done, early_outcome, verdict_outcome}
 use Rattle.cell_words.specs.Told.{HoldsOf, IsMadeOfFile}
@@ -57,7 +57,8 @@ module _ (names : Option Names) (faults faults_after : ℕ) where
       check_at_record early ends =
           owed_or_starved (OwesCheck names faults faults_after cell_name record_file) early
           (elim (early_in record_file (record_read cell) record_end
-          (λ blocks. early_outcome early ≡ verdict_outcome (judge cell blocks)) (IsEarly (early_outcome early)) early (is_early early) ends) [
+          (λ blocks. early_outcome early ≡ verdict_outcome (judge cell blocks)) (IsEarly (early_outcome early)) early (is_early early)
+          ends) [
             | inl is ↦ inl is
             | inr owed ↦ inr (FileRead cell made owed)
           ])

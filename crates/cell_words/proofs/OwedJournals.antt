@@ -174,7 +174,8 @@ module _ (names : Option Names) (faults faults_after : ℕ) (disk : DiskTold) (c
       → MayComeWriting disk OwesDrained (early_outcome early)
   unfolding OwesDrain
   drain_at_cell early ends still =
-      elim (early_in names faults faults_after cell_name cell_file_read cell_end _ _ early (λ end is. (is_early early end is, still)) ends) [
+      elim (early_in names faults faults_after cell_name cell_file_read cell_end _ _ early (λ end is. (is_early early end is, still))
+      ends) [
         | inl is ↦ MemoryWanted (is_early early Memory is, read_untouched disk still)
         | inr owed ↦ IsOwed owed
       ]

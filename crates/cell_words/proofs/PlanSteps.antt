@@ -1,5 +1,5 @@
 -- The steps of a plan: how many they are at most, that they fit the cell, and the state behind them.
-use Rattle.std.proofs.Common.{◌≡◌, ℕ, zero, suc, ◌+◌, ◌*◌, ◌≤◌, Bool, true, false, cond, List, [], ◌∷◌, ◌++◌, length, get_or, drop, length-drop, All, Option, Some, None, refl, sym, ◌∙◌, ap, subst, arith}
+use Rattle.std.proofs.Common.{◌≡◌, ℕ, zero, suc, ◌+◌, ◌≤◌, Bool, true, false, cond, List, [], ◌∷◌, ◌++◌, get_or, drop, length-drop, All, Option, Some, None, refl, sym, subst, arith}
 use Rattle.std.proofs.lemmas.List.Elements.{All-nil, All-cons, All-head, All-tail, All-map, All-weaker}
 use Rattle.std.proofs.lemmas.List.Sums.{sum_by-le}
 use Rattle.cell_base.specs.declared.cells.Cell.{Cell}
@@ -14,7 +14,6 @@ use Rattle.cell_base.specs.Plans.{plan_of, plan_step, work, work_at, work_of}
 use Rattle.cell_base.specs.Policy.{IsAdmitted}
 use Rattle.cell_base.specs.Scripts.{holds_halt}
 use Rattle.cell_base.specs.Stages.{IsStage, first_branch_path, places_left, stage_of}
-use Rattle.policy_laws.specs.Laws.{HasPlan}
 use Rattle.policy_laws.proofs.Limits.{length-route_of}
 use Rattle.policy_laws.proofs.Plans.{plan_law}
 use Rattle.policy_laws.proofs.Units.{units_law}
@@ -58,7 +57,8 @@ module _ (cell : Cell) (fits : CellFits cell) where
     where
       -- the next step, and those behind it
       by_step : (n : ℕ) (parts : List Part) → IsAdmitted cell parts → n ≡ work cell parts
-          → ((m : ℕ) (behind : List Part) → m + 1 ≡ n → IsAdmitted cell behind → m ≡ work cell behind → All (RequestFits cell) (plan_of cell behind))
+          → ((m : ℕ) (behind : List Part) → m + 1 ≡ n → IsAdmitted cell behind → m ≡ work cell behind
+          → All (RequestFits cell) (plan_of cell behind))
           → (next : Option Request) → plan_step cell parts ≡ next → All (RequestFits cell) (plan_of cell parts)
       by_step n parts admitted is later None none =
           subst (λ (ps : List Part). All (RequestFits cell) (plan_of cell ps)) (sym ((plan_law cell fits parts admitted).none.0 none))
@@ -96,7 +96,8 @@ module _ (cell : Cell) (fits : CellFits cell) where
       (drained_to_fit first rest last (All-tail (RequestFits cell) step (first ++ last ∷ rest) fit))
 
 -- the state behind steps that were granted
-pub after_drained : (cell : Cell) (parts : List Part) (steps : List Request) → after cell parts (drained steps) ≡ after_requests cell parts steps
+pub after_drained : (cell : Cell) (parts : List Part) (steps : List Request)
+    → after cell parts (drained steps) ≡ after_requests cell parts steps
 after_drained cell parts [] = refl
 after_drained cell parts (step ∷ steps) = after_drained cell (state_after cell parts step) steps
 

@@ -1,5 +1,5 @@
 -- How the program ends at a fault of a cell file: the number of each fault, with its place and its count.
-use Rattle.std.specs.Prelude.{None, Some}
+use Rattle.std.specs.Prelude.{Some}
 use Rattle.cell_file.specs.declared.faults.CellFault.{CellFault}
 use Rattle.cell_file.specs.declared.faults.CellFault.TheVariants.{NotToml, WrongKey, WrongKind, BadName, BadNumber, Repeated, UnknownName, TooMany, Empty, MixedOrders, TooManyUnits, Memory as Starved}
 use Rattle.cell_words.specs.declared.early.Early.{Early}

@@ -26,7 +26,8 @@ pub record Promises (told : Told) (is_sound : Type 0) (task : Task) (status : �
   -- Status 0: the files and the journal stand for what the command needs, and its answer was taken: the record of a shift, with the one
   -- history in rounds, or with the one history that its sessions made on a journal, which the disk then stands for, and the plan that
   -- drains the state behind it; the plan that drains the state behind a journal's grants; the record of the steps of that plan, and the
-  -- disk stands for them; what a step would be told; `yes` for a record that is right; or the neighborhoods of a cell. Status 1: the record is not right, and the line that fails was taken, with why.
+  -- disk stands for them; what a step would be told; `yes` for a record that is right; or the neighborhoods of a cell. Status 1: the
+  -- record is not right, and the line that fails was taken, with why.
   pub done : status ≡ 0 → IsPrinted told task
   pub denied : status ≡ 1 → IsDenied told task
   -- Status 2 exactly where the words are no built command, unless the sink fails.

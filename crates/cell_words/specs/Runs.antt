@@ -67,7 +67,8 @@ pub record IsRun (disk : DiskTold) (cell : Cell) (text : List ℕ) (shift : Shif
 
 -- The writing of a grant halted, and no session was granted anything behind it: the block that ends there is printed, and the disk
 -- stands for the grants and those of the history, without the halted request or with it.
-pub record IsRunHalted (disk : DiskTold) (cell : Cell) (text : List ℕ) (shift : Shift) (opening : List Grant) (outcome : Outcome) : Type 0 where
+pub record IsRunHalted (disk : DiskTold) (cell : Cell) (text : List ℕ) (shift : Shift) (opening : List Grant)
+    (outcome : Outcome) : Type 0 where
   pub history : List Entry
   pub first : List Entry
   pub last : Entry

@@ -1,5 +1,5 @@
 -- How the program ends at a fault of a shift file: the number of each fault, with its place and its count.
-use Rattle.std.specs.Prelude.{None, Some}
+use Rattle.std.specs.Prelude.{Some}
 use Rattle.shift_file.specs.declared.faults.ShiftFault.{ShiftFault}
 use Rattle.shift_file.specs.declared.faults.ShiftFault.TheVariants.{NotToml, WrongKey, WrongKind, BadStep, BadNumber, UnknownName, Empty, TooMany, TooLong, TooManyAsks, Memory as Starved}
 use Rattle.cell_words.specs.declared.early.Early.{Early}

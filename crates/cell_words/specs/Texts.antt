@@ -101,7 +101,9 @@ counted number count = record { number = number; place = None; count = Some coun
 
 -- the built commands with their words
 abbrev pub usage_text : List ℕ
-usage_text = codes "usage: solo CELL SHIFT, run CELL SHIFT JOURNAL, plan CELL JOURNAL, drain CELL JOURNAL, why CELL JOURNAL STEP, check CELL RECORD, show CELL" ++ 10 ∷ []
+usage_text =
+    codes "usage: solo CELL SHIFT, run CELL SHIFT JOURNAL, plan CELL JOURNAL, drain CELL JOURNAL, why CELL JOURNAL STEP, check CELL RECORD, show CELL"
+    ++ 10 ∷ []
 
 -- words that are no built command
 abbrev pub usage : Outcome

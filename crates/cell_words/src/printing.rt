@@ -109,9 +109,11 @@ pub fn print_block<K: Sink>(
 // Puts how many steps the plan has, and the line of each.
 fn print_plan<K: Sink>(out: &mut K, drainer: &mut Drainer) -> Result<(), Failed>
     ensures whole { OnOk result
-        (TookAll (sink_told K.taken K.was_put K.faults out.old out.new) (plan_lines drainer.old.cell (plan_of drainer.old.cell drainer.old.parts))) }
+        (TookAll (sink_told K.taken K.was_put K.faults out.old out.new)
+        (plan_lines drainer.old.cell (plan_of drainer.old.cell drainer.old.parts))) }
     ensures part { OnErr result
-        (TookSome (sink_told K.taken K.was_put K.faults out.old out.new) (plan_lines drainer.old.cell (plan_of drainer.old.cell drainer.old.parts))) }
+        (TookSome (sink_told K.taken K.was_put K.faults out.old out.new)
+        (plan_lines drainer.old.cell (plan_of drainer.old.cell drainer.old.parts))) }
     ensures cause { HasCause (K.faults out.old) (K.faults out.new) result }
 {
     if let Err(failed) = print_line(out, &plan_line(drainer.length())) {
@@ -123,9 +125,11 @@ fn print_plan<K: Sink>(out: &mut K, drainer: &mut Drainer) -> Result<(), Failed>
 // Puts the line of each step.
 fn print_steps<K: Sink>(out: &mut K, drainer: &mut Drainer) -> Result<(), Failed>
     ensures whole { OnOk result
-        (TookAll (sink_told K.taken K.was_put K.faults out.old out.new) (map (step_line drainer.old.cell) (plan_of drainer.old.cell drainer.old.parts))) }
+        (TookAll (sink_told K.taken K.was_put K.faults out.old out.new)
+        (map (step_line drainer.old.cell) (plan_of drainer.old.cell drainer.old.parts))) }
     ensures part { OnErr result
-        (TookSome (sink_told K.taken K.was_put K.faults out.old out.new) (map (step_line drainer.old.cell) (plan_of drainer.old.cell drainer.old.parts))) }
+        (TookSome (sink_told K.taken K.was_put K.faults out.old out.new)
+        (map (step_line drainer.old.cell) (plan_of drainer.old.cell drainer.old.parts))) }
     ensures cause { HasCause (K.faults out.old) (K.faults out.new) result }
 {
     let mut line = Line::new();

@@ -13,8 +13,10 @@ use Rattle.cell_program.proofs.running.run_journal.Goals as goal
 
 pub returns-in-Refused-clause-made : goal.returns-in-Refused-clause-made
 returns-in-Refused-clause-made g c =
-    let disk = disk_told g.D.Disk.reads_as g.D.Disk.may_leave g.D.Disk.moment g.D.Disk.left_since g.D.Disk.faults c.args.disk c.in-Refused.disk in
-    let read = only_read g.D.Disk.reads_as g.D.Disk.may_leave g.D.Disk.moment g.D.Disk.left_since g.D.Disk.faults c.args.disk c.in-Refused.disk
+    let disk = disk_told g.D.Disk.reads_as g.D.Disk.may_leave g.D.Disk.moment g.D.Disk.left_since g.D.Disk.faults c.args.disk
+    c.in-Refused.disk in
+    let read = only_read g.D.Disk.reads_as g.D.Disk.may_leave g.D.Disk.moment g.D.Disk.left_since g.D.Disk.faults c.args.disk
+    c.in-Refused.disk
     c.in-Refused.ensures.leaves in
     inr (
       _,
@@ -35,7 +37,8 @@ returns-in-Device-clause-made g c =
         JournalFailed refl c.in-Device.ensures.cause,
         stood_still g.D.Disk.reads_as g.D.Disk.may_leave g.D.Disk.moment g.D.Disk.left_since g.D.Disk.faults c.args.disk c.in-Device.disk
             c.args.held.text.items
-            (subst (λ (text : List ℕ). OnlyReads g.D.Disk.reads_as g.D.Disk.may_leave g.D.Disk.moment g.D.Disk.left_since c.args.disk c.in-Device.disk
+            (subst (λ (text : List ℕ). OnlyReads g.D.Disk.reads_as g.D.Disk.may_leave g.D.Disk.moment g.D.Disk.left_since c.args.disk
+            c.in-Device.disk
             ⊎ IsUnmade g.D.Disk.reads_as g.D.Disk.may_leave g.D.Disk.moment g.D.Disk.left_since c.args.disk text c.in-Device.disk)
             c.deref.ensures.value c.in-Device.ensures.leaves),
       ),
@@ -44,7 +47,8 @@ returns-in-Device-clause-made g c =
 pub returns-in-Open-clause-made : goal.returns-in-Open-clause-made
 returns-in-Open-clause-made g c =
     let durable = c.in-Open.durable in
-    run_opened g.D.Disk.reads_as g.D.Disk.may_leave g.D.Disk.moment g.D.Disk.left_since g.D.Disk.faults c.args.held c.args.shift.now c.args.disk
+    run_opened g.D.Disk.reads_as g.D.Disk.may_leave g.D.Disk.moment g.D.Disk.left_since g.D.Disk.faults c.args.held c.args.shift.now
+    c.args.disk
     c.start.result.disk durable _
     (rw (c.deref.ensures.value) at c.in-Open.ensures.new)
     (rw (c.deref.ensures.value, c.steps_of-steps.ensures) at c.in-Open.ensures.exact)

@@ -28,7 +28,8 @@ run_shift-requires-clause-sessions g c κs inside = (
 
 pub run_shift-requires-clause-within : goal.run_shift-requires-clause-within
 run_shift-requires-clause-within g c κs inside = λ k within.
-    subst (λ (progress : List Progress). IsWithinScript (script_of c.args.shift.now (k + 1)) c.args.shift.now.patience (progress_at progress k))
+    subst (λ (progress : List Progress). IsWithinScript (script_of c.args.shift.now (k + 1)) c.args.shift.now.patience
+    (progress_at progress k))
     (sym c.as_slice.ensures)
     (begun_within c.args.shift.now c.args.cell.opening.grants c.args.progress.now c.requires.begun c.requires.started k within)
 
@@ -46,7 +47,8 @@ returns-clause-behind g c =
     (c.run_shift.ensures.passes.count ∙ sym (all_new c.args.cell c.args.passes c.requires.passes.0).count) in
     behind_sessions c.args.shift.now c.args.cell c.as_slice.result.now c.as_mut_slice.result.now c.run_shift.new.passes c.close.result
     c.requires.limit c.requires.number (c.as_mut_slice.ensures.value ∙ c.requires.passes.0) c.requires.passes.1
-    (subst (λ (progress : List Progress). AreBegun c.args.shift.now c.args.cell.opening.grants progress) (sym c.as_slice.ensures) c.requires.begun)
+    (subst (λ (progress : List Progress). AreBegun c.args.shift.now c.args.cell.opening.grants progress) (sym c.as_slice.ensures)
+    c.requires.begun)
     c.run_shift.ensures.passes c.run_shift.ensures.run
     (record {
       opening = c.close.ensures.opening;

@@ -24,6 +24,6 @@ returns-in-Err-OtherShift-clause-made g c =
     StartMade disk c.args.durable.cell c.args.durable.text c.args.shift.now c.args.durable.opening made) (sym c.give_back.ensures.made) (
       inr (StartRefused c.in-Err-OtherShift.session
           (subst (λ (opening : List Grant). IsOtherShift c.args.shift.now opening c.in-Err-OtherShift.session) c.opening.ensures other)
-    (ap (λ (n : ℕ). JournalRefused (counted 5 n)) c.from.ensures)),
+          (ap (λ (n : ℕ). JournalRefused (counted 5 n)) (rw c.in-Err-OtherShift.field-0-is at c.from.ensures))),
       c.give_back.ensures.stands,
     )

@@ -16,12 +16,15 @@ use Rattle.cell_words.proofs.drains.drain_journal.Goals as goal
 
 pub returns-in-Refused-clause-made : goal.returns-in-Refused-clause-made
 returns-in-Refused-clause-made g c =
-    let disk = disk_told g.D.Disk.reads_as g.D.Disk.may_leave g.D.Disk.moment g.D.Disk.left_since g.D.Disk.faults c.args.disk c.in-Refused.disk in
-    let read = only_read g.D.Disk.reads_as g.D.Disk.may_leave g.D.Disk.moment g.D.Disk.left_since g.D.Disk.faults c.args.disk c.in-Refused.disk
+    let disk = disk_told g.D.Disk.reads_as g.D.Disk.may_leave g.D.Disk.moment g.D.Disk.left_since g.D.Disk.faults c.args.disk
+    c.in-Refused.disk in
+    let read = only_read g.D.Disk.reads_as g.D.Disk.may_leave g.D.Disk.moment g.D.Disk.left_since g.D.Disk.faults c.args.disk
+    c.in-Refused.disk
     c.in-Refused.ensures.leaves in
     inr (
       JournalFaulty c.in-Refused.why
-          (subst (λ (text : List ℕ). IsRefusedBy disk c.args.held.cell text c.in-Refused.why) c.deref.ensures.value c.in-Refused.ensures.exact)
+          (subst (λ (text : List ℕ). IsRefusedBy disk c.args.held.cell text c.in-Refused.why) c.deref.ensures.value
+          c.in-Refused.ensures.exact)
           c.from.ensures read,
       inl read,
     )
@@ -32,7 +35,8 @@ returns-in-Device-clause-made g c =
       JournalFailed refl c.in-Device.ensures.cause,
       stood_still g.D.Disk.reads_as g.D.Disk.may_leave g.D.Disk.moment g.D.Disk.left_since g.D.Disk.faults c.args.disk c.in-Device.disk
           c.args.held.text.items
-          (subst (λ (text : List ℕ). OnlyReads g.D.Disk.reads_as g.D.Disk.may_leave g.D.Disk.moment g.D.Disk.left_since c.args.disk c.in-Device.disk
+          (subst (λ (text : List ℕ). OnlyReads g.D.Disk.reads_as g.D.Disk.may_leave g.D.Disk.moment g.D.Disk.left_since c.args.disk
+          c.in-Device.disk
           ⊎ IsUnmade g.D.Disk.reads_as g.D.Disk.may_leave g.D.Disk.moment g.D.Disk.left_since c.args.disk text c.in-Device.disk)
           c.deref.ensures.value c.in-Device.ensures.leaves),
     )
@@ -44,6 +48,7 @@ returns-in-Open-clause-made g c =
     c.ask_all.result.disk durable MAX_PLAN
     (subst (λ (text : List ℕ). durable ≡ fresh c.args.held.cell text c.args.disk durable.opening MAX_PLAN) c.deref.ensures.value
     c.in-Open.ensures.new)
-    (subst (λ (text : List ℕ). IfSome (g.D.Disk.reads_as c.args.disk) (λ file. opened_as c.args.held.cell file text MAX_ROOM ≡ Ok durable.opening))
+    (subst (λ (text : List ℕ). IfSome (g.D.Disk.reads_as c.args.disk)
+    (λ file. opened_as c.args.held.cell file text MAX_ROOM ≡ Ok durable.opening))
     c.deref.ensures.value c.in-Open.ensures.exact)
     c.ask_all.ensures.due c.ask_all.result.made c.ask_all.ensures.ok c.ask_all.ensures.made
