@@ -80,15 +80,19 @@ void free(void *block) {
   real_free(block);
 }
 
-__attribute__((destructor)) static void finish(void) {
+static void finish(void) {
   if (!count_path[0])
     return;
   char text[32];
   int length = snprintf(text, sizeof text, "%lu\n", calls);
   int file = open(count_path, O_WRONLY | O_CREAT | O_TRUNC, 0644);
-  if (file >= 0) {
-    if (write(file, text, length) != length)
-      _exit(70);
-    close(file);
-  }
+  if (file < 0 || write(file, text, length) != length)
+    abort();
+}
+
+// The program ends by this call, which runs no destructors.
+void _exit(int status) {
+  finish();
+  ((void (*)(int))dlsym(RTLD_NEXT, "_exit"))(status);
+  __builtin_unreachable();
 }

@@ -1,13 +1,12 @@
 -- What the status of an outcome tells, of an outcome that may come.
-use Rattle.std.proofs.Common.{◌≡◌, ◌⊎◌, inl, inr, ℕ, zero, suc, List, Ok, Err, sym, ap, subst}
+use Rattle.std.proofs.Common.{◌≡◌, ◌⊎◌, ℕ, zero, suc, sym, ap, subst}
 use Rattle.std.specs.Prelude.{⊤}
 use Rattle.outside_io.specs.Causes.{Rose}
 use Rattle.outside_io.specs.Puts.{TookAll}
 use Rattle.cell_words.specs.Commands.{Task, Nothing}
-use Rattle.cell_words.specs.Ends.{IsEarly}
 use Rattle.cell_words.specs.Serving.{IsAccepted, IsFinished}
 use Rattle.cell_words.specs.Telling.{HasHalted, HasJournal, IsCellRefused, IsDenied, IsDeviceFault, IsJournalRefused, IsPrinted, IsSecondRefused, KeepsEarly}
-use Rattle.cell_words.specs.Texts.{Outcome, early_outcome}
+use Rattle.cell_words.specs.Texts.{Outcome}
 use Rattle.cell_words.specs.Told.{Told}
 
 module _ (told : Told) (task : Task) (outcome : Outcome) where

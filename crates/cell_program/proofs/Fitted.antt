@@ -20,7 +20,7 @@ use Rattle.cell_base.specs.Plans.{Drains, plan_of}
 use Rattle.cell_base.specs.Outcomes.{reply_to}
 use Rattle.cell_base.specs.Policy.{IsAdmitted}
 use Rattle.cell_base.specs.Rounds.{IsSession, IsRoundRobin}
-use Rattle.cell_base.specs.Scripts.{Progress, begin_at, IsTrace, IsWholeTrace, holds_halt, progress_after, script_of}
+use Rattle.cell_base.specs.Scripts.{Progress, begin_at, IsTrace, holds_halt, progress_after, script_of}
 use Rattle.policy_laws.proofs.Admission.{admission_law, saturation_law}
 use Rattle.policy_laws.proofs.Lists.{All-slice_get, All-from_Contains, Contains-head, Contains-tail, Contains-none, Contains-cases}
 use Rattle.policy_laws.proofs.Plans.{plan_law}

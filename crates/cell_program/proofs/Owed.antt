@@ -1,5 +1,5 @@
 -- How the outcomes of `solo` come about.
-use Rattle.std.proofs.Common.{◌≡◌, inl, inr, ℕ, List, [], ◌∷◌, length, Option, Ok, refl, sym, subst, ap, ◌∙◌}
+use Rattle.std.proofs.Common.{◌≡◌, inl, inr, ℕ, List, [], ◌∷◌, length, Option, Ok, refl, subst, ap, ◌∙◌}
 use Rattle.std.specs.List.{concat}
 use Rattle.outside_io.specs.Files.{Names}
 use Rattle.outside_io.specs.Puts.{SinkTold}

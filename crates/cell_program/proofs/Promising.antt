@@ -1,6 +1,6 @@
 -- What an end of a call promises.
 use Rattle.std.specs.Prelude.{IfSome}
-use Rattle.std.proofs.Common.{◌≡◌, ◌⊎◌, inl, inr, ℕ, zero, suc, ◌+◌, ◌≤◌, List, [], ◌∷◌, ◌++◌, length, take, sym, ◌∙◌, ap, subst, refl, arith}
+use Rattle.std.proofs.Common.{◌≡◌, ◌⊎◌, inl, inr, ℕ, zero, suc, ◌+◌, [], ◌∷◌, ◌++◌, length, take, sym, ◌∙◌, ap, subst, refl, arith}
 use Rattle.std.proofs.Math.Seq.{take-append-add}
 use Rattle.outside_io.specs.Causes.{Rose}
 use Rattle.outside_io.specs.Puts.{TookAll, TookSome}
@@ -9,7 +9,7 @@ use Rattle.cell_words.specs.Commands.{Task, Nothing, Solo, Run, Plan, Drain, Why
 use Rattle.cell_words.specs.Ends.{Ends, PutsLines, SinkFailed, Whole}
 use Rattle.cell_words.specs.Promises.{IsEarlyStatus, Promises}
 use Rattle.cell_words.specs.Serving.{DiskServes, IsAccepted, IsFinished, ReadsAll, TakesAll}
-use Rattle.cell_words.specs.Telling.{HasJournal, KeepsEarly, ReadsOnly}
+use Rattle.cell_words.specs.Telling.{KeepsEarly, ReadsOnly}
 use Rattle.cell_words.specs.Texts.{Outcome}
 use Rattle.cell_words.specs.Told.{Told}
 use Rattle.cell_program.proofs.Facts.{Fact, Tells, status_of, told_at}

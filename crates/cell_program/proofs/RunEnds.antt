@@ -1,22 +1,18 @@
 -- How a run ends: what the durable cell behind its sessions keeps makes its record, or the block of its halt.
-use Rattle.std.specs.Prelude.{Option, Some, None, if◌then◌else◌}
+use Rattle.std.specs.Prelude.{Option, Some, None}
 use Rattle.std.specs.Option.{option_map}
 use Rattle.std.specs.List.{concat}
-use Rattle.std.proofs.Common.{◌≡◌, ◌⊎◌, inl, inr, ℕ, Bool, true, false, List, [], ◌∷◌, ◌++◌, length, All, refl, sym, ap, ◌∙◌, subst}
+use Rattle.std.proofs.Common.{◌≡◌, inl, inr, ℕ, true, false, List, [], length, All, refl, sym, ap, ◌∙◌, subst}
 use Rattle.std.proofs.lemmas.Bool.{cond-true, cond-false}
 use Rattle.admission_core.specs.CoreState.{CoreState}
-use Rattle.cell_base.specs.declared.cells.Cell.{Cell}
-use Rattle.cell_base.specs.declared.requests.Part.{Part}
-use Rattle.cell_base.specs.declared.requests.Request.{Request}
 use Rattle.cell_base.specs.declared.shifts.Entry.{Entry}
-use Rattle.cell_base.specs.declared.shifts.Grant.{Grant}
 use Rattle.cell_base.specs.declared.shifts.Shift.{Shift}
-use Rattle.cell_base.specs.Fits.{CellFits, ShiftFits}
-use Rattle.cell_base.specs.Histories.{after, grants, replay}
+use Rattle.cell_base.specs.Fits.{ShiftFits}
+use Rattle.cell_base.specs.Histories.{grants}
 use Rattle.cell_base.specs.Plans.{plan_of}
 use Rattle.cell_base.specs.Policy.{IsAdmitted}
 use Rattle.cell_base.specs.Scripts.{begin_at, holds_halt, start}
-use Rattle.durable_cell.specs.Asked.{grant_of, halted_in, unsure_grant}
+use Rattle.durable_cell.specs.Asked.{grant_of, halted_in}
 use Rattle.durable_cell.specs.DurableState.{DurableState, first_parts, parts}
 use Rattle.durable_cell.specs.Kept.{KeepsDisk, KeepsHistory}
 use Rattle.record_text.specs.Fitting.{EntryFits}

@@ -1,13 +1,12 @@
 -- Where a history of sessions holds a halt, and that each session went through its script where there is none.
 use mathlib.Core.List.{IsPrefix}
-use Rattle.std.specs.Prelude.{Option, Some, None, ◌||◌}
-use Rattle.std.proofs.Common.{◌≡◌, ◌≢◌, ◌⊎◌, inl, inr, ⊎_elim, ℕ, ◌+◌, ◌*◌, ◌<◌, ◌≤◌, ◌==◌, Bool, true, false, cond, List, [], ◌∷◌, ◌++◌, length, All, take, refl, sym, ap, ◌∙◌, subst, arith, length-take}
-use Rattle.std.proofs.lemmas.Bool.{cond-true, cond-false, or_parts, or_from, cases_lt, eq-eqb, true≢false}
+use Rattle.std.specs.Prelude.{Some, None, ◌||◌}
+use Rattle.std.proofs.Common.{◌≡◌, ◌⊎◌, inl, inr, ℕ, ◌*◌, ◌<◌, ◌≤◌, ◌==◌, Bool, true, false, cond, List, [], ◌∷◌, ◌++◌, length, All, refl, sym, ap, ◌∙◌, subst, arith, length-take}
+use Rattle.std.proofs.lemmas.Bool.{cond-true, or_parts, or_from, cases_lt, eq-eqb, true≢false}
 use Rattle.std.proofs.lemmas.Option.{same_Some}
 use Rattle.std.proofs.lemmas.List.Elements.{All-nil, All-cons}
 use Rattle.cell_base.specs.declared.cells.Cell.{Cell}
 use Rattle.cell_base.specs.declared.requests.Part.{Part}
-use Rattle.cell_base.specs.declared.requests.Request.{Request}
 use Rattle.cell_base.specs.declared.requests.Told.{Told}
 use Rattle.cell_base.specs.declared.requests.Told.TheVariants.{Answered, Halted}
 use Rattle.cell_base.specs.declared.shifts.Entry.{Entry}
@@ -16,7 +15,7 @@ use Rattle.cell_base.specs.declared.shifts.Shift.{Shift}
 use Rattle.cell_base.specs.Fits.{steps_of}
 use Rattle.cell_base.specs.Histories.{IsLegal, IsToldRightly, entries_of, state_after_entry, was_halted}
 use Rattle.cell_base.specs.Rounds.{IsSession}
-use Rattle.cell_base.specs.Scripts.{IsStarted, IsTrace, IsWholeTrace, HasEnded, begin_at, holds_halt, progress_behind, script_of, start}
+use Rattle.cell_base.specs.Scripts.{IsTrace, IsWholeTrace, begin_at, holds_halt, script_of, start}
 use Rattle.cell_sessions.proofs.Traces.{holds_halt-entries_of}
 use Rattle.durable_cell.specs.Asked.{halted_in}
 use Rattle.cell_base.specs.Starts.{AreStarted}

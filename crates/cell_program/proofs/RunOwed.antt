@@ -1,8 +1,7 @@
 -- How the outcomes of `run` come about.
 use Rattle.std.specs.Prelude.{IfSome}
-use Rattle.std.proofs.Common.{◌≡◌, ◌⊎◌, inl, inr, ℕ, List, Option, Result, Ok, Err, sym, ap, subst}
+use Rattle.std.proofs.Common.{◌≡◌, inl, inr, ℕ, List, Option, Result, Ok, Err, sym, subst}
 use Rattle.outside_io.specs.Files.{Names}
-use Rattle.cell_base.specs.declared.cells.Cell.{Cell}
 use Rattle.cell_base.specs.declared.shifts.Grant.{Grant}
 use Rattle.cell_base.specs.declared.shifts.Shift.{Shift}
 use Rattle.durable_cell.specs.DurableState.{DurableState}
@@ -12,7 +11,7 @@ use Rattle.shift_file.specs.Walk.{shift_of}
 use Rattle.cell_words.specs.CellEnds.{cell_end}
 use Rattle.cell_words.specs.Commands.{AfterOpening, AfterStart, FileRead, JournalFailed, JournalFaulty, JournalOpened, MayComeRunning, OwesRun, Started, StartRefused}
 use Rattle.cell_words.specs.DiskTold.{DiskTold, IsUntouched, disk_told}
-use Rattle.cell_words.specs.Ends.{IsEarly, IsOwed, MemoryWanted}
+use Rattle.cell_words.specs.Ends.{IsOwed, MemoryWanted}
 use Rattle.cell_words.specs.Journals.{IsOpenedIn}
 use Rattle.cell_words.specs.Reading.{EndsEarly, GivenBy, IsCellFile, cell_file_read}
 use Rattle.cell_words.specs.Runs.{run_room}

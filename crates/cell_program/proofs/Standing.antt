@@ -1,19 +1,16 @@
 -- For which grants a disk stands, and what its bytes then open as.
 use Rattle.std.specs.Prelude.{IfSome, IsSome, IsSomeAnd}
-use Rattle.std.specs.Option.{option_map_or}
-use Rattle.std.proofs.Common.{◌≡◌, ◌⊎◌, inl, inr, ℕ, ◌+◌, ◌≤◌, List, [], length, Option, Some, None, Result, Ok, Err, refl, sym, ◌∙◌, ap, subst}
+use Rattle.std.proofs.Common.{◌≡◌, ◌⊎◌, inl, inr, ℕ, ◌≤◌, List, [], length, Option, Some, None, Ok, Err, refl, sym, ◌∙◌, ap, subst}
 use Rattle.outside_io.specs.Files.{Names}
 use Rattle.cell_base.specs.declared.cells.Cell.{Cell}
 use Rattle.cell_base.specs.declared.shifts.Grant.{Grant}
 use Rattle.cell_file.specs.Walk.{cell_of}
-use Rattle.durable_cell.specs.Replayed.{AreDue, first_stray, opened_as, replayed, replayed_reading}
+use Rattle.durable_cell.specs.Replayed.{AreDue, opened_as, replayed_reading}
 use Rattle.durable_cell.proofs.Replaying.{due_replayed}
 use Rattle.move_journal.specs.Blanks.{IsBlank}
-use Rattle.move_journal.specs.Journals.{IsJournal, StandsFor}
+use Rattle.move_journal.specs.Journals.{StandsFor}
 use Rattle.move_journal.proofs.Uniqueness.{journal_of, one_journal}
 use Rattle.shift_recovery.specs.declared.faults.JournalFault.{JournalFault}
-use Rattle.shift_recovery.specs.declared.faults.JournalFault.TheVariants.{Damaged}
-use Rattle.shift_recovery.specs.Readings.{read_as}
 use Rattle.shift_recovery.proofs.Standing.{stands_found}
 use Rattle.cell_words.specs.Commands.{WasOpened}
 use Rattle.cell_words.specs.DiskTold.{DiskTold, IsOnlyRead, StandsForNone, StandsOpened, StandsStill, StoodFor, StoodStill}

@@ -1,6 +1,6 @@
 -- What holds of the files of a disk holds of them in other words.
 use Rattle.std.specs.Prelude.{IfSome, IsSomeAnd}
-use Rattle.std.proofs.Common.{ℕ, List, Option, Some, None, refl}
+use Rattle.std.proofs.Common.{ℕ, List, Option, Some, None}
 use Rattle.cell_words.specs.DiskTold.{DiskTold, IsAlways, IsNow}
 
 module _ (disk : DiskTold) (P Q : List ℕ → Type 0) (weaker : (file : List ℕ) → P file → Q file) where

@@ -1,5 +1,5 @@
 -- A shift that ran on a journal: what it is, and the outcome that it has.
-use Rattle.std.specs.Prelude.{◌≡◌, ◌⊎◌, ℕ, ◌*◌, ◌≤◌, true, if◌then◌else◌, Result, Ok, Err, List, [], ◌∷◌, length}
+use Rattle.std.specs.Prelude.{◌≡◌, ◌⊎◌, ℕ, ◌*◌, ◌≤◌, true, if◌then◌else◌, Result, Ok, Err, List, length}
 use Rattle.std.specs.List.{All}
 use mathlib.Core.List.{IsPrefix}
 use Rattle.cell_base.specs.declared.cells.Cell.{Cell}
@@ -7,18 +7,17 @@ use Rattle.cell_base.specs.declared.shifts.Entry.{Entry}
 use Rattle.cell_base.specs.declared.shifts.Grant.{Grant}
 use Rattle.cell_base.specs.declared.shifts.Shift.{Shift}
 use Rattle.cell_base.specs.Fits.{steps_of}
-use Rattle.cell_base.specs.Histories.{IsLegal, after, entries_of, grants, replay}
-use Rattle.cell_base.specs.Policy.{IsAdmitted}
+use Rattle.cell_base.specs.Histories.{IsLegal, entries_of, grants}
 use Rattle.cell_base.specs.Rounds.{IsSession}
 use Rattle.cell_base.specs.Scripts.{IsTrace, IsWholeTrace, begin_at, holds_halt, script_of, start}
 use Rattle.durable_cell.specs.Asked.{unsure_grant}
-use Rattle.durable_cell.specs.DurableState.{DurableState, first_parts, parts}
+use Rattle.durable_cell.specs.DurableState.{DurableState, first_parts}
 use Rattle.cell_words.specs.Blocks.{block_of, history_lines}
 use Rattle.cell_words.specs.Commands.{AfterOpening, AfterStart}
 use Rattle.cell_words.specs.DiskTold.{DiskTold, IsOnlyRead, StandsOpened, StoodStill}
 use Rattle.cell_words.specs.Journals.{IsOpenedIn}
 use Rattle.cell_base.specs.Starts.{AreStarted}
-use Rattle.cell_words.specs.Runs.{EachSession, IsRun, IsRunHalted, run_room}
+use Rattle.cell_words.specs.Runs.{IsRun, IsRunHalted, run_room}
 use Rattle.cell_words.specs.Texts.{Outcome, done, early_outcome}
 use Rattle.cell_words.specs.declared.early.Early.{Early}
 use Rattle.cell_words.specs.declared.early.Early.TheVariants.{Memory}

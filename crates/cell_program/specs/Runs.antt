@@ -1,7 +1,6 @@
 -- A shift that ran on one thread, and the lines of its record.
 use Rattle.std.specs.Prelude.{◌≡◌, ℕ, List, []}
 use Rattle.cell_base.specs.declared.cells.Cell.{Cell}
-use Rattle.cell_base.specs.declared.shifts.Entry.{Entry}
 use Rattle.cell_base.specs.declared.shifts.Shift.{Shift}
 use Rattle.cell_base.specs.Histories.{after}
 use Rattle.cell_base.specs.Rounds.{IsRoundRobin}

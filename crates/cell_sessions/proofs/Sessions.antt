@@ -1,8 +1,7 @@
 -- A session that goes on asks its present step, and ends by a reply or by a fault.
-use Rattle.std.proofs.Common.{◌≡◌, ℕ, ◌+◌, ◌-◌, ◌*◌, ◌<◌, ◌≤◌, Bool, true, false, ◌||◌, ◌⊎◌, cond, Option, Some, None, List, [], ◌∷◌, ◌++◌, length, slice_get, Result, Ok, Err, refl, ap, ◌∙◌, sym, subst, inl, inr, ⊎_elim, arith, append-nil}
+use Rattle.std.proofs.Common.{◌≡◌, ℕ, ◌+◌, ◌-◌, ◌*◌, ◌<◌, ◌≤◌, Bool, true, false, ◌||◌, ◌⊎◌, cond, Some, List, [], ◌∷◌, ◌++◌, length, slice_get, Ok, Err, refl, ap, ◌∙◌, sym, subst, inl, inr, arith, append-nil}
 use Rattle.std.specs.List.{All, position_from}
 use Rattle.std.proofs.lemmas.List.Elements.{All-nil, All-cons}
-use Rattle.std.proofs.lemmas.Bool.{cases_lt}
 use Rattle.std.proofs.lemmas.Iterator.Adapters.{position_from-zero}
 use Rattle.std.proofs.lemmas.List.{append_assoc}
 use mathlib.Core.List.{IsPrefix}
@@ -12,15 +11,13 @@ use Rattle.cell_base.specs.declared.requests.Told.{Told}
 use Rattle.cell_base.specs.declared.requests.Told.TheVariants.{Answered}
 use Rattle.cell_base.specs.declared.requests.Told.TheVariants as told
 use Rattle.cell_base.specs.declared.shifts.Entry.{Entry}
-use Rattle.cell_base.specs.Histories.{was_halted}
 use Rattle.cell_base.specs.Scripts.{Progress, progress_after, progress_behind, HasEnded, IsTrace, holds_halt}
 use Rattle.durable_cell.specs.declared.fault.AskFault.{AskFault}
 use Rattle.durable_cell.specs.declared.fault.AskFault.TheVariants.{Halted, Full, Device}
-use Rattle.durable_cell.specs.Asked.{entry, halted_at, is_halt}
-use Rattle.cell_lock.specs.declared.board.Opening.{Opening}
+use Rattle.durable_cell.specs.Asked.{entry, is_halt}
 use Rattle.cell_lock.specs.Standing.{LockId, Standing, KeepsName, Adds, AreNumbered, Asked}
 use Rattle.cell_sessions.specs.Sessions.{HasAsked, HasRun}
-use Rattle.cell_sessions.specs.Underway.{IsWithinScript, left_of}
+use Rattle.cell_sessions.specs.Underway.{left_of}
 use Rattle.cell_sessions.proofs.Traces.{holds_halt-push, progress_behind-push, IsTrace-push}
 
 prefix_on : (xs ys zs : List Entry) → IsPrefix xs ys → IsPrefix ys zs → IsPrefix xs zs

@@ -1,5 +1,5 @@
 -- One opening grant more: its session stands a step further, or it is a stray.
-use Rattle.std.proofs.Common.{◌≡◌, ℕ, ◌+◌, ◌-◌, ◌<◌, ◌≤◌, ◌==◌, ◌&&◌, Bool, true, false, Some, List, [], ◌∷◌, ◌++◌, length, take, drop, All, slice_get, slice_set, get_or, replicate, refl, ap, ◌∙◌, sym, subst, ⊎_elim, arith, length-set, get_or-set_same, get_or-set_other, append-nil}
+use Rattle.std.proofs.Common.{◌≡◌, ℕ, ◌+◌, ◌<◌, ◌≤◌, ◌==◌, ◌&&◌, Bool, false, Some, List, [], ◌∷◌, ◌++◌, length, take, drop, slice_get, slice_set, get_or, replicate, refl, ap, ◌∙◌, sym, subst, ⊎_elim, arith, length-set, get_or-set_same, get_or-set_other, append-nil}
 use Rattle.std.specs.List.{filter}
 use Rattle.std.proofs.lemmas.Bool.{and_from, and_left, and_right, cases_eq, cond-true, cond-false, eq-eqb, ne_eqb}
 use Rattle.std.proofs.lemmas.List.{drop_more, get_or-take, length-take-le, length_push, map-append, take-append-drop, take_more}

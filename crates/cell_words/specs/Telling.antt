@@ -153,7 +153,7 @@ KeepsGrants told cell =
     → (grants : List Grant) → StoodFor told.disk text grants → StandsStill told.disk text grants
 
 -- Where the disk of a drain stood for grants, with the text of its cell, each file since entry stands for them and first ones of the steps
--- of the plan; and where that of a run did, for them and first ones of others, which are those of the printed history.
+-- of the plan; and where that of a run did, for them and first ones of one list of others. Which ones, its end tells: those of its history.
 abbrev pub KeepsPrefix : Told → Task → Type 0
 KeepsPrefix told (Drain cell journal) =
     (held : CellFile) → HoldsCell told cell held → (grants : List Grant) → length grants ≤ MAX_ROOM

@@ -1,9 +1,7 @@
 -- The parts of the durable cell make the record of its run.
 use Rattle.std.proofs.Common.{◌∙◌, ap, refl}
-use Rattle.cell_base.specs.declared.shifts.Entry.{Entry}
 use Rattle.cell_base.specs.Scripts.{holds_halt}
-use Rattle.cell_program.specs.declared.journal_run.JournalRun.{JournalRun}
-use Rattle.cell_program.proofs.RunEnds.{IsTaken, run_ends, run_fits}
+use Rattle.cell_program.proofs.RunEnds.{run_ends, run_fits}
 use Rattle.cell_program.proofs.running.finish.Goals as goal
 
 pub returns-clause-made : goal.returns-clause-made

@@ -1,12 +1,9 @@
 -- The journal is opened and the shift runs on it, or an end comes before.
-use Rattle.std.specs.Prelude.{IfSome, Ok}
-use Rattle.std.proofs.Common.{◌≡◌, ◌⊎◌, ◌*◌, List, ℕ, inl, inr, refl, subst}
+use Rattle.std.proofs.Common.{◌⊎◌, List, ℕ, inl, inr, refl, subst}
 use Rattle.durable_cell.specs.Made.{IsUnmade}
 use Rattle.shift_recovery.specs.Reads.{OnlyReads}
 use Rattle.cell_words.specs.Commands.{JournalFailed, JournalFaulty}
 use Rattle.cell_words.specs.DiskTold.{disk_told}
-use Rattle.cell_words.specs.Journals.{IsRefusedIn}
-use Rattle.cell_words.specs.Runs.{run_room}
 use Rattle.cell_words.proofs.Disks.{only_read, stood_still}
 use Rattle.cell_program.proofs.RunOwed.{run_opened}
 use Rattle.cell_program.proofs.running.run_journal.Goals as goal

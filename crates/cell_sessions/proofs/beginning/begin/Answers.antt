@@ -1,5 +1,5 @@
 -- The sessions of the shift stand at the front of the table.
-use Rattle.std.proofs.Common.{◌≡◌, ◌≤◌, ℕ, List, length, take, rules, ap, ◌∙◌}
+use Rattle.std.proofs.Common.{ℕ, List, take, rules, ap, ◌∙◌}
 use Rattle.cell_base.specs.Scripts.{Progress}
 use Rattle.cell_sessions.proofs.Starts.{begun}
 use Rattle.cell_sessions.proofs.beginning.begin.Goals as goal

@@ -1,5 +1,4 @@
 -- One grant more leads its session on, is another shift's, or is a stray.
-use Rattle.std.proofs.Common.{refl}
 use Rattle.cell_sessions.proofs.Starts.{is_other_shift, one_more, pass_by, reached-none}
 use Rattle.cell_sessions.proofs.beginning.reach.Goals as goal
 use Rattle.cell_sessions.proofs.beginning.reach.Goals.{else-grant-shift-via-then-grant-shift+else-not-lead_on, else-grant-shift-via-else-grant-shift}

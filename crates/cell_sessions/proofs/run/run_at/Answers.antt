@@ -1,5 +1,5 @@
 -- A script is no longer than all together.
-use Rattle.std.proofs.Common.{◌*◌, ◌≤◌, length, arith}
+use Rattle.std.proofs.Common.{length, arith}
 use Rattle.cell_base.specs.Fits.{steps_of}
 use Rattle.cell_sessions.proofs.Counting.{length-script-le}
 use Rattle.cell_sessions.proofs.Sessions.{asks-le}

@@ -1,5 +1,5 @@
 -- Each pass is one of the lock, and keeps its name.
-use Rattle.std.proofs.Common.{◌≡◌, length, sym, ◌∙◌, rules}
+use Rattle.std.proofs.Common.{◌≡◌, length, rules}
 use Rattle.cell_lock.proofs.Passes.{all_kept}
 use Rattle.cell_sessions.proofs.Sessions.{of_lock}
 use Rattle.cell_sessions.proofs.run.run_shift.Goals as goal

@@ -1,12 +1,11 @@
 -- A session that goes on asks its present step, and ends by a reply or by a fault.
-use Rattle.std.proofs.Common.{◌≡◌, ◌+◌, ◌*◌, ◌<◌, ◌≤◌, List, Some, length, slice_get, subst, arith}
+use Rattle.std.proofs.Common.{◌≡◌, List, Some, slice_get, subst, arith}
 use Rattle.cell_base.specs.declared.requests.Request.{Request}
 use Rattle.cell_base.specs.Scripts.{HasEnded, Progress}
 use Rattle.cell_lock.specs.Standing.{Asked}
-use Rattle.cell_sessions.specs.Underway.{left_of}
 use Rattle.cell_sessions.proofs.Counting.{left_of-falls}
 use Rattle.cell_sessions.proofs.Going.{step_left, patience_left, within_next}
-use Rattle.cell_sessions.proofs.Sessions.{Asks, answered, faulted, left_of-le}
+use Rattle.cell_sessions.proofs.Sessions.{Asks, answered, faulted}
 use Rattle.cell_sessions.proofs.session.run_session.Goals as goal
 
 pub after-at-requires-clause-step : goal.after-at-requires-clause-step

@@ -1,5 +1,5 @@
 -- Once all passes have come together, the durable cell is at home, with the history of which they all know.
-use Rattle.std.proofs.Common.{◌≡◌, ◌+◌, ℕ, ◌≤◌, List, length, arith, sym, ap, ◌∙◌, subst, map}
+use Rattle.std.proofs.Common.{◌≡◌, ℕ, ◌≤◌, List, length, arith, sym, ap, ◌∙◌, subst, map}
 use Rattle.cell_base.specs.Histories.{IsLegal, grants}
 use Rattle.durable_cell.specs.Asked.{unsure_grant}
 use Rattle.durable_cell.specs.DurableState.{DurableState}
