@@ -1,19 +1,23 @@
-//! A conversation: the words of a call, and what it is to print with which status.
+//! A conversation: the words of a call, what it is to print with which status, and what it is to leave of its journal.
 
+use crate::cut::Cut;
 use anyhow::{Result, bail};
 use std::alloc::Global;
 
-/// The words of one call, what it is to print, and its status.
+/// The words of one call, what it is to print, its status, and what it is to leave of its journal.
 #[derive(Drop)]
 pub struct Conversation {
     alloc: Global,
     name: String,
+    cut: Option<Cut>,
     words: Vec<String>,
     // What is to be printed; where any lines may stand in it, what comes before the first of them, and then each piece
     // behind some.
     printed: String,
     behind: Vec<String>,
     status: u8,
+    // The file that the journal is to be left as, where the script names one.
+    left: Option<String>,
 }
 
 impl Conversation {
@@ -22,11 +26,18 @@ impl Conversation {
         Ok(Conversation {
             alloc,
             name: String::from_str(alloc, name)?,
+            cut: None,
             words: Vec::new(alloc),
             printed: String::new(alloc),
             behind: Vec::new(alloc),
             status: 0,
+            left: None,
         })
+    }
+
+    /// Is played with a file cut to each of these lengths.
+    pub fn cut(&mut self, cut: Cut) {
+        self.cut = Some(cut);
     }
 
     /// Adds a word of the call.
@@ -47,8 +58,15 @@ impl Conversation {
         }
     }
 
-    /// Ends with this exit status.
-    pub fn end(&mut self, status: &str) -> Result<()> {
+    /// Ends with this exit status, behind which the file may stand that the journal is left as.
+    pub fn end(&mut self, end: &str) -> Result<()> {
+        let status = match end.split_once(" leaves ") {
+            Some((status, file)) => {
+                self.left = Some(String::from_str(self.alloc, file)?);
+                status
+            }
+            None => end,
+        };
         match status.parse::<u8>() {
             Ok(status) => self.status = status,
             Err(_) => bail!("no status"),
@@ -66,13 +84,19 @@ impl Conversation {
         self.words.as_slice()
     }
 
-    /// What is to be printed, where no lines are left open.
-    pub fn whole_printed(&self) -> Result<Option<String>> {
-        if !self.behind.is_empty() {
-            return Ok(None);
-        }
-        let printed = String::from_str(self.alloc, self.printed.as_str())?;
-        Ok(Some(printed))
+    /// The file that is cut, with its lengths.
+    pub fn file_cut(&self) -> Option<&Cut> {
+        self.cut.as_ref()
+    }
+
+    /// The name of the file that the journal is to be left as.
+    pub fn file_left(&self) -> Option<&String> {
+        self.left.as_ref()
+    }
+
+    /// Whether any lines may stand in what is printed.
+    pub fn leaves_lines_open(&self) -> bool {
+        !self.behind.is_empty()
     }
 
     /// Whether a call that ended like this went as written.

@@ -38,6 +38,9 @@ impl Draft {
         if let Some(gone) = line.strip_prefix("< ") {
             return self.leave_out(gone);
         }
+        if line == "\\rest" {
+            return self.copy_rest();
+        }
         if let Some(digits) = line.strip_prefix("\\hex ") {
             let Ok(bytes) = hex::decode(self.alloc, digits) else {
                 bail!("no hexadecimal bytes");
@@ -70,6 +73,16 @@ impl Draft {
         bail!("there is no such line to leave out")
     }
 
+    // Copies the lines that are still to come.
+    fn copy_rest(&mut self) -> Result<()> {
+        for _ in 0..self.rest.len() {
+            if let Some(line) = self.rest.pop() {
+                self.bytes.extend_from_slice(line.as_slice())?;
+            }
+        }
+        Ok(())
+    }
+
     // A number and a text: the text so many times, without newlines.
     fn repeat(&mut self, times: &str) -> Result<()> {
         let (number, text) = times.split_once(' ').ok_or_else(|| anyhow!("no text"))?;
@@ -80,16 +93,9 @@ impl Draft {
     }
 
     /// The name and the bytes of the file, with all that is still to come of the one that it is like.
-    pub fn finish(self) -> Result<(String, Vec<u8>)> {
-        let Draft {
-            name,
-            mut bytes,
-            rest,
-            ..
-        } = self;
-        for line in rest.iter().rev() {
-            bytes.extend_from_slice(line.as_slice())?;
-        }
+    pub fn finish(mut self) -> Result<(String, Vec<u8>)> {
+        self.copy_rest()?;
+        let Draft { name, bytes, .. } = self;
         Ok((name, bytes))
     }
 }

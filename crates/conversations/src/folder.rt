@@ -1,6 +1,6 @@
 //! The files of a conversation, which stay from one to the next.
 
-use anyhow::Result;
+use anyhow::{Context, Result};
 use cell_base::List;
 use outside_io::MemFiles;
 use std::alloc::Global;
@@ -47,6 +47,22 @@ impl Folder {
             }
         }
         None
+    }
+
+    /// These files, of which the named one is cut to this length.
+    pub fn with_cut(&self, name: &str, length: usize) -> Result<Folder> {
+        let mut folder = Folder::new(self.alloc);
+        for file in &self.files {
+            let bytes = file.bytes.as_slice();
+            let bytes = if file.name.as_str() == name {
+                bytes.get(..length).context("a file that is shorter")?
+            } else {
+                bytes
+            };
+            let name = String::from_str(self.alloc, file.name.as_str())?;
+            folder.put(name, bytes.to_vec(self.alloc)?)?;
+        }
+        Ok(folder)
     }
 
     /// These files in memory, of which the listed reads fail.

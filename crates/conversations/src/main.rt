@@ -2,20 +2,26 @@
 //! ends with status 1 where one of them didn't go as written.
 #![tactic(auto)]
 
+mod caller;
+mod command;
 mod conversation;
+mod cut;
+mod device;
 mod draft;
 mod folder;
+mod late_pace;
 mod play;
 mod script;
+mod told;
 mod torn_sink;
 
 use anyhow::{Context, Result, bail};
+use caller::{Caller, Failing};
 use conversation::Conversation;
-use folder::Folder;
-use play::{Played, play};
+use play::{check, check_cuts};
 use script::Script;
 use std::process::ExitCode;
-use std::rt::{Env, Files};
+use std::rt::{Clock, Env, Files};
 use std::sync::Wait;
 use std::thread::Threads;
 use std::{env, fs};
@@ -39,7 +45,9 @@ struct Count {
 }
 
 // Plays the scripts that the words name, and answers how many conversations didn't go as written.
-fn play_all<R: Env + Files + Print + AllocGlobal + Threads + Wait + Sync>(rt: &R) -> Result<u64> {
+fn play_all<R: Env + Files + Print + AllocGlobal + Clock + Threads + Wait + Sync>(
+    rt: &R,
+) -> Result<u64> {
     let mut count = Count {
         played: 0,
         otherwise: 0,
@@ -52,7 +60,7 @@ fn play_all<R: Env + Files + Print + AllocGlobal + Threads + Wait + Sync>(rt: &R
     Ok(otherwise)
 }
 
-fn play_script<R: Files + Print + AllocGlobal + Threads + Wait + Sync>(
+fn play_script<R: Files + Print + AllocGlobal + Clock + Threads + Wait + Sync>(
     rt: &R,
     name: &str,
     count: &mut Count,
@@ -65,7 +73,7 @@ fn play_script<R: Files + Print + AllocGlobal + Threads + Wait + Sync>(
         let read = script.read_line(line);
         if let Some(conversation) = read.context(format_args!("{name}, line {number}"))? {
             count.played = count.played.wrapping_add(1);
-            if !goes_as_written(rt, script.folder(), &conversation)? {
+            if !goes_as_written(rt, &mut script, &conversation)? {
                 count.otherwise = count.otherwise.wrapping_add(1);
             }
         }
@@ -76,20 +84,40 @@ fn play_script<R: Files + Print + AllocGlobal + Threads + Wait + Sync>(
     Ok(())
 }
 
-// Plays a conversation, and prints a line for it, or how it went otherwise.
-fn goes_as_written<R: Print + AllocGlobal + Threads + Wait + Sync>(
+// Plays a conversation, at each length of the file that it cuts or once, and prints a line for it, or how it went otherwise.
+fn goes_as_written<R: Print + AllocGlobal + Clock + Threads + Wait + Sync>(
     rt: &R,
-    folder: &Folder,
+    script: &mut Script,
     conversation: &Conversation,
 ) -> Result<bool> {
-    let name = conversation.name();
-    match play(rt, rt.alloc(), folder, conversation)? {
-        Played::AsWritten { lines } => {
-            println!(rt; "ok {name}: {lines} lines")?;
+    if let Some(cut) = conversation.file_cut() {
+        let checked = check_cuts(rt, rt.alloc(), script.folder(), conversation, cut);
+        let lengths = cut.lengths().len() as u64;
+        return print_checked(rt, conversation.name(), checked, lengths, "lengths");
+    }
+    let caller = Caller::new(rt, rt.alloc(), script.folder());
+    let told = caller.call(conversation.words(), Failing::Nothing)?;
+    let checked = check(&caller, conversation, &told);
+    let lines = told.lines();
+    script.keep_told(told);
+    print_checked(rt, conversation.name(), checked, lines, "lines")
+}
+
+// Prints a line for a conversation, or how it went otherwise, and answers whether it went as written.
+fn print_checked<R: Print>(
+    rt: &R,
+    name: &str,
+    checked: Result<()>,
+    number: u64,
+    counted: &str,
+) -> Result<bool> {
+    match checked {
+        Ok(()) => {
+            println!(rt; "ok {name}: {number} {counted}")?;
             Ok(true)
         }
-        Played::Otherwise { told } => {
-            println!(rt; "NOT {name}\n{told}")?;
+        Err(error) => {
+            println!(rt; "NOT {name}\n{error:?}")?;
             Ok(false)
         }
     }

@@ -8,16 +8,20 @@
 //! | `== NAME` | a conversation begins |
 //! | `-- FILE` | the lines that follow are this file, each with its newline |
 //! | `-- FILE like OTHER` | the file is like the other one but for the lines that follow |
-//! | `-- FILE printed` | the file is what the last conversation is to print |
+//! | `-- FILE printed` | the file is what the last conversation printed |
+//! | `-- FILE left` | the file is what the last conversation left of its journal |
 //! | `-- FILE gone` | the file is taken away |
+//! | `-- FILE cut LENGTHS` | the conversation is played once for each of these lengths, as `0 2-8`, with this file cut to it |
 //! | `$ WORDS` | the words of the call, of which the last may stand in quotes; what is printed follows |
 //! | `= STATUS` | the exit status: the conversation is whole |
+//! | `= STATUS leaves FILE` | the same, and it leaves its journal as this file is |
 //!
-//! Files stay from one conversation to the next. Within a file some lines have a meaning of their own:
+//! Files stay from one conversation to the next, but for a cut. Within a file some lines have a meaning of their own:
 //!
 //! | Line | Meaning |
 //! |---|---|
 //! | `< LINE` | the other file is copied up to this line, which is left out |
+//! | `\rest` | the rest of the other file is copied |
 //! | `> LINE` | this line is added, whatever it begins with |
 //! | `\times N TEXT` | the text N times, without a newline |
 //! | `\hex DIGITS` | these bytes |
@@ -25,9 +29,11 @@
 //! In what is printed a line `...` stands for any lines.
 
 use crate::conversation::Conversation;
+use crate::cut::Cut;
 use crate::draft::Draft;
 use crate::folder::Folder;
-use anyhow::{Result, bail};
+use crate::told::Told;
+use anyhow::{Context, Result, bail};
 use std::alloc::Global;
 use std::mem;
 
@@ -46,8 +52,8 @@ pub struct Script {
     folder: Folder,
     part: Part,
     draft: Option<Draft>,
-    // What the last conversation is to print, where that is all written.
-    printed: Option<String>,
+    // How the last conversation ended.
+    last: Option<Told>,
     next: Conversation,
 }
 
@@ -59,7 +65,7 @@ impl Script {
             folder: Folder::new(alloc),
             part: Part::Remarks,
             draft: None,
-            printed: None,
+            last: None,
             next: Conversation::new(alloc, "")?,
         })
     }
@@ -67,6 +73,11 @@ impl Script {
     /// The files as they stand for the conversation that was read last.
     pub fn folder(&self) -> &Folder {
         &self.folder
+    }
+
+    /// The conversation that was read last ended like this.
+    pub fn keep_told(&mut self, told: Told) {
+        self.last = Some(told);
     }
 
     /// Whether a script may end here.
@@ -121,29 +132,39 @@ impl Script {
     }
 
     fn begin_file(&mut self, file: &str) -> Result<()> {
-        if let Some(name) = file.strip_suffix(" gone") {
+        let (name, how) = file.split_once(' ').unwrap_or((file, ""));
+        if how == "gone" {
             self.folder.take_away(name);
             return Ok(());
         }
-        if let Some(name) = file.strip_suffix(" printed") {
-            return self.keep_printed(name);
+        if how == "printed" || how == "left" {
+            return self.keep_last(name, how == "left");
         }
-        let draft = match file.split_once(" like ") {
-            None => Draft::new(self.alloc, file)?,
-            Some((name, other)) => match self.folder.bytes_of(other) {
+        if let Some(lengths) = how.strip_prefix("cut ") {
+            self.next.cut(Cut::new(self.alloc, name, lengths)?);
+            return Ok(());
+        }
+        let draft = match how.strip_prefix("like ") {
+            Some(other) => match self.folder.bytes_of(other) {
                 Some(bytes) => Draft::like(self.alloc, name, bytes)?,
                 None => bail!("there is no file to be like"),
             },
+            None if how.is_empty() => Draft::new(self.alloc, name)?,
+            None => bail!("a file of no kind"),
         };
         self.draft = Some(draft);
         Ok(())
     }
 
-    fn keep_printed(&mut self, name: &str) -> Result<()> {
-        let Some(printed) = &self.printed else {
-            bail!("what was printed is not all written");
+    // Keeps what the last conversation printed, or left of its journal.
+    fn keep_last(&mut self, name: &str, is_left: bool) -> Result<()> {
+        let told = self.last.as_ref().context("no conversation came before")?;
+        let bytes = if is_left {
+            told.left()
+        } else {
+            told.text.as_slice()
         };
-        let bytes = printed.as_bytes().to_vec(self.alloc)?;
+        let bytes = bytes.to_vec(self.alloc)?;
         self.folder.put(String::from_str(self.alloc, name)?, bytes)
     }
 
@@ -161,7 +182,6 @@ impl Script {
             return Ok(None);
         };
         self.next.end(status)?;
-        self.printed = self.next.whole_printed()?;
         self.part = Part::Remarks;
         let empty = Conversation::new(self.alloc, "")?;
         Ok(Some(mem::replace(&mut self.next, empty)))

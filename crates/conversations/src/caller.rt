@@ -1,0 +1,117 @@
+//! Calls of the whole controller in memory, in each of which one call of the outside may be made to fail.
+
+use crate::command::journal_of;
+use crate::folder::Folder;
+use crate::late_pace::LatePace;
+use crate::told::Told;
+use crate::torn_sink::TornSink;
+use anyhow::{Result, bail};
+use cell_base::List;
+use cell_program::{Ended, cell_main};
+use outside_io::{DiskCall, MemDisk, MemSink, Sink};
+use std::alloc::Global;
+use std::rt::Clock;
+use std::sync::Wait;
+use std::thread::Threads;
+
+/// The one call of the outside that is to fail; puts and reads are numbered from 1. Of a torn put the sink takes the first
+/// half of the piece.
+#[derive(Clone, Copy)]
+pub enum Failing {
+    Nothing,
+    Put(u64),
+    TornPut(u64),
+    Read(u64),
+    Device(DiskCall),
+}
+
+/// The controller over the files of a folder.
+#[derive(Drop)]
+pub struct Caller<'a, R> {
+    rt: &'a R,
+    alloc: Global,
+    folder: &'a Folder,
+}
+
+impl<'a, R: Clock + Threads + Wait + Sync> Caller<'a, R> {
+    /// The controller over these files.
+    pub fn new(rt: &'a R, alloc: Global, folder: &'a Folder) -> Caller<'a, R> {
+        Caller { rt, alloc, folder }
+    }
+
+    /// What memory is taken from.
+    pub fn alloc(&self) -> Global {
+        self.alloc
+    }
+
+    /// The files.
+    pub fn folder(&self) -> &Folder {
+        self.folder
+    }
+
+    /// What the disk of a call holds; where there is no such file it has no bytes.
+    pub fn journal(&self, words: &[String]) -> &[u8] {
+        self.folder.bytes_of(journal_of(words)).unwrap_or(&[])
+    }
+
+    /// A disk with these bytes, of which no call is to fail.
+    pub fn disk(&self, bytes: &[u8]) -> Result<MemDisk> {
+        self.failing_disk(bytes, List::new(self.alloc))
+    }
+
+    fn failing_disk(&self, bytes: &[u8], calls: List<DiskCall>) -> Result<MemDisk> {
+        match MemDisk::new(self.alloc, bytes, calls) {
+            Ok(disk) => Ok(disk),
+            Err(_) => bail!("want of memory"),
+        }
+    }
+
+    /// Calls the controller with these words.
+    pub fn call(&self, words: &[String], failing: Failing) -> Result<Told> {
+        let mut calls = List::new(self.alloc);
+        if let Failing::Device(call) = failing {
+            push(&mut calls, call)?;
+        }
+        let disk = self.failing_disk(self.journal(words), calls)?;
+        self.call_on(words, disk, failing)
+    }
+
+    /// Calls it over this disk.
+    pub fn call_on(&self, words: &[String], disk: MemDisk, failing: Failing) -> Result<Told> {
+        let mut puts = List::new(self.alloc);
+        let mut reads = List::new(self.alloc);
+        match failing {
+            Failing::Nothing | Failing::Device(_) => {}
+            Failing::Put(put) => push(&mut puts, put)?,
+            Failing::Read(read) => push(&mut reads, read)?,
+            Failing::TornPut(put) => {
+                let mut out = TornSink::new(self.alloc, put.saturating_sub(1));
+                let ended = self.end_over(words, disk, reads, &mut out)?;
+                return Told::new(self.alloc, ended, out.bytes());
+            }
+        }
+        let mut out = MemSink::new(self.alloc, puts);
+        let ended = self.end_over(words, disk, reads, &mut out)?;
+        Told::new(self.alloc, ended, out.bytes())
+    }
+
+    // Calls it over this sink. Of the files the listed reads fail.
+    fn end_over<K: Sink>(
+        &self,
+        words: &[String],
+        disk: MemDisk,
+        reads: List<u64>,
+        out: &mut K,
+    ) -> Result<Ended<MemDisk>> {
+        let mut files = self.folder.in_memory(reads)?;
+        let pace = LatePace::new(self.rt);
+        Ok(cell_main(self.rt, self.alloc, words, &mut files, out, disk, &pace))
+    }
+}
+
+fn push<T: Drop>(calls: &mut List<T>, call: T) -> Result<()> {
+    if calls.try_push(call).is_err() {
+        bail!("want of memory");
+    }
+    Ok(())
+}

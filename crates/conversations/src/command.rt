@@ -1,0 +1,41 @@
+//! What the words of a call name of the outside.
+
+/// The name of the journal's file: the word behind the cell, and for `run` the one behind the shift.
+pub fn journal_of(words: &[String]) -> &str {
+    match words {
+        [verb, _, _, journal, ..] if verb.as_str() == "run" => journal.as_str(),
+        [_, _, journal, ..] => journal.as_str(),
+        _ => "",
+    }
+}
+
+/// How many files a command reads beside a journal.
+pub fn files_of(words: &[String]) -> u64 {
+    if is_one_of(words, &["solo", "run", "check"]) {
+        2
+    } else {
+        1
+    }
+}
+
+/// Whether a command has a journal.
+pub fn has_journal(words: &[String]) -> bool {
+    may_write(words) || is_one_of(words, &["plan", "why"])
+}
+
+/// Whether a command may write to its journal.
+pub fn may_write(words: &[String]) -> bool {
+    is_one_of(words, &["drain", "run"])
+}
+
+/// Whether the sessions of a shift ask at the same time, so that their entries may stand otherwise each time.
+pub fn runs_at_once(words: &[String]) -> bool {
+    is_one_of(words, &["run"])
+}
+
+fn is_one_of(words: &[String], verbs: &[&str]) -> bool {
+    match words {
+        [verb, ..] => verbs.iter().any(|other| verb.as_str() == *other),
+        [] => false,
+    }
+}

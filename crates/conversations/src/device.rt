@@ -1,0 +1,166 @@
+//! A conversation played with each call of its journal's device failing in its turn. The failure is told, and what a crash
+//! then leaves of the journal stands for the grants that were answered, or has the next one. The same call goes on from it
+//! to where it ends without a failure.
+
+use crate::caller::{Caller, Failing};
+use crate::command::may_write;
+use crate::told::Told;
+use anyhow::{Context, Result, bail};
+use outside_io::{CallKind, Disk, DiskCall, MemDisk};
+use std::alloc::Global;
+use std::rt::Clock;
+use std::str;
+use std::sync::Wait;
+use std::thread::Threads;
+
+/// The most calls of each kind that are made to fail in their turn: those of a journal in the making and of some 30 grants.
+const MOST_CALLS: u64 = 64;
+
+const KINDS: [CallKind; 4] = [
+    CallKind::Len,
+    CallKind::Read,
+    CallKind::Write,
+    CallKind::Sync,
+];
+
+/// Plays a call that ended like this with each call of the device failing.
+pub fn play_device<R: Clock + Threads + Wait + Sync>(
+    caller: &Caller<'_, R>,
+    words: &[String],
+    whole: &Told,
+) -> Result<()> {
+    for kind in KINDS {
+        for nth in 1..=MOST_CALLS {
+            let is_made = fail_call(caller, words, whole, DiskCall { kind, nth }).context(
+                format_args!("where the device fails at {kind:?} {nth}"),
+            )?;
+            if !is_made {
+                break;
+            }
+        }
+    }
+    Ok(())
+}
+
+// Plays it with this call failing. False where it isn't made: then all ends as it does without a failure.
+fn fail_call<R: Clock + Threads + Wait + Sync>(
+    caller: &Caller<'_, R>,
+    words: &[String],
+    whole: &Told,
+    call: DiskCall,
+) -> Result<bool> {
+    let mut told = caller.call(words, Failing::Device(call))?;
+    if told.is(whole.status, whole.text.as_slice(), whole.left()) {
+        if fails_next(&mut told.disk, call.kind) {
+            return Ok(false);
+        }
+        bail!("the failure is not told");
+    }
+    check_failed(caller, words, whole, &told)?;
+    Ok(true)
+}
+
+// Whether the next call of a kind fails.
+fn fails_next(disk: &mut MemDisk, kind: CallKind) -> bool {
+    match kind {
+        CallKind::Len => disk.len().is_err(),
+        CallKind::Read => disk.read_at(0, &mut []).is_err(),
+        CallKind::Write => disk.write_at(0, &[]).is_err(),
+        CallKind::Sync => disk.sync().is_err(),
+    }
+}
+
+// The failure is told in the place of the answer, or by an entry that halted, and a crash leaves a journal of the grants.
+fn check_failed<R: Clock + Threads + Wait + Sync>(
+    caller: &Caller<'_, R>,
+    words: &[String],
+    whole: &Told,
+    told: &Told,
+) -> Result<()> {
+    let answered = answered_before_halt(whole.text.as_slice(), told);
+    if answered.is_none() {
+        let left = if may_write(words) {
+            told.left()
+        } else {
+            whole.left()
+        };
+        told.check(caller.alloc(), 7, b"device fault\n", left)?;
+    }
+    let before = plan_on(caller, words, caller.disk(caller.journal(words))?)?;
+    for pick in [0u64, 1] {
+        let Ok(disk) = told.disk.crash(caller.alloc(), pick) else {
+            bail!("want of memory");
+        };
+        let behind = plan_on(caller, words, disk)?;
+        check_grants(caller.alloc(), &before, &behind, answered)?;
+        go_on(caller, words, whole, behind)?;
+    }
+    Ok(())
+}
+
+// The plan is as before, or the journal has also the grants that were answered, and at most one more.
+fn check_grants(alloc: Global, before: &Told, behind: &Told, answered: Option<u64>) -> Result<()> {
+    let Some(answered) = answered else {
+        return behind.check(alloc, before.status, before.text.as_slice(), behind.left());
+    };
+    let answered = grants_of(before)?.saturating_add(answered);
+    let kept = grants_of(behind)?;
+    if kept != answered && kept != answered.saturating_add(1) {
+        bail!("{answered} grants were answered, and the journal has {kept}");
+    }
+    Ok(())
+}
+
+// Behind this plan the call ends with the same status as without a failure, and leaves the same journal.
+fn go_on<R: Clock + Threads + Wait + Sync>(
+    caller: &Caller<'_, R>,
+    words: &[String],
+    whole: &Told,
+    behind: Told,
+) -> Result<()> {
+    let Told { disk, .. } = behind;
+    let told = caller.call_on(words, disk, Failing::Nothing)?;
+    told.check(
+        caller.alloc(),
+        whole.status,
+        told.text.as_slice(),
+        whole.left(),
+    )
+}
+
+// How many grants were answered before the entry that halted, where that entry stands in the place of a grant.
+fn answered_before_halt(whole: &[u8], told: &Told) -> Option<u64> {
+    let begun = told.text.strip_suffix(b"halted\n".as_slice())?;
+    let rest = whole.strip_prefix(begun)?;
+    if told.status != 7 || !rest.starts_with(b"granted\n") {
+        return None;
+    }
+    let lines = begun.split_inclusive(|byte| *byte == b'\n');
+    Some(lines.filter(|line| line.ends_with(b" granted\n")).count() as u64)
+}
+
+// The plan behind the journal on a disk, for the cell that these words name.
+fn plan_on<R: Clock + Threads + Wait + Sync>(
+    caller: &Caller<'_, R>,
+    words: &[String],
+    disk: MemDisk,
+) -> Result<Told> {
+    let [_, cell, ..] = words else {
+        bail!("a command without a cell");
+    };
+    let mut words = Vec::new(caller.alloc());
+    for word in ["plan", cell.as_str(), "journal"] {
+        words.push(String::from_str(caller.alloc(), word)?)?;
+    }
+    caller.call_on(words.as_slice(), disk, Failing::Nothing)
+}
+
+// How many grants a plan stands behind.
+fn grants_of(plan: &Told) -> Result<u64> {
+    let text = str::from_utf8(plan.text.as_slice())?;
+    let head = text.lines().next().unwrap_or("");
+    match head.strip_prefix("shift 0 after ") {
+        Some(grants) => Ok(grants.parse::<u64>()?),
+        None => bail!("no plan: {head}"),
+    }
+}

@@ -1,0 +1,59 @@
+//! How a call ended, and how it is compared.
+
+use anyhow::{Result, bail};
+use cell_program::Ended;
+use outside_io::MemDisk;
+use std::alloc::Global;
+
+/// How a call ended: its status, all that the sink took, and the disk of its journal.
+#[derive(Drop)]
+pub struct Told {
+    pub status: u8,
+    pub text: Vec<u8>,
+    pub disk: MemDisk,
+}
+
+impl Told {
+    /// The end of a call whose sink took these bytes.
+    pub fn new(alloc: Global, ended: Ended<MemDisk>, taken: &[u8]) -> Result<Told> {
+        let Ended { status, disk } = ended;
+        let text = taken.to_vec(alloc)?;
+        Ok(Told { status, text, disk })
+    }
+
+    /// What it left of the journal.
+    pub fn left(&self) -> &[u8] {
+        self.disk.bytes()
+    }
+
+    /// How many lines were printed.
+    pub fn lines(&self) -> u64 {
+        self.text.iter().filter(|byte| **byte == b'\n').count() as u64
+    }
+
+    /// Whether it ended like this.
+    pub fn is(&self, status: u8, text: &[u8], left: &[u8]) -> bool {
+        self.status == status && self.text.as_slice() == text && self.left() == left
+    }
+
+    /// Ends with both where it ended otherwise.
+    pub fn check(&self, alloc: Global, status: u8, text: &[u8], left: &[u8]) -> Result<()> {
+        if self.is(status, text, left) {
+            return Ok(());
+        }
+        let wanted = written(alloc, status, text, left)?;
+        let told = self.written(alloc)?;
+        bail!("wanted\n{wanted}told\n{told}")
+    }
+
+    /// It as a text.
+    pub fn written(&self, alloc: Global) -> Result<String> {
+        written(alloc, self.status, self.text.as_slice(), self.left())
+    }
+}
+
+fn written(alloc: Global, status: u8, text: &[u8], left: &[u8]) -> Result<String> {
+    let text = String::from_utf8_lossy(alloc, text)?;
+    let left = hex::encode(alloc, left)?;
+    Ok(format!(in alloc; "{text}= {status}, left {left}\n")?)
+}
