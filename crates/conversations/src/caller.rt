@@ -3,7 +3,7 @@
 use crate::command::journal_of;
 use crate::folder::Folder;
 use crate::late_pace::LatePace;
-use crate::told::Told;
+use crate::told::{Told, written};
 use crate::torn_sink::TornSink;
 use anyhow::{Result, bail};
 use cell_base::List;
@@ -33,7 +33,7 @@ pub struct Caller<'a, R> {
     folder: &'a Folder,
 }
 
-impl<'a, R: Clock + Threads + Wait + Sync> Caller<'a, R> {
+impl<'a, R: Print + Clock + Threads + Wait + Sync> Caller<'a, R> {
     /// The controller over these files.
     pub fn new(rt: &'a R, alloc: Global, folder: &'a Folder) -> Caller<'a, R> {
         Caller { rt, alloc, folder }
@@ -93,6 +93,22 @@ impl<'a, R: Clock + Threads + Wait + Sync> Caller<'a, R> {
         let mut out = MemSink::new(self.alloc, puts);
         let ended = self.end_over(words, disk, reads, &mut out)?;
         Told::new(self.alloc, ended, out.bytes())
+    }
+
+    /// Prints both and ends where a call ended otherwise than with this status, text and journal.
+    pub fn check(&self, told: &Told, status: u8, text: &[u8], left: &[u8]) -> Result<()> {
+        if told.is(status, text, left) {
+            return Ok(());
+        }
+        let wanted = written(self.alloc, status, text, left)?;
+        self.end_otherwise(wanted.as_str(), told)
+    }
+
+    /// Prints what was wanted and how a call ended, and ends.
+    pub fn end_otherwise(&self, wanted: &str, told: &Told) -> Result<()> {
+        let told = told.written(self.alloc)?;
+        println!(self.rt; "wanted\n{wanted}told\n{told}")?;
+        bail!("a call ended otherwise")
     }
 
     // Calls it over this sink. Of the files the listed reads fail.

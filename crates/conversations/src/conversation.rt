@@ -1,5 +1,6 @@
 //! A conversation: the words of a call, what it is to print with which status, and what it is to leave of its journal.
 
+use crate::command::runs_at_once;
 use crate::cut::Cut;
 use anyhow::{Result, bail};
 use std::alloc::Global;
@@ -94,9 +95,18 @@ impl Conversation {
         self.left.as_ref()
     }
 
-    /// Whether any lines may stand in what is printed.
-    pub fn leaves_lines_open(&self) -> bool {
-        !self.behind.is_empty()
+    /// Whether lines are left open of what a run prints, since its sessions ask at the same time.
+    pub fn is_open_run(&self) -> bool {
+        runs_at_once(self.words.as_slice()) && !self.behind.is_empty()
+    }
+
+    /// How many lines are written of what is to be printed.
+    pub fn lines(&self) -> u64 {
+        let mut lines = lines_in(self.printed.as_str());
+        for piece in &self.behind {
+            lines = lines.saturating_add(lines_in(piece.as_str()));
+        }
+        lines
     }
 
     /// Whether a call that ended like this went as written.
@@ -134,6 +144,10 @@ impl Conversation {
         let text = text.as_str();
         Ok(format!(in self.alloc; "{text}= {status}\n")?)
     }
+}
+
+fn lines_in(text: &str) -> u64 {
+    text.lines().count() as u64
 }
 
 fn add_line(text: &mut String, line: &str) -> Result<()> {

@@ -7,7 +7,6 @@ use crate::command::may_write;
 use crate::told::Told;
 use anyhow::{Context, Result, bail};
 use outside_io::{CallKind, Disk, DiskCall, MemDisk};
-use std::alloc::Global;
 use std::rt::Clock;
 use std::str;
 use std::sync::Wait;
@@ -24,16 +23,17 @@ const KINDS: [CallKind; 4] = [
 ];
 
 /// Plays a call that ended like this with each call of the device failing.
-pub fn play_device<R: Clock + Threads + Wait + Sync>(
+pub fn play_device<R: Print + Clock + Threads + Wait + Sync>(
     caller: &Caller<'_, R>,
     words: &[String],
     whole: &Told,
 ) -> Result<()> {
     for kind in KINDS {
         for nth in 1..=MOST_CALLS {
-            let is_made = fail_call(caller, words, whole, DiskCall { kind, nth }).context(
-                format_args!("where the device fails at {kind:?} {nth}"),
-            )?;
+            let call = DiskCall { kind, nth };
+            let is_made = fail_call(caller, words, whole, call).context(format_args!(
+                "where {kind:?} {nth} fails"
+            ))?;
             if !is_made {
                 break;
             }
@@ -43,7 +43,7 @@ pub fn play_device<R: Clock + Threads + Wait + Sync>(
 }
 
 // Plays it with this call failing. False where it isn't made: then all ends as it does without a failure.
-fn fail_call<R: Clock + Threads + Wait + Sync>(
+fn fail_call<R: Print + Clock + Threads + Wait + Sync>(
     caller: &Caller<'_, R>,
     words: &[String],
     whole: &Told,
@@ -71,7 +71,7 @@ fn fails_next(disk: &mut MemDisk, kind: CallKind) -> bool {
 }
 
 // The failure is told in the place of the answer, or by an entry that halted, and a crash leaves a journal of the grants.
-fn check_failed<R: Clock + Threads + Wait + Sync>(
+fn check_failed<R: Print + Clock + Threads + Wait + Sync>(
     caller: &Caller<'_, R>,
     words: &[String],
     whole: &Told,
@@ -84,7 +84,7 @@ fn check_failed<R: Clock + Threads + Wait + Sync>(
         } else {
             whole.left()
         };
-        told.check(caller.alloc(), 7, b"device fault\n", left)?;
+        caller.check(told, 7, b"device fault\n", left)?;
     }
     let before = plan_on(caller, words, caller.disk(caller.journal(words))?)?;
     for pick in [0u64, 1] {
@@ -92,17 +92,22 @@ fn check_failed<R: Clock + Threads + Wait + Sync>(
             bail!("want of memory");
         };
         let behind = plan_on(caller, words, disk)?;
-        check_grants(caller.alloc(), &before, &behind, answered)?;
+        match answered {
+            Some(answered) => check_grants(&before, &behind, answered)?,
+            None => caller.check(
+                &behind,
+                before.status,
+                before.text.as_slice(),
+                behind.left(),
+            )?,
+        }
         go_on(caller, words, whole, behind)?;
     }
     Ok(())
 }
 
-// The plan is as before, or the journal has also the grants that were answered, and at most one more.
-fn check_grants(alloc: Global, before: &Told, behind: &Told, answered: Option<u64>) -> Result<()> {
-    let Some(answered) = answered else {
-        return behind.check(alloc, before.status, before.text.as_slice(), behind.left());
-    };
+// Behind the grants of before the journal has those that were answered, and at most one more.
+fn check_grants(before: &Told, behind: &Told, answered: u64) -> Result<()> {
     let answered = grants_of(before)?.saturating_add(answered);
     let kept = grants_of(behind)?;
     if kept != answered && kept != answered.saturating_add(1) {
@@ -112,7 +117,7 @@ fn check_grants(alloc: Global, before: &Told, behind: &Told, answered: Option<u6
 }
 
 // Behind this plan the call ends with the same status as without a failure, and leaves the same journal.
-fn go_on<R: Clock + Threads + Wait + Sync>(
+fn go_on<R: Print + Clock + Threads + Wait + Sync>(
     caller: &Caller<'_, R>,
     words: &[String],
     whole: &Told,
@@ -120,12 +125,7 @@ fn go_on<R: Clock + Threads + Wait + Sync>(
 ) -> Result<()> {
     let Told { disk, .. } = behind;
     let told = caller.call_on(words, disk, Failing::Nothing)?;
-    told.check(
-        caller.alloc(),
-        whole.status,
-        told.text.as_slice(),
-        whole.left(),
-    )
+    caller.check(&told, whole.status, told.text.as_slice(), whole.left())
 }
 
 // How many grants were answered before the entry that halted, where that entry stands in the place of a grant.
@@ -140,7 +140,7 @@ fn answered_before_halt(whole: &[u8], told: &Told) -> Option<u64> {
 }
 
 // The plan behind the journal on a disk, for the cell that these words name.
-fn plan_on<R: Clock + Threads + Wait + Sync>(
+fn plan_on<R: Print + Clock + Threads + Wait + Sync>(
     caller: &Caller<'_, R>,
     words: &[String],
     disk: MemDisk,

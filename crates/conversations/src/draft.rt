@@ -1,4 +1,12 @@
-//! A file that is being written by the lines of a script.
+//! A file that is being written by the lines of a script. Some of them have a meaning of their own:
+//!
+//! | Line | Meaning |
+//! |---|---|
+//! | `< LINE` | the other file is copied up to this line, which is left out |
+//! | `\rest` | the rest of the other file is copied |
+//! | `> LINE` | this line is added, whatever it begins with |
+//! | `\times N TEXT` | the text N times, without a newline |
+//! | `\hex DIGITS` | these bytes |
 
 use anyhow::{Result, anyhow, bail};
 use std::alloc::Global;

@@ -8,6 +8,7 @@ mod conversation;
 mod cut;
 mod device;
 mod draft;
+mod files;
 mod folder;
 mod late_pace;
 mod play;
@@ -84,7 +85,7 @@ fn play_script<R: Files + Print + AllocGlobal + Clock + Threads + Wait + Sync>(
     Ok(())
 }
 
-// Plays a conversation, at each length of the file that it cuts or once, and prints a line for it, or how it went otherwise.
+// Plays a conversation, at each length of the file that it cuts or once, and prints a line for it, or where it went otherwise.
 fn goes_as_written<R: Print + AllocGlobal + Clock + Threads + Wait + Sync>(
     rt: &R,
     script: &mut Script,
@@ -98,12 +99,16 @@ fn goes_as_written<R: Print + AllocGlobal + Clock + Threads + Wait + Sync>(
     let caller = Caller::new(rt, rt.alloc(), script.folder());
     let told = caller.call(conversation.words(), Failing::Nothing)?;
     let checked = check(&caller, conversation, &told);
-    let lines = told.lines();
+    let lines = if conversation.is_open_run() {
+        conversation.lines()
+    } else {
+        told.lines()
+    };
     script.keep_told(told);
     print_checked(rt, conversation.name(), checked, lines, "lines")
 }
 
-// Prints a line for a conversation, or how it went otherwise, and answers whether it went as written.
+// Prints a line for a conversation, or where it went otherwise, and answers whether it went as written.
 fn print_checked<R: Print>(
     rt: &R,
     name: &str,

@@ -2,7 +2,7 @@
 //! which the sink takes nothing or a first part, each read, and each call of the journal's device.
 
 use crate::caller::{Caller, Failing};
-use crate::command::{files_of, has_journal, may_write, runs_at_once};
+use crate::command::{files_of, has_journal, may_write};
 use crate::conversation::Conversation;
 use crate::cut::Cut;
 use crate::device::play_device;
@@ -19,19 +19,17 @@ const MOST_PUTS: usize = 60;
 
 /// Ends with what was wanted and told where a conversation doesn't go as written, in the call that ended like this, or in
 /// another one of which a part fails.
-pub fn check<R: Clock + Threads + Wait + Sync>(
+pub fn check<R: Print + Clock + Threads + Wait + Sync>(
     caller: &Caller<'_, R>,
     conversation: &Conversation,
     told: &Told,
 ) -> Result<()> {
     if !conversation.is_met_by(told.status, told.text.as_slice()) {
-        let wanted = conversation.written()?;
-        let told = told.written(caller.alloc())?;
-        bail!("wanted\n{wanted}told\n{told}");
+        return caller.end_otherwise(conversation.written()?.as_str(), told);
     }
     check_left(caller, conversation, told)?;
     let words = conversation.words();
-    if conversation.leaves_lines_open() && runs_at_once(words) {
+    if conversation.is_open_run() {
         return Ok(());
     }
     play_puts(caller, words, told)?;
@@ -43,7 +41,7 @@ pub fn check<R: Clock + Threads + Wait + Sync>(
 }
 
 /// Plays a conversation with a file cut to each of the lengths, and ends at the first at which it goes otherwise.
-pub fn check_cuts<R: Clock + Threads + Wait + Sync>(
+pub fn check_cuts<R: Print + Clock + Threads + Wait + Sync>(
     rt: &R,
     alloc: Global,
     folder: &Folder,
@@ -60,7 +58,7 @@ pub fn check_cuts<R: Clock + Threads + Wait + Sync>(
 }
 
 // What a call leaves of its journal is as written, and as it was where the command doesn't write.
-fn check_left<R: Clock + Threads + Wait + Sync>(
+fn check_left<R: Print + Clock + Threads + Wait + Sync>(
     caller: &Caller<'_, R>,
     conversation: &Conversation,
     told: &Told,
@@ -68,7 +66,7 @@ fn check_left<R: Clock + Threads + Wait + Sync>(
     let Told { status, text, .. } = told;
     if let Some(name) = conversation.file_left() {
         match caller.folder().bytes_of(name.as_str()) {
-            Some(left) => told.check(caller.alloc(), *status, text.as_slice(), left)?,
+            Some(left) => caller.check(told, *status, text.as_slice(), left)?,
             None => bail!("there is no file {name}"),
         }
     }
@@ -76,34 +74,30 @@ fn check_left<R: Clock + Threads + Wait + Sync>(
     if may_write(words) {
         return Ok(());
     }
-    told.check(
-        caller.alloc(),
-        *status,
-        text.as_slice(),
-        caller.journal(words),
-    )
+    caller.check(told, *status, text.as_slice(), caller.journal(words))
 }
 
 // Plays it with each put failing in turn, whole and torn: the lines before it were taken, or these and the first half of
 // its own, the status is 8, and the journal is left as without a failure.
-fn play_puts<R: Clock + Threads + Wait + Sync>(
+fn play_puts<R: Print + Clock + Threads + Wait + Sync>(
     caller: &Caller<'_, R>,
     words: &[String],
     whole: &Told,
 ) -> Result<()> {
-    let alloc = caller.alloc();
-    let mut taken = Vec::new(alloc);
+    let mut taken = Vec::new(caller.alloc());
     let mut put = 0u64;
     let lines = whole.text.split_inclusive(|byte| *byte == b'\n');
     for line in lines.take(MOST_PUTS) {
         put = put.wrapping_add(1);
         let told = caller.call(words, Failing::Put(put))?;
-        told.check(alloc, 8, taken.as_slice(), whole.left())
+        caller
+            .check(&told, 8, taken.as_slice(), whole.left())
             .context(format_args!("where put {put} fails"))?;
         let (first, rest) = line.split_at(line.len() / 2);
         taken.extend_from_slice(first)?;
         let told = caller.call(words, Failing::TornPut(put))?;
-        told.check(alloc, 8, taken.as_slice(), whole.left())
+        caller
+            .check(&told, 8, taken.as_slice(), whole.left())
             .context(format_args!("where put {put} is torn"))?;
         taken.extend_from_slice(rest)?;
     }
@@ -111,7 +105,7 @@ fn play_puts<R: Clock + Threads + Wait + Sync>(
 }
 
 // Plays it with either read failing: that is told, but where the call had ended before this read or has no such file.
-fn play_reads<R: Clock + Threads + Wait + Sync>(
+fn play_reads<R: Print + Clock + Threads + Wait + Sync>(
     caller: &Caller<'_, R>,
     words: &[String],
     whole: &Told,
@@ -122,7 +116,8 @@ fn play_reads<R: Clock + Threads + Wait + Sync>(
         if may_end_before && told.is(whole.status, whole.text.as_slice(), whole.left()) {
             continue;
         }
-        told.check(caller.alloc(), 3, b"read fault\n", caller.journal(words))
+        caller
+            .check(&told, 3, b"read fault\n", caller.journal(words))
             .context(format_args!("where read {read} fails"))?;
     }
     Ok(())

@@ -6,34 +6,18 @@
 //! | Line | Meaning |
 //! |---|---|
 //! | `== NAME` | a conversation begins |
-//! | `-- FILE` | the lines that follow are this file, each with its newline |
-//! | `-- FILE like OTHER` | the file is like the other one but for the lines that follow |
-//! | `-- FILE printed` | the file is what the last conversation printed |
-//! | `-- FILE left` | the file is what the last conversation left of its journal |
-//! | `-- FILE gone` | the file is taken away |
-//! | `-- FILE cut LENGTHS` | the conversation is played once for each of these lengths, as `0 2-8`, with this file cut to it |
+//! | `-- FILE ..` | a file, of which `files` tells more |
 //! | `$ WORDS` | the words of the call, of which the last may stand in quotes; what is printed follows |
 //! | `= STATUS` | the exit status: the conversation is whole |
 //! | `= STATUS leaves FILE` | the same, and it leaves its journal as this file is |
 //!
-//! Files stay from one conversation to the next, but for a cut. Within a file some lines have a meaning of their own:
-//!
-//! | Line | Meaning |
-//! |---|---|
-//! | `< LINE` | the other file is copied up to this line, which is left out |
-//! | `\rest` | the rest of the other file is copied |
-//! | `> LINE` | this line is added, whatever it begins with |
-//! | `\times N TEXT` | the text N times, without a newline |
-//! | `\hex DIGITS` | these bytes |
-//!
-//! In what is printed a line `...` stands for any lines.
+//! Files stay from one conversation to the next. In what is printed a line `...` stands for any lines.
 
 use crate::conversation::Conversation;
-use crate::cut::Cut;
-use crate::draft::Draft;
+use crate::files::ScriptFiles;
 use crate::folder::Folder;
 use crate::told::Told;
-use anyhow::{Context, Result, bail};
+use anyhow::{Result, bail};
 use std::alloc::Global;
 use std::mem;
 
@@ -49,11 +33,8 @@ enum Part {
 #[derive(Drop)]
 pub struct Script {
     alloc: Global,
-    folder: Folder,
+    files: ScriptFiles,
     part: Part,
-    draft: Option<Draft>,
-    // How the last conversation ended.
-    last: Option<Told>,
     next: Conversation,
 }
 
@@ -62,22 +43,20 @@ impl Script {
     pub fn new(alloc: Global) -> Result<Script> {
         Ok(Script {
             alloc,
-            folder: Folder::new(alloc),
+            files: ScriptFiles::new(alloc),
             part: Part::Remarks,
-            draft: None,
-            last: None,
             next: Conversation::new(alloc, "")?,
         })
     }
 
     /// The files as they stand for the conversation that was read last.
     pub fn folder(&self) -> &Folder {
-        &self.folder
+        self.files.folder()
     }
 
     /// The conversation that was read last ended like this.
     pub fn keep_told(&mut self, told: Told) {
-        self.last = Some(told);
+        self.files.keep_told(told);
     }
 
     /// Whether a script may end here.
@@ -106,73 +85,31 @@ impl Script {
     }
 
     fn read_files(&mut self, line: &str) -> Result<()> {
-        if let Some(file) = line.strip_prefix("-- ") {
-            self.keep_draft()?;
-            return self.begin_file(file);
-        }
-        if let Some(words) = line.strip_prefix("$") {
-            self.keep_draft()?;
-            let (words, last) = match words.split_once(" \"") {
-                Some((words, last)) => (words, last.strip_suffix("\"")),
-                None => (words, None),
-            };
-            for word in words.split(' ').skip(1) {
-                self.next.add_word(word)?;
+        if let Some(words) = line.strip_prefix("-- ") {
+            if let Some(cut) = self.files.begin(words)? {
+                self.next.cut(cut);
             }
-            if let Some(last) = last {
-                self.next.add_word(last)?;
-            }
-            self.part = Part::Printed;
             return Ok(());
         }
-        match &mut self.draft {
-            Some(draft) => draft.read_line(line),
-            None => bail!("a line of no file"),
+        match line.strip_prefix("$") {
+            Some(words) => self.read_words(words),
+            None => self.files.read_line(line),
         }
     }
 
-    fn begin_file(&mut self, file: &str) -> Result<()> {
-        let (name, how) = file.split_once(' ').unwrap_or((file, ""));
-        if how == "gone" {
-            self.folder.take_away(name);
-            return Ok(());
-        }
-        if how == "printed" || how == "left" {
-            return self.keep_last(name, how == "left");
-        }
-        if let Some(lengths) = how.strip_prefix("cut ") {
-            self.next.cut(Cut::new(self.alloc, name, lengths)?);
-            return Ok(());
-        }
-        let draft = match how.strip_prefix("like ") {
-            Some(other) => match self.folder.bytes_of(other) {
-                Some(bytes) => Draft::like(self.alloc, name, bytes)?,
-                None => bail!("there is no file to be like"),
-            },
-            None if how.is_empty() => Draft::new(self.alloc, name)?,
-            None => bail!("a file of no kind"),
+    fn read_words(&mut self, words: &str) -> Result<()> {
+        self.files.end()?;
+        let (words, last) = match words.split_once(" \"") {
+            Some((words, last)) => (words, last.strip_suffix("\"")),
+            None => (words, None),
         };
-        self.draft = Some(draft);
-        Ok(())
-    }
-
-    // Keeps what the last conversation printed, or left of its journal.
-    fn keep_last(&mut self, name: &str, is_left: bool) -> Result<()> {
-        let told = self.last.as_ref().context("no conversation came before")?;
-        let bytes = if is_left {
-            told.left()
-        } else {
-            told.text.as_slice()
-        };
-        let bytes = bytes.to_vec(self.alloc)?;
-        self.folder.put(String::from_str(self.alloc, name)?, bytes)
-    }
-
-    fn keep_draft(&mut self) -> Result<()> {
-        if let Some(draft) = self.draft.take() {
-            let (name, bytes) = draft.finish()?;
-            self.folder.put(name, bytes)?;
+        for word in words.split(' ').skip(1) {
+            self.next.add_word(word)?;
         }
+        if let Some(last) = last {
+            self.next.add_word(last)?;
+        }
+        self.part = Part::Printed;
         Ok(())
     }
 

@@ -1,6 +1,6 @@
 //! How a call ended, and how it is compared.
 
-use anyhow::{Result, bail};
+use anyhow::Result;
 use cell_program::Ended;
 use outside_io::MemDisk;
 use std::alloc::Global;
@@ -36,23 +36,14 @@ impl Told {
         self.status == status && self.text.as_slice() == text && self.left() == left
     }
 
-    /// Ends with both where it ended otherwise.
-    pub fn check(&self, alloc: Global, status: u8, text: &[u8], left: &[u8]) -> Result<()> {
-        if self.is(status, text, left) {
-            return Ok(());
-        }
-        let wanted = written(alloc, status, text, left)?;
-        let told = self.written(alloc)?;
-        bail!("wanted\n{wanted}told\n{told}")
-    }
-
     /// It as a text.
     pub fn written(&self, alloc: Global) -> Result<String> {
         written(alloc, self.status, self.text.as_slice(), self.left())
     }
 }
 
-fn written(alloc: Global, status: u8, text: &[u8], left: &[u8]) -> Result<String> {
+/// An end with this status, text and journal as a text.
+pub fn written(alloc: Global, status: u8, text: &[u8], left: &[u8]) -> Result<String> {
     let text = String::from_utf8_lossy(alloc, text)?;
     let left = hex::encode(alloc, left)?;
     Ok(format!(in alloc; "{text}= {status}, left {left}\n")?)
