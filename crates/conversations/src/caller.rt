@@ -51,7 +51,11 @@ impl<'a, R: Print + Clock + Threads + Wait + Sync> Caller<'a, R> {
 
     /// What the disk of a call holds; where there is no such file it has no bytes.
     pub fn journal(&self, words: &[String]) -> &[u8] {
-        self.folder.bytes_of(journal_of(words)).unwrap_or(&[])
+        let name = journal_of(words);
+        match self.folder.bytes_of(name) {
+            Some(bytes) => bytes,
+            None => &[],
+        }
     }
 
     /// A disk with these bytes, of which no call is to fail.
