@@ -106,8 +106,8 @@ fn check_failed<R: Print + Clock + Threads + Wait + Sync>(
     Ok(())
 }
 
-// Behind the grants of before the journal has those that were answered, and at most one more.
-fn check_grants(before: &Told, behind: &Told, answered: u64) -> Result<()> {
+/// Behind the grants of before the journal has those that were answered, and at most one more.
+pub fn check_grants(before: &Told, behind: &Told, answered: u64) -> Result<()> {
     let answered = grants_of(before)?.saturating_add(answered);
     let kept = grants_of(behind)?;
     if kept != answered && kept != answered.saturating_add(1) {
@@ -135,12 +135,11 @@ fn answered_before_halt(whole: &[u8], told: &Told) -> Option<u64> {
     if told.status != 7 || !rest.starts_with(b"granted\n") {
         return None;
     }
-    let lines = begun.split_inclusive(|byte| *byte == b'\n');
-    Some(lines.filter(|line| line.ends_with(b" granted\n")).count() as u64)
+    Some(told.grants())
 }
 
-// The plan behind the journal on a disk, for the cell that these words name.
-fn plan_on<R: Print + Clock + Threads + Wait + Sync>(
+/// The plan behind the journal on a disk, for the cell that these words name.
+pub fn plan_on<R: Print + Clock + Threads + Wait + Sync>(
     caller: &Caller<'_, R>,
     words: &[String],
     disk: MemDisk,

@@ -10,6 +10,7 @@ mod device;
 mod draft;
 mod files;
 mod folder;
+mod halts;
 mod late_pace;
 mod play;
 mod script;

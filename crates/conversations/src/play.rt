@@ -1,5 +1,6 @@
 //! One conversation compared with its call in which nothing failed, and then played with each put failing in its turn, of
-//! which the sink takes nothing or a first part, each read, and each call of the journal's device.
+//! which the sink takes nothing or a first part, each read, and each call of the journal's device. Of a run whose lines are left
+//! open some calls of the device fail.
 
 use crate::caller::{Caller, Failing};
 use crate::command::{files_of, has_journal, may_write};
@@ -7,6 +8,7 @@ use crate::conversation::Conversation;
 use crate::cut::Cut;
 use crate::device::play_device;
 use crate::folder::Folder;
+use crate::halts::play_halts;
 use crate::told::Told;
 use anyhow::{Context, Result, bail};
 use std::alloc::Global;
@@ -30,7 +32,7 @@ pub fn check<R: Print + Clock + Threads + Wait + Sync>(
     check_left(caller, conversation, told)?;
     let words = conversation.words();
     if conversation.is_open_run() {
-        return Ok(());
+        return play_halts(caller, words, told);
     }
     play_puts(caller, words, told)?;
     play_reads(caller, words, told)?;

@@ -31,6 +31,12 @@ impl Told {
         self.text.iter().filter(|byte| **byte == b'\n').count() as u64
     }
 
+    /// How many lines end with a grant.
+    pub fn grants(&self) -> u64 {
+        let lines = self.text.split_inclusive(|byte| *byte == b'\n');
+        lines.filter(|line| line.ends_with(b" granted\n")).count() as u64
+    }
+
     /// Whether it ended like this.
     pub fn is(&self, status: u8, text: &[u8], left: &[u8]) -> bool {
         self.status == status && self.text.as_slice() == text && self.left() == left
