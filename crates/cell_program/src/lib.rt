@@ -20,6 +20,7 @@ mod journal_run;
 mod out_sink;
 mod rest_pace;
 mod running;
+mod sessions;
 mod solo;
 mod top;
 

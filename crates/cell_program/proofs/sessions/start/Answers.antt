@@ -9,7 +9,7 @@ use Rattle.cell_words.specs.declared.early.Early.{Early}
 use Rattle.cell_words.specs.declared.early.Early.TheVariants.{JournalRefused}
 use Rattle.cell_program.specs.JournalRuns.{StartMade}
 use Rattle.cell_program.specs.declared.journal_run.JournalRun.{JournalRun}
-use Rattle.cell_program.proofs.running.start.Goals as goal
+use Rattle.cell_program.proofs.sessions.start.Goals as goal
 
 pub share-requires-clause-started : goal.share-requires-clause-started
 share-requires-clause-started g c κs inside =

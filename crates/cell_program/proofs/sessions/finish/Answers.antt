@@ -2,7 +2,7 @@
 use Rattle.std.proofs.Common.{◌∙◌, ap, refl}
 use Rattle.cell_base.specs.Scripts.{holds_halt}
 use Rattle.cell_program.proofs.RunEnds.{run_ends, run_fits}
-use Rattle.cell_program.proofs.running.finish.Goals as goal
+use Rattle.cell_program.proofs.sessions.finish.Goals as goal
 
 pub returns-clause-made : goal.returns-clause-made
 returns-clause-made g c =

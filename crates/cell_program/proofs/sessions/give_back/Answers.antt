@@ -1,6 +1,6 @@
 -- Nothing was added to the journal.
 use Rattle.cell_program.proofs.RunDisks.{stands_opened}
-use Rattle.cell_program.proofs.running.give_back.Goals as goal
+use Rattle.cell_program.proofs.sessions.give_back.Goals as goal
 
 pub returns-clause-stands : goal.returns-clause-stands
 returns-clause-stands g c =

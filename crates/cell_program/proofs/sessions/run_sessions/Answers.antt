@@ -9,7 +9,7 @@ use Rattle.cell_lock.specs.Standing.{AreAll, Standing}
 use Rattle.cell_sessions.specs.Starting.{AreBegun}
 use Rattle.cell_sessions.specs.Underway.{IsWithinScript, progress_at}
 use Rattle.cell_program.proofs.RunSessions.{all_new, begun_within, behind_sessions}
-use Rattle.cell_program.proofs.running.run_sessions.Goals as goal
+use Rattle.cell_program.proofs.sessions.run_sessions.Goals as goal
 
 -- a list that is written over as a whole
 refilled : {X : Type 0} (xs ws : List X) → length ws ≡ length xs → refill (length xs) xs ws ≡ ws
