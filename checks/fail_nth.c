@@ -1,9 +1,14 @@
 // Loaded before the C library: makes the call numbered FAIL of one kind fail, and tells how many there were.
 //
-// KIND is open, read, pread, pwrite, fsync, fdatasync, flock, statx, realpath or write; the numbers count its calls from 1, and 0 fails
-// none. A call that fails answers an error of the device (EIO). With SHORT set a pwrite takes one byte before it fails, the first part
-// of a torn write, and a write takes one byte and answers so, and the next one fails. With SLOW set each fdatasync takes so many
-// microseconds more. At the end the number of calls of that kind goes into the file named COUNT.
+// KIND is open, read, pread, pwrite, fsync, fdatasync, flock, statx, realpath, write or nanosleep; the numbers count its calls from 1,
+// and 0 fails none. A call that fails answers the error ERROR, or else one of the device (EIO). With SHORT set a pwrite takes one byte
+// before it fails, the first part of a torn write, and a write takes one byte and answers so, and the next one fails. With SLOW set each
+// fdatasync takes so many microseconds more. At the end the number of calls of that kind goes into the file named COUNT, and what was done
+// to the device into the file named TRACE, a line for each pwrite, with its offset and length, fdatasync and fsync.
+//
+// Two outsides that are hard to come by are played: with TYPE set each regular file is told to be of that type (of st_mode, in octal)
+// and, as a device is, of no bytes; with READ_ONLY set no file is opened for writing, and locks and syncs aren't known, as on some
+// read-only media.
 #define _GNU_SOURCE
 #include <dlfcn.h>
 #include <errno.h>
@@ -14,17 +19,28 @@
 #include <string.h>
 #include <sys/stat.h>
 #include <sys/types.h>
+#include <time.h>
 #include <unistd.h>
 
-static unsigned long calls, failing, slow;
-static int is_short, next_fails;
+static unsigned long calls, failing, slow, type;
+static int error = EIO, is_short, is_read_only, next_fails;
 static char kind[16], count_path[4096];
+static FILE *trace;
+
+static unsigned long number_of(const char *name, int base, unsigned long otherwise) {
+  const char *text = getenv(name);
+  return text ? strtoul(text, NULL, base) : otherwise;
+}
 
 __attribute__((constructor)) static void start(void) {
-  const char *number = getenv("FAIL"), *of = getenv("KIND"), *path = getenv("COUNT"), *pause = getenv("SLOW");
-  slow = pause ? strtoul(pause, NULL, 10) : 0;
-  failing = number ? strtoul(number, NULL, 10) : 0;
+  const char *of = getenv("KIND"), *path = getenv("COUNT"), *told = getenv("TRACE");
+  slow = number_of("SLOW", 10, 0);
+  failing = number_of("FAIL", 10, 0);
+  error = number_of("ERROR", 10, EIO);
+  type = number_of("TYPE", 8, 0);
   is_short = getenv("SHORT") != NULL;
+  is_read_only = getenv("READ_ONLY") != NULL;
+  trace = told ? fopen(told, "w") : NULL;
   if (of)
     strncpy(kind, of, sizeof kind - 1);
   if (path)
@@ -34,14 +50,21 @@ __attribute__((constructor)) static void start(void) {
 static int fails(const char *of) {
   if (strcmp(kind, of) != 0 || ++calls != failing)
     return 0;
-  errno = EIO;
+  errno = error;
   return 1;
+}
+
+// Whether the medium that is played is read-only; its answer is that error then.
+static int refuses(int answer) {
+  if (is_read_only)
+    errno = answer;
+  return is_read_only;
 }
 
 #define REAL(type, name, ...) ((type(*)(__VA_ARGS__))dlsym(RTLD_NEXT, name))
 
 static int open_as(const char *name, const char *path, int flags, mode_t mode) {
-  if (fails("open"))
+  if (fails("open") || ((flags & O_ACCMODE) != O_RDONLY && refuses(EROFS)))
     return -1;
   return REAL(int, name, const char *, int, ...)(path, flags, mode);
 }
@@ -75,10 +98,12 @@ ssize_t pread(int file, void *out, size_t size, off_t at) {
 ssize_t pread64(int file, void *out, size_t size, off64_t at) { return pread(file, out, size, at); }
 
 ssize_t pwrite(int file, const void *bytes, size_t size, off_t at) {
+  if (trace)
+    fprintf(trace, "pwrite %ld %lu\n", (long)at, (unsigned long)size);
   if (fails("pwrite")) {
     if (is_short && REAL(ssize_t, "pwrite", int, const void *, size_t, off_t)(file, bytes, 1, at) != 1)
       _exit(70);
-    errno = EIO;
+    errno = error;
     return -1;
   }
   return REAL(ssize_t, "pwrite", int, const void *, size_t, off_t)(file, bytes, size, at);
@@ -89,7 +114,7 @@ ssize_t pwrite64(int file, const void *bytes, size_t size, off64_t at) { return 
 ssize_t write(int file, const void *bytes, size_t size) {
   if (next_fails || (fails("write") && !is_short)) {
     next_fails = 0;
-    errno = EIO;
+    errno = error;
     return -1;
   }
   if (is_short && calls == failing && strcmp(kind, "write") == 0) {
@@ -100,18 +125,34 @@ ssize_t write(int file, const void *bytes, size_t size) {
   return REAL(ssize_t, "write", int, const void *, size_t)(file, bytes, size);
 }
 
-int fsync(int file) { return fails("fsync") ? -1 : REAL(int, "fsync", int)(file); }
-
-int fdatasync(int file) {
-  if (slow)
-    usleep(slow);
-  return fails("fdatasync") ? -1 : REAL(int, "fdatasync", int)(file);
+int fsync(int file) {
+  if (trace)
+    fputs("fsync\n", trace);
+  return fails("fsync") ? -1 : REAL(int, "fsync", int)(file);
 }
 
-int flock(int file, int how) { return fails("flock") ? -1 : REAL(int, "flock", int, int)(file, how); }
+int fdatasync(int file) {
+  if (trace)
+    fputs("fdatasync\n", trace);
+  if (slow)
+    usleep(slow);
+  return fails("fdatasync") || refuses(EINVAL) ? -1 : REAL(int, "fdatasync", int)(file);
+}
+
+int flock(int file, int how) { return fails("flock") || refuses(ENOLCK) ? -1 : REAL(int, "flock", int, int)(file, how); }
+
+int nanosleep(const struct timespec *time, struct timespec *left) {
+  return fails("nanosleep") ? -1 : REAL(int, "nanosleep", const struct timespec *, struct timespec *)(time, left);
+}
 
 int statx(int folder, const char *path, int flags, unsigned mask, struct statx *found) {
-  return fails("statx") ? -1 : REAL(int, "statx", int, const char *, int, unsigned, struct statx *)(folder, path, flags, mask, found);
+  if (fails("statx") || REAL(int, "statx", int, const char *, int, unsigned, struct statx *)(folder, path, flags, mask, found) != 0)
+    return -1;
+  if (type && S_ISREG(found->stx_mode)) {
+    found->stx_mode = (found->stx_mode & ~S_IFMT) | type;
+    found->stx_size = 0;
+  }
+  return 0;
 }
 
 char *realpath(const char *path, char *out) {
@@ -119,6 +160,8 @@ char *realpath(const char *path, char *out) {
 }
 
 static void finish(void) {
+  if (trace)
+    fclose(trace);
   if (!count_path[0])
     return;
   char text[32];

@@ -1,5 +1,5 @@
 -- What is known of the part of a job, and of the replies to what it asks for.
-use Rattle.std.proofs.Common.{◌≡◌, ℕ, ◌<◌, Bool, true, false, ◌&&◌, cond, List, [], ◌∷◌, length, Contains, Option, Some, None, find, ap, refl, sym, ◌∙◌, arith}
+use Rattle.std.proofs.Common.{◌≡◌, ℕ, ◌<◌, Bool, true, false, ◌&&◌, List, length, Contains, Option, Some, None, find, ap, refl, sym, ◌∙◌, arith}
 use Rattle.std.specs.List.{list_any, range_with_len}
 use Rattle.std.specs.Option.{option_map, option_map_or}
 use Rattle.std.proofs.lemmas.Option.{none-some, same_Some}
@@ -14,11 +14,10 @@ use Rattle.cell_base.specs.Masks.{has_bit}
 use Rattle.cell_base.specs.Stages.{IsStage, stage_of, capacity_of}
 use Rattle.cell_base.specs.Neighborhoods.{count}
 use Rattle.cell_base.specs.Policy.{is_of_job, is_loaded, first_over, IsAdmitted}
-use Rattle.cell_base.specs.Outcomes.{part_of, refuse, admit, finish_first}
+use Rattle.cell_base.specs.Outcomes.{part_of, refuse, admit}
 use Rattle.policy_laws.proofs.Lists.{find-Contains, find_passes, list_any-Contains, list_any-found, find_some, All-found}
 use Rattle.policy_laws.proofs.Parts.{part_of-found}
 use Rattle.neighborhood_counts.specs.Counts.{Counted, first_full, is_full}
-use Rattle.part_table.specs.declared.standing.Standing.{Standing}
 use Rattle.admission_core.specs.Replies.{reply_at}
 
 -- a part that is found is of its job, stands in the state, and at a stage
@@ -82,25 +81,14 @@ full_within held mask r e =
     let within : c.0 < n = omega (arith, c.1, length-range_with_len 0 n) in
     omega (arith, get_or-range_with_len 0 n c.0 r within, c.2)
 
--- the job of what is found waiting
-pub some_waiting : (o : Option Standing) (job : JobId) → Some job ≡ option_map (λ (item : Standing). item.part.job) o
-    → (item : Standing) × (o ≡ Some item) × (item.part.job ≡ job)
-some_waiting None job e = absurd (none-some job (sym e))
-some_waiting (Some item) job e = (item, refl, sym (same_Some job item.part.job e))
+-- the job of what is found
+pub some_job : (o : Option Part) (job : JobId) → Some job ≡ option_map (λ (part : Part). part.job) o → (part : Part) × (o ≡ Some part)
+some_job None job e = absurd (none-some job (sym e))
+some_job (Some part) job e = (part, refl)
 
-pub no_waiting : (o : Option Standing) → None ≡ option_map (λ (item : Standing). item.part.job) o → o ≡ None
-no_waiting None e = refl
-no_waiting (Some item) e = absurd (none-some item.part.job e)
-
--- nothing is finished where no part passes
-pub finish_first-none : (test : Part → Bool) (parts : List Part) → find test parts ≡ None → finish_first test parts ≡ parts
-finish_first-none test [] e = refl
-finish_first-none test (part ∷ parts) e = at (test part) e (finish_first-none test parts)
-  where
-    at : (b : Bool) → cond b (Some part) (find test parts) ≡ None → (find test parts ≡ None → finish_first test parts ≡ parts)
-        → cond b ((record part { done = true }) ∷ parts) (part ∷ finish_first test parts) ≡ part ∷ parts
-    at true e later = absurd (none-some part (sym e))
-    at false e later = ap (λ ps. part ∷ ps) (later e)
+pub no_job : (o : Option Part) → None ≡ option_map (λ (part : Part). part.job) o → o ≡ None
+no_job None e = refl
+no_job (Some part) e = absurd (none-some part.job e)
 
 -- some part passes exactly where one is found
 pub any_found : {X : Type 0} (test : X → Bool) (xs : List X) (x : X) → find test xs ≡ Some x → list_any test xs ≡ true

@@ -6,7 +6,6 @@ ghost use Rattle.cell_base.specs.Stages.{IsStage, stage_of};
 ghost use Rattle.cell_base.specs.Policy.{first_over};
 ghost use Rattle.cell_base.specs.Outcomes.{part_of, without, finish_first, is_waiting_on, outcome_of_entry, outcome_of_move, reply_to, state_after};
 ghost use Rattle.cell_base.specs.Fits.{RequestFits};
-ghost use Rattle.part_table.specs.Parts.{parts_of};
 ghost use Rattle.admission_core.specs.CoreState.{IsSound, IsTallied};
 
 use crate::lead_table::LeadTable;
@@ -17,8 +16,8 @@ use cell_base::{JobId, Part, Request, ResId};
 pub fn apply(table: &LeadTable, tally: &mut Tally, request: &Request)
     requires sound { IsSound table.now tally.old }
     requires request { RequestFits table.now request.now }
-    requires granted { reply_to table.now (parts_of tally.old.parts.items) request.now ≡ Granted }
-    ensures parts { parts_of tally.new.parts.items ≡ state_after table.now (parts_of tally.old.parts.items) request.now }
+    requires granted { reply_to table.now tally.old.parts.parts request.now ≡ Granted }
+    ensures parts { tally.new.parts.parts ≡ state_after table.now tally.old.parts.parts request.now }
     ensures tallied { IsTallied table.now tally.new }
 {
     match *request {
@@ -48,8 +47,8 @@ pub fn apply(table: &LeadTable, tally: &mut Tally, request: &Request)
 fn enter(table: &LeadTable, tally: &mut Tally, part: Part)
     requires sound { IsSound table.now tally.old }
     requires stage { IsStage table.now (stage_of part) }
-    requires granted { (outcome_of_entry table.now (parts_of tally.old.parts.items) part).0 ≡ Granted }
-    ensures parts { parts_of tally.new.parts.items ≡ (outcome_of_entry table.now (parts_of tally.old.parts.items) part).1 }
+    requires granted { (outcome_of_entry table.now tally.old.parts.parts part).0 ≡ Granted }
+    ensures parts { tally.new.parts.parts ≡ (outcome_of_entry table.now tally.old.parts.parts part).1 }
     ensures tallied { IsTallied table.now tally.new }
 {
     tally.counts.enter(table.mask(part));
@@ -61,7 +60,7 @@ fn enter(table: &LeadTable, tally: &mut Tally, part: Part)
 fn finish_first_on(table: &LeadTable, tally: &mut Tally, machine: ResId)
     requires sound { IsSound table.now tally.old }
     requires machine { RequestFits table.now (Process machine) }
-    ensures parts { parts_of tally.new.parts.items ≡ finish_first (is_waiting_on table.now machine.0) (parts_of tally.old.parts.items) }
+    ensures parts { tally.new.parts.parts ≡ finish_first (is_waiting_on table.now machine.0) tally.old.parts.parts }
     ensures tallied { IsTallied table.now tally.new }
 {
     let _cell = table.cell();
@@ -73,9 +72,9 @@ fn finish_first_on(table: &LeadTable, tally: &mut Tally, machine: ResId)
 /// A part that is granted to go on.
 fn go_on(table: &LeadTable, tally: &mut Tally, job: JobId, branch: u16)
     requires sound { IsSound table.now tally.old }
-    requires granted { (outcome_of_move table.now (parts_of tally.old.parts.items) (part_of (parts_of tally.old.parts.items) job) branch).0 ≡ Granted }
-    ensures parts { parts_of tally.new.parts.items
-        ≡ (outcome_of_move table.now (parts_of tally.old.parts.items) (part_of (parts_of tally.old.parts.items) job) branch).1 }
+    requires granted { (outcome_of_move table.now tally.old.parts.parts (part_of tally.old.parts.parts job) branch).0 ≡ Granted }
+    ensures parts { tally.new.parts.parts
+        ≡ (outcome_of_move table.now tally.old.parts.parts (part_of tally.old.parts.parts job) branch).1 }
     ensures tallied { IsTallied table.now tally.new }
 {
     if let Some(part) = tally.parts.get(job) {
@@ -89,11 +88,11 @@ fn go_on(table: &LeadTable, tally: &mut Tally, job: JobId, branch: u16)
 /// A part goes on to its next stage.
 fn put_on(table: &LeadTable, tally: &mut Tally, part: Part, next: Part)
     requires sound { IsSound table.now tally.old }
-    requires found { part_of (parts_of tally.old.parts.items) part.job ≡ Some part }
+    requires found { part_of tally.old.parts.parts part.job ≡ Some part }
     requires same { next ≡ record part { place = next.place; done = next.done } }
     requires stage { IsStage table.now (stage_of next) }
-    requires room { first_over table.now (without (parts_of tally.old.parts.items) part.job ++ next ∷ []) ≡ None }
-    ensures parts { parts_of tally.new.parts.items ≡ without (parts_of tally.old.parts.items) part.job ++ next ∷ [] }
+    requires room { first_over table.now (without tally.old.parts.parts part.job ++ next ∷ []) ≡ None }
+    ensures parts { tally.new.parts.parts ≡ without tally.old.parts.parts part.job ++ next ∷ [] }
     ensures tallied { IsTallied table.now tally.new }
 {
     tally.counts.shift(table.mask(part), table.mask(next));
@@ -106,7 +105,7 @@ fn put_on(table: &LeadTable, tally: &mut Tally, part: Part, next: Part)
 /// The part of a job leaves the cell.
 fn leave(table: &LeadTable, tally: &mut Tally, job: JobId)
     requires sound { IsSound table.now tally.old }
-    ensures parts { parts_of tally.new.parts.items ≡ without (parts_of tally.old.parts.items) job }
+    ensures parts { tally.new.parts.parts ≡ without tally.old.parts.parts job }
     ensures tallied { IsTallied table.now tally.new }
 {
     if let Some(part) = tally.parts.get(job) {
@@ -117,8 +116,8 @@ fn leave(table: &LeadTable, tally: &mut Tally, job: JobId)
 /// A part leaves the cell.
 fn take_out(table: &LeadTable, tally: &mut Tally, part: Part)
     requires sound { IsSound table.now tally.old }
-    requires found { part_of (parts_of tally.old.parts.items) part.job ≡ Some part }
-    ensures parts { parts_of tally.new.parts.items ≡ without (parts_of tally.old.parts.items) part.job }
+    requires found { part_of tally.old.parts.parts part.job ≡ Some part }
+    ensures parts { tally.new.parts.parts ≡ without tally.old.parts.parts part.job }
     ensures tallied { IsTallied table.now tally.new }
 {
     tally.counts.leave(table.mask(part));

@@ -6,7 +6,6 @@ ghost use Rattle.cell_base.specs.Stages.{IsStage, stage_of};
 ghost use Rattle.cell_base.specs.Outcomes.{part_of, outcome_of_process, outcome_of_entry, outcome_of_move, outcome_of_unload, reply_to};
 ghost use Rattle.cell_base.specs.Fits.{RequestFits};
 ghost use Rattle.neighborhood_counts.specs.Counts.{IsMaskOf, first_full};
-ghost use Rattle.part_table.specs.Parts.{parts_of};
 ghost use Rattle.admission_core.specs.CoreState.{IsSound};
 ghost use Rattle.admission_core.specs.Replies.{reply_at};
 
@@ -18,7 +17,7 @@ use cell_base::{Part, Refusal, Reply, Request, ResId};
 pub fn reply_to(table: &LeadTable, tally: &Tally, request: &Request) -> Reply
     requires sound { IsSound table.now tally.now }
     requires request { RequestFits table.now request.now }
-    ensures { result ≡ reply_to table.now (parts_of tally.now.parts.items) request.now }
+    ensures { result ≡ reply_to table.now tally.now.parts.parts request.now }
 {
     match *request {
         Request::Load { job, kind } => reply_to_entry(table, tally, table.entry(job, kind)),
@@ -53,7 +52,7 @@ pub fn reply_to(table: &LeadTable, tally: &Tally, request: &Request) -> Reply
 fn reply_to_entry(table: &LeadTable, tally: &Tally, part: Part) -> Reply
     requires sound { IsSound table.now tally.now }
     requires stage { IsStage table.now (stage_of part) }
-    ensures { result ≡ (outcome_of_entry table.now (parts_of tally.now.parts.items) part).0 }
+    ensures { result ≡ (outcome_of_entry table.now tally.now.parts.parts part).0 }
 {
     match tally.parts.get(part.job) {
         Some(_) => Reply::Refused(Refusal::JobLoaded),
@@ -65,7 +64,7 @@ fn reply_to_entry(table: &LeadTable, tally: &Tally, part: Part) -> Reply
 fn reply_to_process(table: &LeadTable, tally: &Tally, machine: ResId) -> Reply
     requires sound { IsSound table.now tally.now }
     requires machine { RequestFits table.now (Process machine) }
-    ensures { result ≡ (outcome_of_process table.now (parts_of tally.now.parts.items) machine.0).0 }
+    ensures { result ≡ (outcome_of_process table.now tally.now.parts.parts machine.0).0 }
 {
     match tally.parts.first_waiting(machine) {
         Some(_) => Reply::Granted,
@@ -76,8 +75,8 @@ fn reply_to_process(table: &LeadTable, tally: &Tally, machine: ResId) -> Reply
 /// The reply to the move of a part.
 fn reply_to_move(table: &LeadTable, tally: &Tally, part: Part, branch: u16) -> Reply
     requires sound { IsSound table.now tally.now }
-    requires found { part_of (parts_of tally.now.parts.items) part.job ≡ Some part }
-    ensures { result ≡ (outcome_of_move table.now (parts_of tally.now.parts.items) (Some part) branch).0 }
+    requires found { part_of tally.now.parts.parts part.job ≡ Some part }
+    ensures { result ≡ (outcome_of_move table.now tally.now.parts.parts (Some part) branch).0 }
 {
     if !part.done {
         Reply::Refused(Refusal::NotProcessed)
@@ -112,7 +111,7 @@ fn reply_to_unload(table: &LeadTable, part: Part) -> Reply
 fn reply_at(table: &LeadTable, tally: &Tally, mask: u64) -> Reply
     requires sound { IsSound table.now tally.now }
     requires mask { IsMaskOf tally.now.counts mask }
-    ensures { result ≡ reply_at table.now (parts_of tally.now.parts.items) (first_full tally.now.counts mask) }
+    ensures { result ≡ reply_at table.now tally.now.parts.parts (first_full tally.now.counts mask) }
 {
     match tally.counts.first_full(mask) {
         None => Reply::Granted,

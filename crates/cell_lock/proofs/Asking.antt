@@ -41,7 +41,7 @@ record Sees {D : Type 0} (p q : Standing D) (a b : DurableState D) : Type 0 wher
   own : q.mine ≡ entries_of p.number b.history
 
 added : {D : Type 0} (p q : Standing D) (shift : ℕ) (a b : DurableState D) (e : Entry) → e.session ≡ p.number → Sees p q a b
-    → b ≡ with_entry a shift e → Adds p q e
+    → b ≡ with_entry a b.disk shift e → Adds p q e
 added {D} p q shift a b e by sees is = record {
   before = a.history;
   began = sees.began;
@@ -109,7 +109,7 @@ record Stays {D : Type 0} (o : Opening D) (a b : DurableState D) : Type 0 where
   unsure : b.unsure ≡ unsure_grant o.shift b.history
 
 stays_longer : {D : Type 0} (o : Opening D) (a b : DurableState D) (e : Entry) → Fits o a → halted_at a.history ≡ None
-    → b ≡ with_entry a o.shift e → Stays o a b
+    → b ≡ with_entry a b.disk o.shift e → Stays o a b
 stays_longer {D} o a b e fits none is = subst (λ (x : DurableState D). Stays o a x) (sym is) record {
   opened = refl;
   added = ap (λ (l : List Grant). l ++ grants o.shift (e ∷ [])) fits.added ∙ sym (grants-snoc o.shift a.history e);

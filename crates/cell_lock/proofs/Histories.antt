@@ -17,13 +17,17 @@ prefix_more xs ys zs p = (p.0 ++ zs, sym (append_assoc xs p.0 zs) ∙ ap (λ (l 
 pub prefix_nil : (xs : List Entry) → IsPrefix [] xs
 prefix_nil xs = (xs, refl)
 
-pub begin_more : (seens : List (List Entry)) (log more : List Entry) → AllBegin seens log → AllBegin seens (log ++ more)
+pub begin_more : (answers : List (List Entry × ℕ)) (log more : List Entry) → AllBegin answers log → AllBegin answers (log ++ more)
 begin_more [] log more b = tt
-begin_more (s ∷ ss) log more b = (prefix_more s log more b.0, begin_more ss log more b.1)
+begin_more (answer ∷ answers) log more b = (prefix_more answer.0 log more b.0, begin_more answers log more b.1)
 
-pub begin_append : (xs ys : List (List Entry)) (log : List Entry) → AllBegin xs log → AllBegin ys log → AllBegin (xs ++ ys) log
+pub begin_append : (xs ys : List (List Entry × ℕ)) (log : List Entry) → AllBegin xs log → AllBegin ys log → AllBegin (xs ++ ys) log
 begin_append [] ys log a b = b
 begin_append (x ∷ xs) ys log a b = (a.0, begin_append xs ys log a.1 b)
+
+pub begin_behind : (xs ys : List (List Entry × ℕ)) (log : List Entry) → AllBegin (xs ++ ys) log → AllBegin ys log
+begin_behind [] ys log b = b
+begin_behind (x ∷ xs) ys log b = begin_behind xs ys log b.1
 
 pub entries-own : (k : ℕ) (log : List Entry) (e : Entry) → e.session ≡ k → entries_of k (log ++ e ∷ []) ≡ entries_of k log ++ e ∷ []
 entries-own k log e same =

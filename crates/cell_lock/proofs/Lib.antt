@@ -1,5 +1,7 @@
+-- Lemmas, grouped by subject.
 pub mod Histories
 pub mod Views
+pub mod Acknowledging
 pub mod Turns
 pub mod Dealing
 pub mod Seats

@@ -2,17 +2,18 @@
 use Rattle.std.proofs.Common.{◌≡◌, ℕ, zero, suc, ◌+◌, ◌<◌, List, [], ◌∷◌, length, slice_index_or, refl, ◌∙◌, arith}
 use Rattle.cell_lock.specs.Standing.{LockId, Standing, KeepsName, new_passes, AreNumbered, AreAll}
 
-numbered_new : {D : Type 0} (lock : LockId D) (first n : ℕ) → AreNumbered lock first (new_passes lock first n)
-numbered_new lock first zero = tt
-numbered_new lock first (suc n) = (refl, refl, numbered_new lock (first + 1) n)
+numbered_new : {D : Type 0} (moment : D → ℕ) (lock : LockId D) (first n : ℕ) → AreNumbered lock first (new_passes moment lock first n)
+numbered_new moment lock first zero = tt
+numbered_new moment lock first (suc n) = (refl, refl, numbered_new moment lock (first + 1) n)
 
-length_new : {D : Type 0} (lock : LockId D) (first n : ℕ) → length (new_passes lock first n) ≡ n
-length_new lock first zero = refl
-length_new lock first (suc n) = let more = length_new lock (first + 1) n in omega arith
+length_new : {D : Type 0} (moment : D → ℕ) (lock : LockId D) (first n : ℕ) → length (new_passes moment lock first n) ≡ n
+length_new moment lock first zero = refl
+length_new moment lock first (suc n) = let more = length_new moment lock (first + 1) n in omega arith
 
 -- the passes that a lock gives are all
-pub all_new : {D : Type 0} (lock : LockId D) (n : ℕ) → n ≡ lock.opening.passes → AreAll lock (new_passes lock 1 n)
-all_new lock n same = record { numbered = numbered_new lock 1 n; count = length_new lock 1 n ∙ same }
+pub all_new : {D : Type 0} (moment : D → ℕ) (lock : LockId D) (n : ℕ) → n ≡ lock.opening.passes
+    → AreAll lock (new_passes moment lock 1 n)
+all_new moment lock n same = record { numbered = numbered_new moment lock 1 n; count = length_new moment lock 1 n ∙ same }
 
 numbered_kept : {D : Type 0} (lock : LockId D) (first : ℕ) (old new : List (Standing D)) → length new ≡ length old
     → ((i : ℕ) (d : Standing D) → i < length old → KeepsName (slice_index_or old i d) (slice_index_or new i d))

@@ -1,3 +1,4 @@
+-- What the contracts cite.
 pub mod Openings
 pub mod Views
 pub mod Law

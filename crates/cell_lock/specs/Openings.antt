@@ -1,5 +1,6 @@
 -- What a lock was opened with.
 use Rattle.std.specs.Prelude.{◌≡◌, ℕ, ◌≤◌, ◌<◌, ◌⊎◌, None, Some, List, [], length}
+use Rattle.std.specs.Option.{option_map_or}
 use Rattle.cell_base.specs.declared.requests.Part.{Part}
 use Rattle.cell_base.specs.Histories.{IsLegal, grants, replay}
 use Rattle.durable_cell.specs.Asked.{unsure_grant}
@@ -12,6 +13,7 @@ opening_of durable shift passes = record {
   cell = durable.cell;
   text = durable.text;
   entry = Some durable.entry;
+  found = Some durable.found;
   grants = durable.opening;
   limit = durable.limit;
   shift = shift;
@@ -24,6 +26,7 @@ nothing_opened = record {
   cell = record { resources = []; types = [] };
   text = [];
   entry = None;
+  found = None;
   grants = [];
   limit = 0;
   shift = 0;
@@ -33,6 +36,10 @@ nothing_opened = record {
 -- the parts behind the grants of the opening
 abbrev pub first_parts : {D : Type 0} → Opening D → List Part
 first_parts opening = replay opening.cell opening.grants
+
+-- the disk's clock when the disk was found
+abbrev pub first_moment : {D : Type 0} → (D → ℕ) → Opening D → ℕ
+first_moment moment opening = option_map_or moment opening.found 0
 
 -- a number of no pass
 abbrev pub Outside : {D : Type 0} → Opening D → ℕ → Type 0

@@ -11,27 +11,41 @@ use Rattle.durable_cell.specs.declared.fault.AskFault.{AskFault}
 use Rattle.durable_cell.specs.declared.fault.AskFault.TheVariants.{Halted, Full, Device}
 use Rattle.durable_cell.specs.Asked.{halted_at, entry}
 use Rattle.cell_lock.specs.declared.board.Opening.{Opening}
+use Rattle.cell_lock.specs.Openings.{first_moment}
 
 -- which lock it is, and what it was opened with
 pub record LockId (D : Type 0) : Type 0 where
   pub table : TableId
   pub opening : Opening D
 
--- the lock of a pass, its number, the history that it saw, and its own entries in it
+-- The lock of a pass and its number; the history that it saw last, and the disk's clock of then; the same of its earlier answers, the last
+-- one first; and its own entries in that history.
 pub record Standing (D : Type 0) : Type 0 where
   pub lock : LockId D
   pub number : ℕ
   pub seen : List Entry
+  pub moment : ℕ
+  pub earlier : List (List Entry × ℕ)
   pub mine : List Entry
 
+-- what a pass saw with each of its answers, and the disk's clock of then
+abbrev pub answers_of : {D : Type 0} → Standing D → List (List Entry × ℕ)
+answers_of pass = (pass.seen, pass.moment) ∷ pass.earlier
+
+-- the same of all passes, one after another
+abbrev pub all_answers : {D : Type 0} → List (Standing D) → List (List Entry × ℕ)
+all_answers [] = []
+all_answers (pass ∷ passes) = answers_of pass ++ all_answers passes
+
 -- a pass that saw nothing
-abbrev pub new_pass : {D : Type 0} → LockId D → ℕ → Standing D
-new_pass lock number = record { lock = lock; number = number; seen = []; mine = [] }
+abbrev pub new_pass : {D : Type 0} → (D → ℕ) → LockId D → ℕ → Standing D
+new_pass moment lock number =
+    record { lock = lock; number = number; seen = []; moment = first_moment moment lock.opening; earlier = []; mine = [] }
 
 -- such passes, numbered from `first` on
-abbrev pub new_passes : {D : Type 0} → LockId D → ℕ → ℕ → List (Standing D)
-new_passes lock first zero = []
-new_passes lock first (suc count) = new_pass lock first ∷ new_passes lock (first + 1) count
+abbrev pub new_passes : {D : Type 0} → (D → ℕ) → LockId D → ℕ → ℕ → List (Standing D)
+new_passes moment lock first zero = []
+new_passes moment lock first (suc count) = new_pass moment lock first ∷ new_passes moment lock (first + 1) count
 
 -- the passes are of this lock and are numbered from `first` on
 abbrev pub AreNumbered : {D : Type 0} → LockId D → ℕ → List (Standing D) → Type 0
@@ -42,6 +56,10 @@ AreNumbered lock first (pass ∷ passes) = (pass.lock ≡ lock) × (pass.number 
 pub record AreAll {D : Type 0} (lock : LockId D) (passes : List (Standing D)) : Type 0 where
   pub numbered : AreNumbered lock 1 passes
   pub count : length passes ≡ lock.opening.passes
+
+-- the pass has one answer more, and keeps the earlier ones
+abbrev pub HasAnswer : {D : Type 0} → Standing D → Standing D → Type 0
+HasAnswer old new = new.earlier ≡ answers_of old
 
 -- the pass keeps its lock and its number
 pub record KeepsName {D : Type 0} (old new : Standing D) : Type 0 where

@@ -1,13 +1,12 @@
 -- What the steps at a seat say.
-use Rattle.std.specs.Prelude.{◌≡◌, ℕ, false, List, [], ◌∷◌, ◌++◌, map, length}
+use Rattle.std.specs.Prelude.{◌≡◌, ℕ, None, false, List, [], ◌∷◌, ◌++◌, map, length}
 use Rattle.atomic_table.specs.Seated.{TableId}
 use Rattle.atomic_table.specs.declared.shared.Seat.{Seat}
 use Rattle.cell_base.specs.declared.shifts.Entry.{Entry}
 use Rattle.durable_cell.specs.DurableState.{DurableState}
 use Rattle.cell_lock.specs.declared.board.Opening.{Opening}
 use Rattle.cell_lock.specs.declared.board.View.{View}
-use Rattle.cell_lock.specs.Views.{seen_of}
-use Rattle.cell_lock.specs.Standing.{LockId, Standing}
+use Rattle.cell_lock.specs.Standing.{LockId, Standing, all_answers}
 
 -- two words and one slot
 abbrev pub IsWide : TableId → Type 0
@@ -22,7 +21,7 @@ pub record IsSame {D : Type 0} (old new : Seat (DurableState D) (View D)) : Type
 -- this history is what was seen, and then an entry of the view's own number
 pub record GrewBy {D : Type 0} (v : View D) (log : List Entry) : Type 0 where
   pub entry : Entry
-  pub ends : log ≡ seen_of v ++ entry ∷ []
+  pub ends : log ≡ v.log ++ entry ∷ []
   pub own : entry.session ≡ v.first
 
 -- the lock that the seat is of
@@ -35,7 +34,9 @@ gathering {D} opening first passes = record {
   opening = opening;
   first = first;
   count = length passes;
-  seens = map (λ (pass : Standing D). pass.seen) passes;
+  answers = all_answers passes;
   mines = map (λ (pass : Standing D). pass.mine) passes;
+  log = [];
+  taken = None;
   has_turn = false;
 }

@@ -8,26 +8,31 @@ use std::alloc::Global;
 use std::collections::LinkedList;
 use std::snapshot::Snapshot;
 
-/// What a lock was opened with: the cell and its text, the disk as it then was, the grants for which it stood, how many entries
-/// the history may have, the number of the shift and that of the passes. No value of it is made.
+/// What a lock was opened with: the cell and its text, the disk as it was handed to the durable cell and as it was found, the
+/// grants for which it stood, how many entries the history may have, the number of the shift and that of the passes. No value
+/// of it is made.
 pub struct Opening<D> {
     pub cell: Cell,
     pub text: LinkedList<u8>,
     pub entry: Option<D>,
+    pub found: Option<D>,
     pub grants: LinkedList<Grant>,
     pub limit: u64,
     pub shift: u32,
     pub passes: u16,
 }
 
-/// What a seat knows: the numbers from `first`, `count` many, with the entries of each, and beginnings of the history that it
-/// saw. No value of it is made.
-pub struct View<D> {
+/// What a seat knows: the numbers from `first`, `count` many, with the entries of each; of its answers, the last one first, the
+/// history that it saw and the disk's clock of then; and with the turn the history that it sees now, and the durable cell as it
+/// was taken. No value of it is made.
+pub struct View<D: Disk> {
     pub opening: Opening<D>,
     pub first: u64,
     pub count: u64,
-    pub seens: LinkedList<LinkedList<Entry>>,
+    pub answers: LinkedList<(LinkedList<Entry>, u64)>,
     pub mines: LinkedList<LinkedList<Entry>>,
+    pub log: LinkedList<Entry>,
+    pub taken: Option<Durable<D>>,
     pub has_turn: bool,
 }
 
@@ -44,10 +49,12 @@ pub struct Law;
 
 impl<D: Disk> TableRule<Durable<D>, View<D>, Key<D>> for Law {
     ghost use Rattle.cell_lock.specs.Law.{Kept};
+    ghost use Rattle.durable_cell.specs.Acknowledged.{HasSince};
     ghost use Rattle.cell_lock.specs.Openings.{opening_of};
     ghost use Rattle.cell_lock.specs.Views.{stock};
 
-    ghost holds = { λ key. Kept (opening_of key.durable.value key.shift key.passes) };
+    ghost holds = { λ key. Kept (HasSince D.reads_as D.moment D.left_since) D.moment
+        (opening_of key.durable.value key.shift key.passes) };
 
     ghost first = { λ key. stock (opening_of key.durable.value key.shift key.passes) 1 key.passes };
 }

@@ -5,7 +5,8 @@
 //! and gives up the turn. What the pass then knows: the history that it sees begins with all that it saw before, is one that
 //! a single thread could have made from the state of the opening, and has the pass's own entries and no others under its
 //! number. Closing the lock with all of its passes gives the durable cell back, whose history begins with what every pass
-//! saw and has, number by number, just the entries that the passes have as their own.
+//! saw and has, number by number, just the entries that the passes have as their own. And whatever a pass has seen granted, with
+//! any of its answers, is on each image that a crash may leave, at each moment since that answer.
 //!
 //! ```text
 //! let (cell, mut passes) = SharedCell::open(alloc, durable, shift, 2)?;

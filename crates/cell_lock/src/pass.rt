@@ -5,8 +5,8 @@ use crate::board::Place;
 use outside_io::Disk;
 use std::marker::Model;
 
-/// The right to ask under a number. Contracts see it as its lock, its number, the history that it saw and its own entries in
-/// it.
+/// The right to ask under a number. Contracts see it as its lock, its number, the history that it saw last and the disk's clock of
+/// then, the same of its earlier answers, and its own entries.
 #[derive(Drop)]
 pub struct Pass<D: Disk> {
     pub(crate) seat: Place<D>,
@@ -17,7 +17,7 @@ impl<D: Disk> Model for Pass<D> {
     ghost use Rattle.std.specs.Prelude.{◌≡◌};
     ghost use Rattle.cell_lock.specs.Standing.{Standing};
     ghost use Rattle.cell_lock.specs.Steps.{lock_of};
-    ghost use Rattle.cell_lock.specs.Views.{IsResting, seen_of, mine_of};
+    ghost use Rattle.cell_lock.specs.Views.{IsResting, seen_of, moment_of, earlier_of, mine_of};
 
     ghost Value = { Standing D };
 
@@ -25,6 +25,8 @@ impl<D: Disk> Model for Pass<D> {
       lock = lock_of p.seat;
       number = p.number;
       seen = seen_of p.seat.me.0;
+      moment = moment_of p.seat.me.0;
+      earlier = earlier_of p.seat.me.0;
       mine = mine_of p.seat.me.0;
     } };
 

@@ -1,5 +1,6 @@
 //! What each step on the table tells, and how views are cut and joined.
 ghost use Rattle.std.specs.Prelude.{◌+◌, ◌-◌, []};
+ghost use Rattle.cell_lock.specs.Openings.{first_moment};
 ghost use Rattle.cell_lock.specs.Law.{took, grew, gave, sat};
 ghost use Rattle.cell_lock.specs.Views.{stock, passing, gathered, spent};
 
@@ -26,7 +27,7 @@ impl<D: Disk> Play<Durable<D>, View<D>> for Grow {
 pub(crate) struct Give;
 
 impl<D: Disk> Play<Durable<D>, View<D>> for Give {
-    ghost then = { gave };
+    ghost then = { gave D.moment };
 }
 
 /// A new seat that knows nothing, behind the last number.
@@ -39,16 +40,16 @@ impl<D: Disk> Play<Durable<D>, View<D>> for Sit {
 /// Cuts off a pass with the least number.
 pub(crate) struct Deal;
 
-impl<D> Split<View<D>> for Deal {
+impl<D: Disk> Split<View<D>> for Deal {
     ghost left = { λ v. stock v.opening (v.first + 1) (v.count - 1) };
 
-    ghost right = { λ v. passing v.opening v.first [] [] };
+    ghost right = { λ v. passing v.opening v.first [] (first_moment D.moment v.opening) [] [] };
 }
 
 /// Takes in a seat with the next numbers.
 pub(crate) struct Gather;
 
-impl<D> Join<View<D>> for Gather {
+impl<D: Disk> Join<View<D>> for Gather {
     ghost both = { gathered };
 
     ghost spent = { spent };

@@ -75,7 +75,7 @@ fn deal_one<D: Disk>(top: &Top<D>, seat: &mut Place<D>, number: u16) -> Pass<D>
     ensures table { seat.new.table_id ≡ seat.old.table_id }
     ensures left { seat.new.me
         ≡ (stock seat.old.me.0.opening (seat.old.me.0.first + 1) (seat.old.me.0.count - 1), []) }
-    ensures pass { result ≡ new_pass (lock_of seat.old) number }
+    ensures pass { result ≡ new_pass D.moment (lock_of seat.old) number }
 {
     let seat = top.split_seat::<Deal>(seat);
     Pass { seat, number }
@@ -91,7 +91,7 @@ pub(crate) fn deal<D: Disk>(
     requires table { (seat.old.table_id ≡ top.now.table_id) × IsWide top.now.table_id }
     requires left { IsStock seat.old.me × (seat.old.me.0.first ≡ 1) × (seat.old.me.0.count ≡ passes) }
     requires room { (dealt.old.items ≡ []) × (passes ≤ dealt.old.spare) }
-    ensures { dealt.new.items ≡ new_passes (lock_of seat.old) 1 passes }
+    ensures { dealt.new.items ≡ new_passes D.moment (lock_of seat.old) 1 passes }
 {
     for k in 0..passes {
         let pass = deal_one(top, seat, k + 1);
@@ -106,7 +106,7 @@ fn gather_one<D: Disk>(top: &Top<D>, pass: Pass<D>, host: Place<D>) -> Place<D>
     requires pass { (pass.lock.table ≡ host.table_id) × (pass.number + 1 ≡ host.me.0.first) }
     ensures table { result.table_id ≡ host.table_id }
     ensures view { result.me
-        ≡ (gathered (passing pass.lock.opening pass.number pass.seen pass.mine) host.me.0, []) }
+        ≡ (gathered (passing pass.lock.opening pass.number pass.seen pass.moment pass.earlier pass.mine) host.me.0, []) }
 {
     let Pass {
         mut seat,

@@ -4,9 +4,11 @@ ghost use mathlib.Core.List.{IsPrefix};
 ghost use Rattle.cell_base.specs.Fits.{RequestFits};
 ghost use Rattle.cell_base.specs.Histories.{IsLegal, after, entries_of, grants};
 ghost use Rattle.cell_base.specs.Plans.{plan_step};
+ghost use Rattle.durable_cell.specs.Acknowledged.{HasSince};
 ghost use Rattle.durable_cell.specs.Asked.{unsure_grant};
+ghost use Rattle.durable_cell.specs.Kept.{KeepsDisk};
 ghost use Rattle.cell_lock.specs.Openings.{Outside, first_parts, opening_of};
-ghost use Rattle.cell_lock.specs.Standing.{AreAll, Asked, KeepsName, new_passes};
+ghost use Rattle.cell_lock.specs.Standing.{AreAll, Asked, HasAnswer, KeepsName, answers_of, new_passes};
 
 use crate::board::Board;
 use crate::pass::Pass;
@@ -54,7 +56,7 @@ impl<D: Disk> SharedCell<D> {
     ) -> Result<(SharedCell<D>, List<Pass<D>>), (Durable<D>, NoMemory)>
         requires new { durable.history ≡ [] }
         ensures lock { IfOk result (λ opened. opened.0.opening ≡ opening_of durable shift passes) }
-        ensures passes { IfOk result (λ opened. opened.1 ≡ new_passes opened.0 1 passes) }
+        ensures passes { IfOk result (λ opened. opened.1 ≡ new_passes D.moment opened.0 1 passes) }
         ensures back { IfErr result (λ back. back.0 ≡ durable) }
     {
         let Ok(mut dealt) = Shelf::with_room(alloc, u64::from(passes)) else {
@@ -77,12 +79,18 @@ impl<D: Disk> SharedCell<D> {
         ensures seen { All (λ pass. IsPrefix pass.seen result.history) passes }
         ensures mine { All (λ pass. entries_of pass.number result.history ≡ pass.mine) passes }
         ensures others { (number : ℕ) → Outside self.opening number → entries_of number result.history ≡ [] }
+
+        // What a pass has seen granted, with each of its answers, is on each image since then.
+        ensures acknowledged { All (λ pass. All (λ answer. HasSince D.reads_as D.moment D.left_since result answer.1
+            (length (grants self.opening.shift answer.0))) (answers_of pass)) passes }
+        ensures disk { KeepsDisk D.reads_as D.may_leave D.moment D.left_since D.faults result }
     {
         let SharedCell { table, shift: _ } = self;
         let (_, host) = table.shared.load_new_seat::<Sit>(0);
         let host = gather(&table.shared, host, passes);
         let mut closed = table.close_with(host);
         let durable = closed.take(0);
+        let _history = durable.history();
         closed.free();
         durable
     }
@@ -98,6 +106,7 @@ impl<D: Disk> SharedCell<D> {
         requires request { RequestFits self.now.opening.cell request.now }
         ensures same { KeepsName pass.old pass.new }
         ensures seen { IsPrefix pass.old.seen pass.new.seen }
+        ensures earlier { HasAnswer pass.old pass.new }
         ensures legal { IsLegal self.now.opening.cell (first_parts self.now.opening) pass.new.seen }
         ensures within { length pass.new.seen ≤ self.now.opening.limit }
         ensures own { entries_of pass.new.number pass.new.seen ≡ pass.new.mine }
@@ -116,6 +125,7 @@ impl<D: Disk> SharedCell<D> {
         requires lock { pass.old.lock ≡ self.now }
         ensures same { KeepsName pass.old pass.new × (pass.new.mine ≡ pass.old.mine) }
         ensures seen { IsPrefix pass.old.seen pass.new.seen }
+        ensures earlier { HasAnswer pass.old pass.new }
         ensures legal { IsLegal self.now.opening.cell (first_parts self.now.opening) pass.new.seen }
         ensures within { length pass.new.seen ≤ self.now.opening.limit }
         ensures own { entries_of pass.new.number pass.new.seen ≡ pass.new.mine }

@@ -3,9 +3,10 @@ ghost use Rattle.std.specs.Prelude.{◌≡◌, ◌∷◌, [], length};
 ghost use Rattle.cell_base.specs.Fits.{RequestFits};
 ghost use Rattle.cell_base.specs.Histories.{entries_of, after};
 ghost use Rattle.cell_base.specs.Plans.{plan_step};
+ghost use Rattle.durable_cell.specs.Acknowledged.{HasSince, MovesSafely};
 ghost use Rattle.durable_cell.specs.Asked.{Answers};
 ghost use Rattle.cell_lock.specs.Openings.{Fits, first_parts};
-ghost use Rattle.cell_lock.specs.Views.{IsResting, IsActing, IsHolding, Follows, held_of, seen_of, mine_of};
+ghost use Rattle.cell_lock.specs.Views.{IsResting, IsActing, IsHolding, IsSafe, Follows, held_of, seen_of, earlier_of, mine_of};
 ghost use Rattle.cell_lock.specs.Steps.{IsWide, IsSame, GrewBy};
 
 use crate::board::{Place, Top};
@@ -23,7 +24,9 @@ pub(crate) fn take_turn<D: Disk, R: Wait>(rt: &R, top: &Top<D>, seat: &mut Place
     requires rests { IsResting seat.old.me }
     ensures same { IsSame seat.old seat.new }
     ensures holds { IsHolding seat.new.me (held_of top.now.key.durable.value seat.new.me) }
+    ensures safe { IsSafe (HasSince D.reads_as D.moment D.left_since) seat.new.me (held_of top.now.key.durable.value seat.new.me) }
     ensures follows { Follows seat.old.me.0 (held_of top.now.key.durable.value seat.new.me) }
+    ensures answers { seat.new.me.0.answers ≡ seat.old.me.0.answers }
 {
     let backoff = Backoff::new();
     for _ in rt.forever() {
@@ -56,6 +59,8 @@ fn decide<D: Disk>(
     ensures answer { Answers (held_of top.now.key.durable.value seat.old.me) shift session request.now result.0
         (held_of top.now.key.durable.value seat.new.me) }
     ensures fits { Fits seat.old.me.0.opening (held_of top.now.key.durable.value seat.new.me) }
+    ensures disk { MovesSafely D.reads_as D.may_leave D.moment D.left_since (held_of top.now.key.durable.value seat.old.me)
+        (held_of top.now.key.durable.value seat.new.me) }
     ensures length { result.1 ≡ length (held_of top.now.key.durable.value seat.new.me).history }
 {
     let durable = seat.slot_mut(top, 0);
@@ -72,6 +77,8 @@ fn grow<D: Disk>(top: &Top<D>, seat: &mut Place<D>, len: u64)
     ensures same { IsSame seat.old seat.new }
     ensures holds { IsHolding seat.new.me (held_of top.now.key.durable.value seat.new.me) }
     ensures held { held_of top.now.key.durable.value seat.new.me ≡ held_of top.now.key.durable.value seat.old.me }
+    ensures taken { seat.new.me.0.taken ≡ seat.old.me.0.taken }
+    ensures answers { seat.new.me.0.answers ≡ seat.old.me.0.answers }
 {
     top.store::<Grow>(seat, 1, len);
 }
@@ -90,6 +97,10 @@ pub(crate) fn ask_held<D: Disk>(
     requires request { RequestFits seat.old.me.0.opening.cell request.now }
     ensures same { IsSame seat.old seat.new }
     ensures holds { IsHolding seat.new.me (held_of top.now.key.durable.value seat.new.me) }
+    ensures taken { seat.new.me.0.taken ≡ seat.old.me.0.taken }
+    ensures answers { seat.new.me.0.answers ≡ seat.old.me.0.answers }
+    ensures disk { MovesSafely D.reads_as D.may_leave D.moment D.left_since (held_of top.now.key.durable.value seat.old.me)
+        (held_of top.now.key.durable.value seat.new.me) }
     ensures answer { Answers (held_of top.now.key.durable.value seat.old.me) shift session request.now result
         (held_of top.now.key.durable.value seat.new.me) }
 {
@@ -114,6 +125,8 @@ pub(crate) fn plan_held<D: Disk>(top: &Top<D>, seat: &mut Place<D>) -> Option<Re
     requires holds { IsHolding seat.old.me (held_of top.now.key.durable.value seat.old.me) }
     ensures same { seat.new.table_id ≡ seat.old.table_id }
     ensures seat { seat.new.me ≡ seat.old.me }
+    ensures acknowledged { let held = held_of top.now.key.durable.value seat.old.me in
+        HasSince D.reads_as D.moment D.left_since held (D.moment held.disk) (length held.added) }
     ensures step { result ≡ plan_step seat.old.me.0.opening.cell
         (after seat.old.me.0.opening.cell (first_parts seat.old.me.0.opening)
         (held_of top.now.key.durable.value seat.old.me).history) }
@@ -126,9 +139,13 @@ pub(crate) fn plan_held<D: Disk>(top: &Top<D>, seat: &mut Place<D>) -> Option<Re
 pub(crate) fn give_turn<D: Disk>(top: &Top<D>, seat: &mut Place<D>)
     requires table { (seat.old.table_id ≡ top.now.table_id) × IsWide top.now.table_id }
     requires holds { IsHolding seat.old.me (held_of top.now.key.durable.value seat.old.me) }
+    requires safe { IsSafe (HasSince D.reads_as D.moment D.left_since) seat.old.me (held_of top.now.key.durable.value seat.old.me) }
+    requires acknowledged { let held = held_of top.now.key.durable.value seat.old.me in
+        HasSince D.reads_as D.moment D.left_since held (D.moment held.disk) (length held.added) }
     ensures same { IsSame seat.old seat.new }
     ensures rests { IsResting seat.new.me }
     ensures seen { seen_of seat.new.me.0 ≡ (held_of top.now.key.durable.value seat.old.me).history }
+    ensures earlier { earlier_of seat.new.me.0 ≡ seat.old.me.0.answers }
     ensures mine { mine_of seat.new.me.0
         ≡ entries_of seat.old.me.0.first (held_of top.now.key.durable.value seat.old.me).history }
 {

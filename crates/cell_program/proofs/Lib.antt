@@ -1,26 +1,6 @@
-mod Counting
-mod DrainPrefixes
-mod Facts
-mod FileStatuses
-mod FirstReads
-mod Fitted
-mod JournalStatuses
-mod OpenedOnce
-mod Owed
-mod Prefixes
-mod Promising
-mod Refusals
-mod RefusedFiles
-mod RefusedJournals
-mod RefusedRecords
-mod RunDisks
-mod RunEnds
-mod RunHistories
-mod RunOwed
-mod RunPrefixes
-mod RunSessions
-mod RunStatuses
-mod Standing
-mod Starts
-mod Statuses
-mod WeakerTold
+-- Lemmas, grouped by subject.
+pub mod Headlines
+pub mod Journals
+pub mod Promised
+pub mod Statuses
+pub mod Written

@@ -1,3 +1,4 @@
-pub mod JournalRuns
-pub mod OutSink
-pub mod Runs
+pub mod Deciding
+pub mod Headline
+pub mod Promised
+pub mod Words

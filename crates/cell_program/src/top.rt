@@ -1,28 +1,32 @@
 //! The top call.
-ghost use Rattle.std.specs.Prelude.{◌≡◌, map, ⊤};
-ghost use Rattle.std.specs.String.{string_bytes};
-ghost use Rattle.outside_io.specs.Puts.{sink_told};
-ghost use Rattle.cell_words.specs.Commands.{AreThere, Comes, files_of, task_of};
-ghost use Rattle.cell_words.specs.DiskTold.{disk_told};
-ghost use Rattle.cell_words.specs.Ends.{Ends};
-ghost use Rattle.cell_words.specs.Promises.{Promises};
-ghost use Rattle.cell_words.specs.Telling.{HasJournal};
-ghost use Rattle.cell_words.specs.Told.{told_by};
+ghost use Rattle.std.specs.Prelude.{◌≡◌, ℕ, List, [], ◌∷◌, map, None};
+ghost use Rattle.cell_walks.specs.Clauses.{Ends, IsDelivered, disk_told, files_told, observed, printed, sink_told};
+ghost use Rattle.cell_walks.specs.declared.status.Status.TheVariants.{NoCommand};
+ghost use Rattle.cell_program.specs.Words.{Run, Task, journal_of, no_command, usage_text, walk_for, walk_of, words_of};
+ghost use Rattle.cell_program.specs.Deciding.{option_and_then, string_bytes, task_of};
+ghost use Rattle.cell_program.specs.Headline.{Headline};
+ghost use Rattle.cell_program.specs.Promised.{PromisesAt};
 
 use crate::disk_laws::{leaves_only_now, reads_an_image};
-use crate::running::run_on_journal;
-use crate::solo::run_solo;
-use cell_words::{
-    Command, Ended, command_of, finish, run_check, run_drain, run_plan, run_show, run_why,
-    usage_line,
-};
+use crate::words::{Command, command_of};
+use cell_commands::{run_check, run_drain, run_plan, run_show, run_why};
+use cell_texts::CommandEnd;
+use cell_walks::Status;
 use outside_io::{Disk, Files, Pace, Sink};
+use shift_commands::{run_on_journal, run_solo};
 use std::alloc::Global;
 use std::sync::Wait;
 use std::thread::Threads;
 
-/// Runs one command. The words are matched by their number and the first one; the tests come in the order: words, cell,
-/// shift or step or record, journal, the run, output. A sink that failed gives status 8 whatever else happened.
+/// How a call ended: the exit status, and the disk that was handed in.
+#[derive(Drop)]
+pub struct Ended<D> {
+    pub status: u8,
+    pub disk: D,
+}
+
+/// Runs one command. The words are matched by their number and the first one; the tests come in the order of the command's walk.
+/// A sink that failed gives status 8 whatever else happened.
 pub fn cell_main<R: Threads + Wait + Sync, F: Files, K: Sink, D: Disk + Send, P: Pace + Sync>(
     rt: &R,
     alloc: Global,
@@ -32,21 +36,36 @@ pub fn cell_main<R: Threads + Wait + Sync, F: Files, K: Sink, D: Disk + Send, P:
     disk: D,
     pace: &P,
 ) -> Ended<D>
-    // What each status tells, what is answered where nothing outside fails, and what is done to the disk: each promise by its
-    // name in `Promises`.
-    ensures promises { let disk = disk_told D.reads_as D.may_leave D.moment D.left_since D.faults disk result.disk in
-        let sink = sink_told K.taken K.was_put K.faults out.old out.new in
-        Promises (told_by F.holds F.faults files.old files.new sink disk) (F.is_sound files.old)
-        (task_of (map string_bytes words.now)) result.status }
+    // Words that are a command: what every walk promises, of the walk of that command.
+    ensures command { (task : Task) → words_of task ≡ map string_bytes words.now →
+        let files = files_told F.holds F.is_sound F.faults files.old files.new in
+        let disk = disk_told D.reads_as D.may_leave D.moment D.left_since D.faults disk result.disk in
+        PromisesAt (observed files disk) (sink_told K.taken K.was_put K.faults out.old out.new) (walk_of task) result.status }
 
-    // A command without a journal hands the disk back as it was.
-    ensures untouched { (HasJournal (task_of (map string_bytes words.now)) (λ _. ⊤) → ⊥) → result.disk ≡ disk }
+    // Words that are none: the same of the walk that prints the commands.
+    ensures none { ((task : Task) → words_of task ≡ map string_bytes words.now → ⊥) →
+        let files = files_told F.holds F.is_sound F.faults files.old files.new in
+        let disk = disk_told D.reads_as D.may_leave D.moment D.left_since D.faults disk result.disk in
+        PromisesAt (observed files disk) (sink_told K.taken K.was_put K.faults out.old out.new) no_command result.status }
+
+    // What that says of `run`, fact by fact.
+    ensures headline { (cell shift journal : List ℕ) → words_of (Run cell shift journal) ≡ map string_bytes words.now →
+        let files = files_told F.holds F.is_sound F.faults files.old files.new in
+        let disk = disk_told D.reads_as D.may_leave D.moment D.left_since D.faults disk result.disk in
+        Headline (observed files disk) (sink_told K.taken K.was_put K.faults out.old out.new) cell shift result.status }
+
+    // A command without a journal hands the disk back as it was, and so do words that are none.
+    ensures untouched { ((task : Task) → words_of task ≡ map string_bytes words.now → journal_of task ≡ None) → result.disk ≡ disk }
 {
     reads_an_image(&disk);
-    run_command(rt, alloc, words, files, out, disk, pace)
+    let CommandEnd { status, disk } = run_command(rt, alloc, words, files, out, disk, pace);
+    Ended {
+        status: status.number(),
+        disk,
+    }
 }
 
-// Finds the command and runs it.
+// Runs the command that the words are, or prints the commands with their words.
 fn run_command<R: Threads + Wait + Sync, F: Files, K: Sink, D: Disk + Send, P: Pace + Sync>(
     rt: &R,
     alloc: Global,
@@ -55,38 +74,52 @@ fn run_command<R: Threads + Wait + Sync, F: Files, K: Sink, D: Disk + Send, P: P
     out: &mut K,
     disk: D,
     pace: &P,
-) -> Ended<D>
-    ensures ends { let disk = disk_told D.reads_as D.may_leave D.moment D.left_since D.faults disk result.disk in
-        let sink = sink_told K.taken K.was_put K.faults out.old out.new in
-        Ends (Comes (told_by F.holds F.faults files.old files.new sink disk) (task_of (map string_bytes words.now))) sink result.status }
-    ensures sound { F.is_sound files.old
-        → AreThere (F.holds files.old) (files_of (task_of (map string_bytes words.now)))
-        → result.status ≡ 3 → ⊥ }
-    ensures untouched { (HasJournal (task_of (map string_bytes words.now)) (λ _. ⊤) → ⊥) → result.disk ≡ disk }
+) -> CommandEnd<D>
+    ensures ends { let files = files_told F.holds F.is_sound F.faults files.old files.new in
+        let disk = disk_told D.reads_as D.may_leave D.moment D.left_since D.faults disk result.disk in
+        Ends (observed files disk) (sink_told K.taken K.was_put K.faults out.old out.new) (walk_for (task_of (map string_bytes words.now)))
+        result.status }
+    ensures same { option_and_then journal_of (task_of (map string_bytes words.now)) ≡ None → result.disk ≡ disk }
 {
     leaves_only_now(&disk);
     match command_of(words) {
-        Command::Nothing => Ended {
-            status: finish(out, 2, &usage_line()),
+        None => CommandEnd {
+            status: print_usage(out),
             disk,
         },
-        Command::Solo { cell, shift } => Ended {
-            status: run_solo(alloc, files, out, cell, shift),
-            disk,
-        },
-        Command::Run { cell, shift, .. } => run_on_journal(
+        Some(Command::Solo { cell, shift }) => run_solo(alloc, files, out, cell, shift, disk),
+        Some(Command::Run { cell, shift, .. }) => run_on_journal(
             rt, alloc, files, out, cell, shift, disk, pace,
         ),
-        Command::Plan { cell, .. } => run_plan(alloc, files, out, cell, disk),
-        Command::Drain { cell, .. } => run_drain(alloc, files, out, cell, disk),
-        Command::Why { cell, step, .. } => run_why(alloc, files, out, cell, step, disk),
-        Command::Check { cell, record_file } => Ended {
-            status: run_check(alloc, files, out, cell, record_file),
+        Some(Command::Plan { cell, .. }) => run_plan(alloc, files, out, cell, disk),
+        Some(Command::Drain { cell, .. }) => run_drain(alloc, files, out, cell, disk),
+        Some(Command::Why { cell, step, .. }) => run_why(alloc, files, out, cell, step, disk),
+        Some(Command::Check { cell, record_file }) => run_check(
+            alloc,
+            files,
+            out,
+            cell,
+            record_file,
             disk,
-        },
-        Command::Show { cell } => Ended {
-            status: run_show(alloc, files, out, cell),
-            disk,
-        },
+        ),
+        Some(Command::Show { cell }) => run_show(alloc, files, out, cell, disk),
+    }
+}
+
+// The commands with their words.
+fn usage() -> &'static [u8]
+    ensures { result.now ≡ usage_text }
+{
+    b"usage: solo CELL SHIFT, run CELL SHIFT JOURNAL, plan CELL JOURNAL, drain CELL JOURNAL, why CELL JOURNAL STEP, check CELL RECORD, \
+      show CELL\n"
+}
+
+// Prints the commands with their words.
+fn print_usage<K: Sink>(out: &mut K) -> Status
+    ensures { IsDelivered (sink_told K.taken K.was_put K.faults out.old out.new) (printed NoCommand (usage_text ∷ [])) result }
+{
+    match out.put(usage()) {
+        Ok(()) => Status::NoCommand,
+        Err(_) => Status::SinkFault,
     }
 }

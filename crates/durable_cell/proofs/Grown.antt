@@ -17,7 +17,7 @@ use Rattle.move_journal.specs.Kept.{JournalState}
 use Rattle.move_journal.specs.declared.journal.AppendFault.{AppendFault}
 use Rattle.move_journal.specs.declared.journal.AppendFault.TheVariants.{Halted, Device}
 use Rattle.durable_cell.specs.Asked.{is_halt, halted_at, halted_in, grant_of, unsure_grant, with_entry, GoesOn}
-use Rattle.durable_cell.specs.DurableState.{DurableState, first_parts, parts, kept_disk, seen}
+use Rattle.durable_cell.specs.DurableState.{DurableState, first_parts, parts, marked, seen}
 use Rattle.durable_cell.specs.Kept.{KeepsHistory, KeepsParts, asked_by, asked_in}
 use Rattle.durable_cell.proofs.Halts.{after-push, legal-push, halted_in-push, halted_at-none, halted_at-last, halted_has_entry, beside_none, beside_some}
 
@@ -40,10 +40,11 @@ unsure_of_one shift entry = by_test (is_halt entry)
     by_test true = refl
     by_test false = refl
 
-pub keeps_history : {D : Type 0} (durable : DurableState D) (shift : ℕ) (entry : Entry) → KeepsHistory durable → durable.unsure ≡ None
+pub keeps_history : {D : Type 0} (durable : DurableState D) (disk : D) (shift : ℕ) (entry : Entry) → KeepsHistory durable
+    → durable.unsure ≡ None
     → length durable.history < durable.limit → IsToldRightly durable.cell (parts durable) entry.request entry.told []
-    → KeepsHistory (with_entry durable shift entry)
-keeps_history durable shift entry keeps none room right =
+    → KeepsHistory (with_entry durable disk shift entry)
+keeps_history durable disk shift entry keeps none room right =
     let no_halt : halted_in durable.history ≡ None = beside_none asked_by asked_in durable.unsure
     (halted_in durable.history) keeps.unsure none in
     record {
@@ -58,18 +59,19 @@ keeps_history durable shift entry keeps none room right =
       within = omega (arith, room, length_push durable.history entry);
     }
 
-pub keeps_parts : {D : Type 0} (durable : DurableState D) (shift : ℕ) (entry : Entry) (badge : Badge D) (core new_core : CoreState)
+pub keeps_parts : {D : Type 0} (durable : DurableState D) (shift : ℕ) (entry : Entry) (first second : Badge D) (core new_core : CoreState)
     (journal new_journal : JournalState D) (history_spare added_spare new_history_spare new_added_spare : ℕ)
-    → KeepsParts durable badge core journal history_spare added_spare
+    → KeepsParts durable first second core journal history_spare added_spare
     → new_core ≡ record { cell = durable.cell; parts = state_after_entry durable.cell (parts durable) entry.request entry.told }
     → (unsure_grant shift (entry ∷ []) ≡ None → new_journal.is_halted ≡ false) → new_journal.len ≤ journal.len + 1
     → new_history_spare + 1 ≡ history_spare → added_spare ≤ new_added_spare + 1
-    → KeepsParts (with_entry durable shift entry) badge new_core new_journal new_history_spare new_added_spare
-keeps_parts durable shift entry badge core new_core journal new_journal history_spare added_spare new_history_spare
+    → KeepsParts (with_entry durable new_journal.disk shift entry) first second new_core new_journal new_history_spare new_added_spare
+keeps_parts durable shift entry first second core new_core journal new_journal history_spare added_spare new_history_spare
     new_added_spare keeps core_is runs len history_room added_room =
     let more : length (durable.history ++ entry ∷ []) ≡ length durable.history + 1 = length_push durable.history entry in
     record {
       first = keeps.first;
+      second = keeps.second;
       state = core_is ∙ ap (λ ps. state_of ps) (sym (after-push durable.cell (first_parts durable) durable.history entry));
       runs = runs;
       few = omega (arith, keeps.few, more, len);
@@ -80,23 +82,24 @@ keeps_parts durable shift entry badge core new_core journal new_journal history_
     state_of : List Part → CoreState
     state_of ps = record { cell = durable.cell; parts = ps }
 
--- the badge has the disk of the opening, whatever the journal's is
-pub kept_is : {D : Type 0} (badge : Badge D) (disk other : D) → badge.views ≡ disk ∷ [] → kept_disk badge other ≡ disk
+-- a badge has the disk of which it was taken, whatever the journal's is
+pub kept_is : {D : Type 0} (badge : Badge D) (disk other : D) → badge.views ≡ disk ∷ [] → marked badge other ≡ disk
 kept_is badge disk other is = ap (λ (views : List _). slice_index_or views 0 other) is
 
-pub seen_more : {D : Type 0} (badge : Badge D) (disk : D) (core new_core : CoreState) (text : List ℕ) (journal new_journal : JournalState D)
-    (opening : List Grant) (history new_history : List Entry) (added new_added : List Grant) (unsure new_unsure : Option Grant)
-    (limit shift : ℕ)
-    (entry : Entry) → badge.views ≡ disk ∷ [] → new_core.cell ≡ core.cell → new_history ≡ history ++ entry ∷ []
+pub seen_more : {D : Type 0} (first second : Badge D) (entry_disk found : D) (core new_core : CoreState) (text : List ℕ)
+    (journal new_journal : JournalState D) (opening : List Grant) (history new_history : List Entry) (added new_added : List Grant)
+    (unsure new_unsure : Option Grant) (limit shift : ℕ) (entry : Entry) → first.views ≡ entry_disk ∷ [] → second.views ≡ found ∷ []
+    → new_core.cell ≡ core.cell → new_history ≡ history ++ entry ∷ []
     → new_added ≡ added ++ grants shift (entry ∷ []) → new_unsure ≡ unsure_grant shift (entry ∷ [])
-    → seen badge new_core text new_journal opening new_history new_added new_unsure limit
-    ≡ with_entry (seen badge core text journal opening history added unsure limit) shift entry
-seen_more badge disk core new_core text journal new_journal opening history new_history added new_added unsure new_unsure limit shift
-    entry first
-    cell_is history_is added_is unsure_is = λ i. record {
+    → seen first second new_core text new_journal opening new_history new_added new_unsure limit
+    ≡ with_entry (seen first second core text journal opening history added unsure limit) new_journal.disk shift entry
+seen_more first second entry_disk found core new_core text journal new_journal opening history new_history added new_added unsure
+    new_unsure limit shift entry first_is second_is cell_is history_is added_is unsure_is = λ i. record {
       cell = cell_is i;
       text = text;
-      entry = (kept_is badge disk new_journal.disk first ∙ sym (kept_is badge disk journal.disk first)) i;
+      entry = (kept_is first entry_disk new_journal.disk first_is ∙ sym (kept_is first entry_disk journal.disk first_is)) i;
+      found = (kept_is second found new_journal.disk second_is ∙ sym (kept_is second found journal.disk second_is)) i;
+      disk = new_journal.disk;
       opening = opening;
       history = history_is i;
       added = added_is i;

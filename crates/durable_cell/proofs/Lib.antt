@@ -1,6 +1,8 @@
 -- Lemmas, grouped by subject.
+pub mod Acknowledging
 pub mod Grown
 pub mod Halts
+pub mod Making
 pub mod Moving
 pub mod Opened
 pub mod Replaying

@@ -57,40 +57,49 @@ either_first text opening added grant file (inr after) =
           (omega arith)))) after,
     )
 
+-- one grant more behind those of the opening and those added
+pub with_grant : (text : List ℕ) (opening added : List Grant) (grant : Grant) (file : List ℕ)
+    → StandsFor file text ((opening ++ added) ++ grant ∷ []) → StandsFor file text (opening ++ (added ++ grant ∷ []))
+with_grant text opening added grant file stands = subst (λ (gs : List Grant). StandsFor file text gs)
+    (append_assoc opening added (grant ∷ [])) stands
+
+-- the grants since the opening are those that were added, while no writing has failed
+pub since_is : {D : Type 0} (durable : DurableState D) → durable.unsure ≡ None → grants_since durable ≡ durable.added
+since_is durable none = ap (λ (u : Option Grant). durable.added ++ option_to_list u) none ∙ append-nil durable.added
+
 module _ {D : Type 0} (reads_as : D → Option (List ℕ)) (may_leave : D → List ℕ → Type 0) (moment : D → ℕ)
     (left_since : D → ℕ → List ℕ → Type 0) (faults : D → ℕ) where
   -- what stands while no writing has failed
-  stands_for_added : (durable : DurableState D) (file : List ℕ) → durable.unsure ≡ None → StandsNow durable file
+  pub stands_for_added : (durable : DurableState D) (file : List ℕ) → durable.unsure ≡ None → StandsNow durable file
       → StandsFor file durable.text (durable.opening ++ durable.added)
   stands_for_added durable file none (inl stands) = stands
   stands_for_added durable file none (inr stands) = subst (λ (gs : List Grant). StandsFor file durable.text (durable.opening ++ gs))
       (ap (λ (u : Option Grant). durable.added ++ option_to_list u) none ∙ append-nil durable.added) stands
 
-  moments_more : (entry disk new : D) (text : List ℕ) (opening added since longer : List Grant) (grant : Grant) → since ≡ added
+  moments_more : (first disk new : D) (text : List ℕ) (opening added since longer : List Grant) (grant : Grant) → since ≡ added
       → longer ≡ added ++ grant ∷ []
-      → LeavesOnly moment left_since entry disk (λ file. may_leave entry file ⊎ StandsForFirst text opening since file)
+      → LeavesOnly moment left_since first disk (StandsForFirst text opening since)
       → LeavesOnly moment left_since disk new (IsBeforeOrAfter text (opening ++ added) grant)
-      → LeavesOnly moment left_since entry new (λ file. may_leave entry file ⊎ StandsForFirst text opening longer file)
-  moments_more entry disk new text opening added since longer grant is_since is_longer before after =
-      let P : List ℕ → Type 0 = λ file. may_leave entry file ⊎ StandsForFirst text opening (added ++ grant ∷ []) file in
-      let wider : (file : List ℕ) → may_leave entry file ⊎ StandsForFirst text opening since file → P file =
-      λ file. ⊎_elim (λ was. inl was) (λ stands. inr (first_of_more text opening added grant file
-      (subst (λ (gs : List Grant). StandsForFirst text opening gs file) is_since stands))) in
-      subst (λ (gs : List Grant). LeavesOnly moment left_since entry new (λ file. may_leave entry file
-      ⊎ StandsForFirst text opening gs file))
+      → LeavesOnly moment left_since first new (StandsForFirst text opening longer)
+  moments_more first disk new text opening added since longer grant is_since is_longer before after =
+      let P : List ℕ → Type 0 = StandsForFirst text opening (added ++ grant ∷ []) in
+      let wider : (file : List ℕ) → StandsForFirst text opening since file → P file =
+      λ file stands. first_of_more text opening added grant file
+      (subst (λ (gs : List Grant). StandsForFirst text opening gs file) is_since stands) in
+      subst (λ (gs : List Grant). LeavesOnly moment left_since first new (StandsForFirst text opening gs))
       (sym is_longer)
-      (followed moment left_since entry disk new P (widened moment left_since entry disk _ P before wider)
-      (widened moment left_since disk new _ P after (λ file stands. inr (either_first text opening added grant file stands))))
+      (followed moment left_since first disk new P (widened moment left_since first disk _ P before wider)
+      (widened moment left_since disk new _ P after (either_first text opening added grant)))
 
   -- a refused request leaves the disk
-  pub disk_stays : (durable : DurableState D) (disk : D) (history : List Entry) (added : List Grant) (unsure : Option Grant)
-      → added ≡ durable.added → unsure ≡ durable.unsure → KeepsDisk reads_as may_leave moment left_since faults durable disk
-      → KeepsDisk reads_as may_leave moment left_since faults (record durable { history = history; added = added; unsure = unsure }) disk
-  disk_stays durable disk history added unsure added_is unsure_is keeps =
+  pub disk_stays : (durable : DurableState D) (history : List Entry) (added : List Grant) (unsure : Option Grant)
+      → added ≡ durable.added → unsure ≡ durable.unsure → KeepsDisk reads_as may_leave moment left_since faults durable
+      → KeepsDisk reads_as may_leave moment left_since faults (record durable { history = history; added = added; unsure = unsure })
+  disk_stays durable history added unsure added_is unsure_is keeps =
       subst (λ (p : List Grant × Option Grant). KeepsDisk reads_as may_leave moment left_since faults
-      (record durable { history = history; added = p.0; unsure = p.1 }) disk)
+      (record durable { history = history; added = p.0; unsure = p.1 }))
       (λ i. (sym added_is i, sym unsure_is i))
-      (record { tells = keeps.tells; count = keeps.count; stands = keeps.stands; any_moment = keeps.any_moment })
+      (record { tells = keeps.tells; count = keeps.count; stands = keeps.stands; read = keeps.read; any_moment = keeps.any_moment })
 
   -- the clauses of an append
   pub record Appends (old new : D) (text : List ℕ) (grant : Grant) : Type 0 where
@@ -100,75 +109,81 @@ module _ {D : Type 0} (reads_as : D → Option (List ℕ)) (may_leave : D → Li
     pub any_moment : (file : List ℕ) (grants : List Grant) → reads_as old ≡ Some file → StandsFor file text grants
         → LeavesOnly moment left_since old new (IsBeforeOrAfter text grants grant)
 
-  -- the moments since the opening go on over it
-  appended_moments : (durable : DurableState D) (disk new : D) (longer : List Grant) (grant : Grant) → durable.unsure ≡ None
-      → longer ≡ durable.added ++ grant ∷ [] → KeepsDisk reads_as may_leave moment left_since faults durable disk
-      → Appends disk new durable.text grant
-      → IfSome (reads_as new) (λ _. LeavesOnly moment left_since durable.entry new
-      (λ file. may_leave durable.entry file ⊎ StandsForFirst durable.text durable.opening longer file))
-  appended_moments durable disk new longer grant none is_longer keeps appends =
-      where_told (reads_as new) (λ _. LeavesOnly moment left_since durable.entry new
-      (λ file. may_leave durable.entry file ⊎ StandsForFirst durable.text durable.opening longer file)) (λ now is_now.
+  -- where no writing has failed, what the disk told before an append stands for what was added
+  pub told_before : (durable : DurableState D) (new : D) (grant : Grant) (now : List ℕ) → durable.unsure ≡ None
+      → KeepsDisk reads_as may_leave moment left_since faults durable → Appends durable.disk new durable.text grant
+      → reads_as new ≡ Some now
+      → (old : List ℕ) × (reads_as durable.disk ≡ Some old) × StandsFor old durable.text (durable.opening ++ durable.added)
+  told_before durable new grant now none keeps appends is_now =
       let old = turned_back _ _ _ now is_now appends.tells in
-      let stands = stands_for_added durable old.0 none (told _ _ old.0 old.1 keeps.stands).0 in
-      moments_more durable.entry disk new durable.text durable.opening durable.added (grants_since durable) longer grant
-      (ap (λ (u : Option Grant). durable.added ++ option_to_list u) none ∙ append-nil durable.added) is_longer
-      (told _ _ old.0 old.1 keeps.any_moment) (appends.any_moment old.0 (durable.opening ++ durable.added) old.1 stands))
+      (old.0, old.1, stands_for_added durable old.0 none (told _ _ old.0 old.1 keeps.stands).0)
+
+  -- the moments since the disk was found go on over it
+  appended_moments : (durable : DurableState D) (new : D) (longer : List Grant) (grant : Grant) → durable.unsure ≡ None
+      → longer ≡ durable.added ++ grant ∷ [] → KeepsDisk reads_as may_leave moment left_since faults durable
+      → Appends durable.disk new durable.text grant
+      → IfSome (reads_as new) (λ _. LeavesOnly moment left_since durable.found new (StandsForFirst durable.text durable.opening longer))
+  appended_moments durable new longer grant none is_longer keeps appends =
+      where_told (reads_as new) (λ _. LeavesOnly moment left_since durable.found new
+      (StandsForFirst durable.text durable.opening longer)) (λ now is_now.
+      let old = told_before durable new grant now none keeps appends is_now in
+      moments_more durable.found durable.disk new durable.text durable.opening durable.added (grants_since durable) longer grant
+      (since_is durable none) is_longer
+      (told _ _ old.0 old.1 keeps.any_moment) (appends.any_moment old.0 (durable.opening ++ durable.added) old.1 old.2))
 
   -- a grant more on the disk
-  pub disk_has_more : (durable : DurableState D) (disk new : D) (history : List Entry) (grant : Grant) → durable.unsure ≡ None
-      → KeepsDisk reads_as may_leave moment left_since faults durable disk → Appends disk new durable.text grant
-      → faults new ≡ faults disk
-      → ((file : List ℕ) (grants : List Grant) → reads_as disk ≡ Some file → StandsFor file durable.text grants
+  pub disk_has_more : (durable : DurableState D) (new : D) (history : List Entry) (grant : Grant) → durable.unsure ≡ None
+      → KeepsDisk reads_as may_leave moment left_since faults durable → Appends durable.disk new durable.text grant
+      → faults new ≡ faults durable.disk
+      → ((file : List ℕ) (grants : List Grant) → reads_as durable.disk ≡ Some file → StandsFor file durable.text grants
       → Shows reads_as may_leave new (λ after. StandsFor after durable.text (grants ++ grant ∷ [])))
       → KeepsDisk reads_as may_leave moment left_since faults
-      (record durable { history = history; added = durable.added ++ grant ∷ []; unsure = None }) new
-  disk_has_more durable disk new history grant none keeps appends fed stored = record {
-    tells = turns_on (reads_as durable.entry) (reads_as disk) (reads_as new) keeps.tells appends.tells;
-    count = fed ∙ subst (λ (u : Option Grant). MatchOption u (faults disk
-        ≡ faults durable.entry) (λ _. Rose (faults durable.entry) (faults disk)))
+      (record durable { disk = new; history = history; added = durable.added ++ grant ∷ []; unsure = None })
+  disk_has_more durable new history grant none keeps appends fed stored = record {
+    tells = turns_on (reads_as durable.entry) (reads_as durable.disk) (reads_as new) keeps.tells appends.tells;
+    count = fed ∙ subst (λ (u : Option Grant). MatchOption u (faults durable.disk
+        ≡ faults durable.entry) (λ _. Rose (faults durable.entry) (faults durable.disk)))
         none keeps.count;
     stands = where_told (reads_as new) (λ file. Stands file × ((c : List ℕ) → may_leave new c → Stands c)) (λ now is_now.
-        let old = turned_back _ _ _ now is_now appends.tells in
-        let stands = stands_for_added durable old.0 none (told _ _ old.0 old.1 keeps.stands).0 in
-        let both = told _ _ now is_now (stored old.0 (durable.opening ++ durable.added) old.1 stands) in
+        let old = told_before durable new grant now none keeps appends is_now in
+        let both = told _ _ now is_now (stored old.0 (durable.opening ++ durable.added) old.1 old.2) in
         (longer now both.0, λ c left. longer c (both.1 c left)));
-    any_moment = appended_moments durable disk new _ grant none (append-nil (durable.added ++ grant ∷ [])) keeps appends;
+    read = keeps.read;
+    any_moment = appended_moments durable new _ grant none (append-nil (durable.added ++ grant ∷ [])) keeps appends;
   }
     where
       Stands : List ℕ → Type 0
-      Stands file = StandsNow (record durable { history = history; added = durable.added ++ grant ∷ []; unsure = None }) file
+      Stands file = StandsNow (record durable { disk = new; history = history; added = durable.added ++ grant ∷ []; unsure = None }) file
 
       longer : (file : List ℕ) → StandsFor file durable.text ((durable.opening ++ durable.added) ++ grant ∷ []) → Stands file
-      longer file stands = inl (subst (λ (gs : List Grant). StandsFor file durable.text gs)
-          (append_assoc durable.opening durable.added (grant ∷ [])) stands)
+      longer file stands = inl (with_grant durable.text durable.opening durable.added grant file stands)
 
   -- a grant of which nobody knows whether it is on the disk
-  pub disk_is_unsure : (durable : DurableState D) (disk new : D) (history : List Entry) (grant : Grant) → durable.unsure ≡ None
-      → KeepsDisk reads_as may_leave moment left_since faults durable disk → Appends disk new durable.text grant
-      → Rose (faults disk) (faults new)
+  pub disk_is_unsure : (durable : DurableState D) (new : D) (history : List Entry) (grant : Grant) → durable.unsure ≡ None
+      → KeepsDisk reads_as may_leave moment left_since faults durable → Appends durable.disk new durable.text grant
+      → Rose (faults durable.disk) (faults new)
       → KeepsDisk reads_as may_leave moment left_since faults
-      (record durable { history = history; added = durable.added ++ []; unsure = Some grant }) new
-  disk_is_unsure durable disk new history grant none keeps appends rose = record {
-    tells = turns_on (reads_as durable.entry) (reads_as disk) (reads_as new) keeps.tells appends.tells;
+      (record durable { disk = new; history = history; added = durable.added ++ []; unsure = Some grant })
+  disk_is_unsure durable new history grant none keeps appends rose = record {
+    tells = turns_on (reads_as durable.entry) (reads_as durable.disk) (reads_as new) keeps.tells appends.tells;
     count = subst (λ (n : ℕ). Rose n (faults new))
-        (subst (λ (u : Option Grant). MatchOption u (faults disk ≡ faults durable.entry) (λ _. Rose (faults durable.entry) (faults disk)))
+        (subst (λ (u : Option Grant). MatchOption u (faults durable.disk ≡ faults durable.entry)
+        (λ _. Rose (faults durable.entry) (faults durable.disk)))
         none keeps.count) rose;
     stands = where_told (reads_as new) (λ file. Stands file × ((c : List ℕ) → may_leave new c → Stands c)) (λ now is_now.
-        let old = turned_back _ _ _ now is_now appends.tells in
-        let stands = stands_for_added durable old.0 none (told _ _ old.0 old.1 keeps.stands).0 in
-        let both = told _ _ now is_now (appends.kept old.0 (durable.opening ++ durable.added) old.1 stands) in
+        let old = told_before durable new grant now none keeps appends is_now in
+        let both = told _ _ now is_now (appends.kept old.0 (durable.opening ++ durable.added) old.1 old.2) in
         (either now both.0, λ c left. either c (both.1 c left)));
-    any_moment = appended_moments durable disk new _ grant none
+    read = keeps.read;
+    any_moment = appended_moments durable new _ grant none
         (ap (λ (gs : List Grant). gs ++ grant ∷ []) (append-nil durable.added)) keeps appends;
   }
     where
       Stands : List ℕ → Type 0
-      Stands file = StandsNow (record durable { history = history; added = durable.added ++ []; unsure = Some grant }) file
+      Stands file = StandsNow (record durable { disk = new; history = history; added = durable.added ++ []; unsure = Some grant }) file
 
       either : (file : List ℕ) → IsBeforeOrAfter durable.text (durable.opening ++ durable.added) grant file → Stands file
       either file (inl before) = inl (subst (λ (gs : List Grant). StandsFor file durable.text (durable.opening ++ gs))
           (sym (append-nil durable.added)) before)
-      either file (inr after) = inr (subst (λ (gs : List Grant). StandsFor file durable.text gs)
-          (append_assoc durable.opening durable.added (grant ∷ [])
-          ∙ ap (λ (gs : List Grant). durable.opening ++ (gs ++ grant ∷ [])) (sym (append-nil durable.added))) after)
+      either file (inr after) = inr (subst (λ (gs : List Grant). StandsFor file durable.text (durable.opening ++ (gs ++ grant ∷ [])))
+          (sym (append-nil durable.added)) (with_grant durable.text durable.opening durable.added grant file after))

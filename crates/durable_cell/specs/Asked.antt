@@ -1,9 +1,9 @@
 -- What an ask answers, and what it makes of a durable cell.
-use Rattle.std.specs.Prelude.{◌≡◌, ℕ, ◌<◌, Bool, Option, Some, None, Result, Ok, Err, List, [], ◌∷◌, ◌++◌, length}
+use Rattle.std.specs.Prelude.{◌≡◌, ℕ, ◌<◌, Bool, Option, Some, None, Result, Ok, Err, List, [], ◌∷◌, ◌++◌, length, ⊤}
 use Rattle.std.specs.List.{find, position}
 use Rattle.std.specs.Option.{option_map}
 use Rattle.cell_base.specs.declared.requests.Reply.{Reply}
-use Rattle.cell_base.specs.declared.requests.Reply.TheVariants.{Granted}
+use Rattle.cell_base.specs.declared.requests.Reply.TheVariants.{Granted, Refused}
 use Rattle.cell_base.specs.declared.requests.Request.{Request}
 use Rattle.cell_base.specs.declared.requests.Told.{Told}
 use Rattle.cell_base.specs.declared.requests.Told.TheVariants.{Answered}
@@ -12,6 +12,7 @@ use Rattle.cell_base.specs.declared.shifts.Entry.{Entry}
 use Rattle.cell_base.specs.declared.shifts.Grant.{Grant}
 use Rattle.cell_base.specs.Histories.{was_halted, grants}
 use Rattle.cell_base.specs.Outcomes.{reply_to}
+use Rattle.outside_io.specs.Causes.{Rose}
 use Rattle.durable_cell.specs.DurableState.{DurableState, parts}
 use Rattle.durable_cell.specs.declared.fault.AskFault.{AskFault}
 use Rattle.durable_cell.specs.declared.fault.AskFault.TheVariants.{Halted, Full, Device}
@@ -40,9 +41,10 @@ unsure_grant shift entries = option_map (grant_of shift) (halted_in entries)
 abbrev pub entry : ℕ → Request → Told → Entry
 entry session request told = record { session = session; request = request; told = told }
 
--- one entry more, decided in this shift, behind a history without a halt
-abbrev pub with_entry : {D : Type 0} → DurableState D → ℕ → Entry → DurableState D
-with_entry durable shift e = record durable {
+-- one entry more, decided in this shift, behind a history without a halt, and the disk after it
+abbrev pub with_entry : {D : Type 0} → DurableState D → D → ℕ → Entry → DurableState D
+with_entry durable disk shift e = record durable {
+  disk = disk;
   history = durable.history ++ e ∷ [];
   added = durable.added ++ grants shift (e ∷ []);
   unsure = unsure_grant shift (e ∷ []);
@@ -56,10 +58,26 @@ pub record GoesOn {D : Type 0} (durable : DurableState D) : Type 0 where
 -- The outcome's reply and one entry more; nothing, where a halt or the limit forbids it; or the request as the halt.
 abbrev pub Answers : {D : Type 0} → DurableState D → ℕ → ℕ → Request → Result Reply AskFault → DurableState D → Type 0
 Answers old shift session request (Ok reply) new =
-    (new ≡ with_entry old shift (entry session request (Answered reply))) × (reply ≡ reply_to old.cell (parts old) request) × GoesOn old
+    (new ≡ with_entry old new.disk shift (entry session request (Answered reply))) × (reply ≡ reply_to old.cell (parts old) request)
+    × GoesOn old
 Answers old shift session request (Err (Halted at)) new = (new ≡ old) × (halted_at old.history ≡ Some at)
 Answers old shift session request (Err (Full len)) new =
     (new ≡ old) × (halted_at old.history ≡ None) × (len ≡ length old.history) × (length old.history ≡ old.limit)
 Answers old shift session request (Err (Device at)) new =
-    (new ≡ with_entry old shift (entry session request told.Halted)) × (reply_to old.cell (parts old) request ≡ Granted)
+    (new ≡ with_entry old new.disk shift (entry session request told.Halted)) × (reply_to old.cell (parts old) request ≡ Granted)
     × (at ≡ length old.history) × GoesOn old
+
+-- no call of the device is made but for a request that is granted
+abbrev pub WritesGrants : {D : Type 0} → D → D → Result Reply AskFault → Type 0
+WritesGrants old new (Ok Granted) = ⊤
+WritesGrants old new (Ok (Refused why)) = new ≡ old
+WritesGrants old new (Err (Halted at)) = new ≡ old
+WritesGrants old new (Err (Full len)) = new ≡ old
+WritesGrants old new (Err (Device at)) = ⊤
+
+-- the count rises where the answer is that the device failed, and stays with every other answer
+abbrev pub HasAskCause : {D : Type 0} → (D → ℕ) → D → D → Result Reply AskFault → Type 0
+HasAskCause faults old new (Ok reply) = faults new ≡ faults old
+HasAskCause faults old new (Err (Halted at)) = faults new ≡ faults old
+HasAskCause faults old new (Err (Full len)) = faults new ≡ faults old
+HasAskCause faults old new (Err (Device at)) = Rose (faults old) (faults new)

@@ -9,12 +9,15 @@ use Rattle.cell_base.specs.Histories.{after, replay}
 use Rattle.admission_core.specs.CoreState.{CoreState}
 use Rattle.move_journal.specs.Kept.{JournalState}
 
--- The cell and its text; the disk as it was handed to `open`, and the grants for which it stood; since then the decided requests, the
--- grants that were added to the journal, and the one whose writing failed; and how many requests may be decided.
+-- The cell and its text. The disk three times: as it was handed to `open`, as it was found there, with all grants read and nothing written
+-- yet, and as it is now. The grants for which it stood; since then the decided requests, the grants that were added to the journal, and the
+-- one whose writing failed; and how many requests may be decided.
 pub record DurableState (D : Type 0) : Type 0 where
   pub cell : Cell
   pub text : List ℕ
   pub entry : D
+  pub found : D
+  pub disk : D
   pub opening : List Grant
   pub history : List Entry
   pub added : List Grant
@@ -29,17 +32,19 @@ first_parts durable = replay durable.cell durable.opening
 abbrev pub parts : {D : Type 0} → DurableState D → List Part
 parts durable = after durable.cell (first_parts durable) durable.history
 
--- the disk that a badge keeps, which was taken of one
-abbrev pub kept_disk : {D : Type 0} → Badge D → D → D
-kept_disk badge other = slice_index_or badge.views 0 other
+-- the disk of which a badge was taken; `other` stands for it where the badge has none
+abbrev pub marked : {D : Type 0} → Badge D → D → D
+marked badge other = slice_index_or badge.views 0 other
 
 -- the durable cell of these parts
-abbrev pub seen : {D : Type 0} → Badge D → CoreState → List ℕ → JournalState D → List Grant → List Entry
+abbrev pub seen : {D : Type 0} → Badge D → Badge D → CoreState → List ℕ → JournalState D → List Grant → List Entry
     → List Grant → Option Grant → ℕ → DurableState D
-seen badge core text journal opening history added unsure limit = record {
+seen entry found core text journal opening history added unsure limit = record {
   cell = core.cell;
   text = text;
-  entry = kept_disk badge journal.disk;
+  entry = marked entry journal.disk;
+  found = marked found journal.disk;
+  disk = journal.disk;
   opening = opening;
   history = history;
   added = added;

@@ -13,6 +13,7 @@ use Rattle.outside_io.specs.Disk.{Turns, LeavesOnly}
 use Rattle.move_journal.specs.Disks.{Shows}
 use Rattle.move_journal.specs.Journals.{StandsFor}
 use Rattle.move_journal.specs.Kept.{JournalState}
+use Rattle.shift_recovery.specs.Reads.{OnlyReads}
 use Rattle.durable_cell.specs.declared.replays.TheConstants.{MAX_ROOM}
 use Rattle.durable_cell.specs.Asked.{halted_in}
 use Rattle.durable_cell.specs.DurableState.{DurableState, first_parts, parts}
@@ -45,6 +46,10 @@ abbrev pub StandsNow : {D : Type 0} → DurableState D → List ℕ → Type 0
 StandsNow durable file = StandsFor file durable.text (durable.opening ++ durable.added)
     ⊎ StandsFor file durable.text (durable.opening ++ grants_since durable)
 
+-- the file stands for what stood before a call, or for what stands after it
+abbrev pub StandsThen : {D : Type 0} → DurableState D → DurableState D → List ℕ → Type 0
+StandsThen old new file = StandsNow old file ⊎ StandsNow new file
+
 -- the file stands for these grants, and some first ones of those since
 abbrev pub StandsForFirst : List ℕ → List Grant → List Grant → List ℕ → Type 0
 StandsForFirst text opening since file = (n : ℕ) × StandsFor file text (opening ++ take n since)
@@ -53,21 +58,24 @@ StandsForFirst text opening since file = (n : ℕ) × StandsFor file text (openi
 abbrev pub StandsBetween : {D : Type 0} → DurableState D → List ℕ → Type 0
 StandsBetween durable file = StandsForFirst durable.text durable.opening (grants_since durable) file
 
--- The disk as it now is: it tells where it told; its count rose exactly where a writing failed; what it reads as and what a crash may
--- leave stand for what was granted; and each image since the opening was one of then or stands for a first part of it.
+-- The disk tells where it told. Its count rose exactly where a writing failed. What it reads as and what a crash now may leave stand for
+-- all that was granted. It was only read until it was found; and each image at each moment since then stands for a first part of what was
+-- granted.
 pub record KeepsDisk {D : Type 0} (reads_as : D → Option (List ℕ)) (may_leave : D → List ℕ → Type 0) (moment : D → ℕ)
-    (left_since : D → ℕ → List ℕ → Type 0) (faults : D → ℕ) (durable : DurableState D) (disk : D) : Type 0 where
-  pub tells : Turns (reads_as durable.entry) (reads_as disk) (λ _ _. ⊤)
-  pub count : MatchOption durable.unsure (faults disk ≡ faults durable.entry) (λ _. Rose (faults durable.entry) (faults disk))
-  pub stands : Shows reads_as may_leave disk (StandsNow durable)
-  pub any_moment : IfSome (reads_as disk) (λ _. LeavesOnly moment left_since durable.entry disk
-      (λ file. may_leave durable.entry file ⊎ StandsBetween durable file))
+    (left_since : D → ℕ → List ℕ → Type 0) (faults : D → ℕ) (durable : DurableState D) : Type 0 where
+  pub tells : Turns (reads_as durable.entry) (reads_as durable.disk) (λ _ _. ⊤)
+  pub count : MatchOption durable.unsure (faults durable.disk ≡ faults durable.entry)
+      (λ _. Rose (faults durable.entry) (faults durable.disk))
+  pub stands : Shows reads_as may_leave durable.disk (StandsNow durable)
+  pub read : OnlyReads reads_as may_leave moment left_since durable.entry durable.found
+  pub any_moment : IfSome (reads_as durable.disk) (λ _. LeavesOnly moment left_since durable.found durable.disk (StandsBetween durable))
 
--- The badge has the disk of the opening, the core stands behind the history, the journal runs until a writing fails, and no shelf gets
+-- The badges have the two earlier disks, the core stands behind the history, the journal runs until a writing fails, and no shelf gets
 -- full.
-pub record KeepsParts {D : Type 0} (durable : DurableState D) (badge : Badge D) (core : CoreState) (journal : JournalState D)
+pub record KeepsParts {D : Type 0} (durable : DurableState D) (entry found : Badge D) (core : CoreState) (journal : JournalState D)
     (history_spare added_spare : ℕ) : Type 0 where
-  pub first : badge.views ≡ durable.entry ∷ []
+  pub first : entry.views ≡ durable.entry ∷ []
+  pub second : found.views ≡ durable.found ∷ []
   pub state : core ≡ record { cell = durable.cell; parts = parts durable }
   pub runs : durable.unsure ≡ None → journal.is_halted ≡ false
   pub few : journal.len + durable.limit ≤ 2 * MAX_ROOM + length durable.history
@@ -76,7 +84,7 @@ pub record KeepsParts {D : Type 0} (durable : DurableState D) (badge : Badge D) 
 
 -- all of it
 abbrev pub Keeps : {D : Type 0} → (D → Option (List ℕ)) → (D → List ℕ → Type 0) → (D → ℕ) → (D → ℕ → List ℕ → Type 0) → (D → ℕ)
-    → DurableState D → Badge D → CoreState → JournalState D → ℕ → ℕ → Type 0
-Keeps reads_as may_leave moment left_since faults durable badge core journal history_spare added_spare =
-    KeepsHistory durable × KeepsDisk reads_as may_leave moment left_since faults durable journal.disk
-    × KeepsParts durable badge core journal history_spare added_spare
+    → DurableState D → Badge D → Badge D → CoreState → JournalState D → ℕ → ℕ → Type 0
+Keeps reads_as may_leave moment left_since faults durable entry found core journal history_spare added_spare =
+    KeepsHistory durable × KeepsDisk reads_as may_leave moment left_since faults durable
+    × KeepsParts durable entry found core journal history_spare added_spare

@@ -1,8 +1,10 @@
 -- What the contracts cite.
+pub mod Acknowledged
 pub mod Asked
 pub mod DurableState
 pub mod Kept
 pub mod Made
+pub mod Moments
 pub mod Openings
 pub mod Replayed
 pub mod Reserved

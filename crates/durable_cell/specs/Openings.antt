@@ -8,14 +8,17 @@ use Rattle.shift_recovery.specs.Reads.{OnlyReads}
 use Rattle.durable_cell.specs.declared.opening.Opening.{Opening}
 use Rattle.durable_cell.specs.declared.opening.Opening.TheVariants.{Open, Refused, Device, Memory}
 use Rattle.durable_cell.specs.DurableState.{DurableState}
+use Rattle.durable_cell.specs.Kept.{KeepsDisk}
 use Rattle.durable_cell.specs.Made.{IsUnmade}
 
--- a durable cell of this cell and its text, on this disk, in which nothing was decided yet
-abbrev pub fresh : {D : Type 0} → Cell → List ℕ → D → List Grant → ℕ → DurableState D
-fresh cell text disk opening limit = record {
+-- a durable cell of this cell and its text, on a disk as it was handed in, found and left, in which nothing was decided yet
+abbrev pub fresh : {D : Type 0} → Cell → List ℕ → D → D → D → List Grant → ℕ → DurableState D
+fresh cell text entry found disk opening limit = record {
   cell = cell;
   text = text;
-  entry = disk;
+  entry = entry;
+  found = found;
+  disk = disk;
   opening = opening;
   history = [];
   added = [];
@@ -25,7 +28,7 @@ fresh cell text disk opening limit = record {
 
 -- what is opened is such a cell
 abbrev pub IsNew : {D : Type 0} → Cell → List ℕ → D → ℕ → Opening D → Type 0
-IsNew cell text disk limit (Open durable) = durable ≡ fresh cell text disk durable.opening limit
+IsNew cell text disk limit (Open durable) = durable ≡ fresh cell text disk durable.found durable.disk durable.opening limit
 IsNew cell text disk limit (Refused other why) = ⊤
 IsNew cell text disk limit (Device other) = ⊤
 IsNew cell text disk limit (Memory other) = ⊤
@@ -44,18 +47,21 @@ IsFound grants (Refused disk why) = ⊥
 IsFound grants (Device disk) = ⊤
 IsFound grants (Memory disk) = ⊤
 
--- the count rises where the answer is that the device failed, and stays with every other answer; what is opened keeps that itself
+-- the count rises where the answer is that the device failed, and stays with every other answer
 abbrev pub HasCause : {D : Type 0} → (D → ℕ) → D → Opening D → Type 0
-HasCause faults old (Open durable) = ⊤
+HasCause faults old (Open durable) = faults durable.disk ≡ faults old
 HasCause faults old (Refused disk why) = faults disk ≡ faults old
 HasCause faults old (Device disk) = Rose (faults old) (faults disk)
 HasCause faults old (Memory disk) = faults disk ≡ faults old
 
--- A disk that is handed back was only read; or the device failed in the making of a journal on a blank one.
-abbrev pub Leaves : {D : Type 0} → (D → Option (List ℕ)) → (D → List ℕ → Type 0) → (D → ℕ) → (D → ℕ → List ℕ → Type 0) → D
-    → List ℕ → Opening D → Type 0
-Leaves reads_as may_leave moment left_since old text (Open durable) = ⊤
-Leaves reads_as may_leave moment left_since old text (Refused disk why) = OnlyReads reads_as may_leave moment left_since old disk
-Leaves reads_as may_leave moment left_since old text (Device disk) =
+-- What is opened keeps its disk. A disk that is handed back was only read; or the device failed in the making of a journal on a blank one.
+abbrev pub Leaves : {D : Type 0} → (D → Option (List ℕ)) → (D → List ℕ → Type 0) → (D → ℕ) → (D → ℕ → List ℕ → Type 0) → (D → ℕ)
+    → D → List ℕ → Opening D → Type 0
+Leaves reads_as may_leave moment left_since faults old text (Open durable) =
+    KeepsDisk reads_as may_leave moment left_since faults durable
+Leaves reads_as may_leave moment left_since faults old text (Refused disk why) =
+    OnlyReads reads_as may_leave moment left_since old disk
+Leaves reads_as may_leave moment left_since faults old text (Device disk) =
     OnlyReads reads_as may_leave moment left_since old disk ⊎ IsUnmade reads_as may_leave moment left_since old text disk
-Leaves reads_as may_leave moment left_since old text (Memory disk) = OnlyReads reads_as may_leave moment left_since old disk
+Leaves reads_as may_leave moment left_since faults old text (Memory disk) =
+    OnlyReads reads_as may_leave moment left_since old disk

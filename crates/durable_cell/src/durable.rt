@@ -7,14 +7,15 @@ ghost use Rattle.cell_base.specs.Outcomes.{reply_to};
 ghost use Rattle.cell_base.specs.Policy.{IsAdmitted};
 ghost use Rattle.cell_base.specs.declared.requests.Reply.TheVariants.{Granted};
 ghost use Rattle.move_journal.specs.Journals.{StandsFor};
-ghost use Rattle.durable_cell.specs.Asked.{Answers, GoesOn, entry};
+ghost use Rattle.durable_cell.specs.Acknowledged.{HasSince, MovesSafely};
+ghost use Rattle.durable_cell.specs.Asked.{Answers, GoesOn, HasAskCause, WritesGrants, entry};
 ghost use Rattle.durable_cell.specs.DurableState.{first_parts, parts};
 ghost use Rattle.durable_cell.specs.Kept.{KeepsHistory, KeepsDisk};
 ghost use Rattle.durable_cell.specs.Reserved.{IsReserved};
 ghost use Rattle.durable_cell.specs.Openings.{IsNew, IsAnswer, IsFound, HasCause, Leaves};
 ghost use Rattle.durable_cell.specs.Replayed.{AreDue, opened_as};
 
-use crate::entry_disk::keep_entry;
+use crate::marks::mark_of;
 use crate::{AskFault, Finished, MAX_ROOM, Opening, Restored, restore};
 use admission_core::Core;
 use atomic_table::Badge;
@@ -28,8 +29,9 @@ use std::marker::Model;
 /// A core with the journal of its grants. Contracts see it as a `DurableState`. All memory is taken at the opening.
 #[derive(Drop)]
 pub struct Durable<D: Disk> {
-    /// The disk as it was handed to `open`, for contracts alone.
+    /// The disk as it was handed to `open`, and as it was found there, for contracts alone.
     entry: Badge<D>,
+    found: Badge<D>,
     core: Core,
     text: List<u8>,
     journal: Journal<D>,
@@ -46,25 +48,32 @@ impl<D: Disk> Model for Durable<D> {
 
     ghost Value = { DurableState D };
 
-    ghost view = { λ s. seen s.entry s.core s.text s.journal s.opening s.history.items s.added.items s.unsure s.limit };
+    ghost view = { λ s. seen s.entry s.found s.core s.text s.journal s.opening s.history.items s.added.items s.unsure s.limit };
 
     ghost invariant = { λ s. Keeps D.reads_as D.may_leave D.moment D.left_since D.faults
-        (seen s.entry s.core s.text s.journal s.opening s.history.items s.added.items s.unsure s.limit)
-        s.entry s.core s.journal s.history.spare s.added.spare };
+        (seen s.entry s.found s.core s.text s.journal s.opening s.history.items s.added.items s.unsure s.limit)
+        s.entry s.found s.core s.journal s.history.spare s.added.spare };
 }
 
 // The memory of a durable cell.
-struct Shelves {
+struct Shelves<D> {
+    found: Badge<D>,
     text: List<u8>,
     history: Shelf<Entry>,
     added: Shelf<Grant>,
 }
 
-// A copy of the text, and room for so many entries and their grants.
-fn reserve(alloc: Global, cell_text: &[u8], limit: u64) -> Result<Shelves, NoMemory>
-    ensures { IfOk result (IsReserved cell_text.now limit) }
+// A mark of the disk, a copy of the text, and room for so many entries and their grants.
+fn reserve<D: Disk>(
+    alloc: Global,
+    disk: &D,
+    cell_text: &[u8],
+    limit: u64,
+) -> Result<Shelves<D>, NoMemory>
+    ensures { IfOk result (IsReserved disk.now cell_text.now limit) }
 {
     Ok(Shelves {
+        found: mark_of(alloc, disk)?,
         text: List::copy_of(alloc, cell_text)?,
         history: Shelf::with_room(alloc, limit)?,
         added: Shelf::with_room(alloc, limit)?,
@@ -89,13 +98,13 @@ impl<D: Disk> Durable<D> {
         ensures new { IsNew cell cell_text.now disk limit result }
         ensures exact { IfSome (D.reads_as disk) (λ file. IsAnswer result (opened_as cell file cell_text.now room)) }
         ensures cause { HasCause D.faults disk result }
-        ensures leaves { Leaves D.reads_as D.may_leave D.moment D.left_since disk cell_text.now result }
+        ensures leaves { Leaves D.reads_as D.may_leave D.moment D.left_since D.faults disk cell_text.now result }
 
         // What a durable cell may leave is opened.
         ensures stands { (file : Sequence ℕ) (grants : Sequence Grant) → D.reads_as disk ≡ Some file
             → StandsFor file cell_text.now grants → AreDue cell grants → length grants ≤ room → IsFound grants result }
     {
-        let Ok(entry) = keep_entry(alloc, &disk) else {
+        let Ok(entry) = mark_of(alloc, &disk) else {
             return Opening::Memory { disk };
         };
         match restore(alloc, cell, cell_text, disk, room) {
@@ -104,12 +113,13 @@ impl<D: Disk> Durable<D> {
                 stored,
                 grants,
             } => {
-                let Ok(shelves) = reserve(alloc, cell_text, limit) else {
+                let Ok(shelves) = reserve(alloc, stored.disk(), cell_text, limit) else {
                     return Opening::Memory {
                         disk: stored.into_disk(),
                     };
                 };
                 let Shelves {
+                    found,
                     text,
                     history,
                     added,
@@ -117,6 +127,7 @@ impl<D: Disk> Durable<D> {
                 match stored.into_journal(cell_text) {
                     Ok(journal) => Opening::Open(Durable {
                         entry,
+                        found,
                         core,
                         text,
                         journal,
@@ -141,6 +152,10 @@ impl<D: Disk> Durable<D> {
         ensures answer { Answers self.old shift session request.now result self.new }
         ensures legal { IsLegal self.new.cell (first_parts self.new) self.new.history }
         ensures within { length self.new.history ≤ self.new.limit }
+
+        ensures written { WritesGrants self.old.disk self.new.disk result }
+        ensures cause { HasAskCause D.faults self.old.disk self.new.disk result }
+        ensures disk { MovesSafely D.reads_as D.may_leave D.moment D.left_since self.old self.new }
     {
         let len = self.history.len();
         if self.unsure.is_some() {
@@ -173,6 +188,8 @@ impl<D: Disk> Durable<D> {
         ensures answer { Answers self.old grant.shift grant.session grant.request result self.new }
         ensures legal { IsLegal self.new.cell (first_parts self.new) self.new.history }
         ensures within { length self.new.history ≤ self.new.limit }
+        ensures cause { HasAskCause D.faults self.old.disk self.new.disk result }
+        ensures disk { MovesSafely D.reads_as D.may_leave D.moment D.left_since self.old self.new }
     {
         match self.journal.append(&grant) {
             Ok(()) => {
@@ -204,6 +221,7 @@ impl<D: Disk> Durable<D> {
     pub fn history(&self) -> &[Entry]
         ensures history { result.now ≡ self.now.history }
         ensures kept { KeepsHistory self.now }
+        ensures keeps_disk { KeepsDisk D.reads_as D.may_leave D.moment D.left_since D.faults self.now }
     {
         self.history.as_slice()
     }
@@ -220,6 +238,7 @@ impl<D: Disk> Durable<D> {
         ensures core { result.now ≡ record { cell = self.now.cell; parts = parts self.now } }
         ensures admitted { IsAdmitted self.now.cell (parts self.now) }
         ensures kept { KeepsHistory self.now }
+        ensures acknowledged { HasSince D.reads_as D.moment D.left_since self.now (D.moment self.now.disk) (length self.now.added) }
     {
         let _cell = self.core.cell();
         &self.core
@@ -230,11 +249,13 @@ impl<D: Disk> Durable<D> {
         ensures core { result.core ≡ record { cell = self.cell; parts = parts self } }
         ensures history { result.history ≡ self.history }
         ensures after { result.after ≡ length self.opening }
+        ensures disk { result.disk ≡ self.disk }
         ensures kept { KeepsHistory self }
-        ensures disk { KeepsDisk D.reads_as D.may_leave D.moment D.left_since D.faults self result.disk }
+        ensures keeps_disk { KeepsDisk D.reads_as D.may_leave D.moment D.left_since D.faults self }
     {
         let Durable {
             entry: _,
+            found: _,
             core,
             text: _,
             journal,

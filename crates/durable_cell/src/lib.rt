@@ -13,18 +13,19 @@
 //!
 //! `open` recovers what stands on the disk, replays it, takes all memory, and last makes a journal where there is none. `ask`
 //! decides a request by the core; a request that is granted is written to the journal, and only then is it applied and
-//! answered. So whatever moment a crash comes at, what it leaves stands for the grants of the opening and the first ones
-//! since, and each grant that was answered is among them; `open` finds these again. Where the writing fails the history ends
-//! with a halt: nobody knows whether that one grant is on the disk, the core goes on without it, and every later `ask` is
-//! answered `Halted`, until the disk is opened again.
+//! answered. So whatever moment a crash comes at, from the one at which the disk was found, what it leaves stands for the
+//! grants of the opening and the first ones since, and each grant that was answered is among them; `open` finds these again.
+//! Where nothing is granted the disk is not touched. Where the writing fails the history ends with a halt: nobody knows whether
+//! that one grant is on the disk, the core goes on without it, and every later `ask` is answered `Halted`, until the disk is
+//! opened again.
 //!
 //! `restore` is the first half of `open`: it reads a disk and replays its grants, and writes nothing.
 #![tactic(auto)]
 
 mod durable;
-mod entry_disk;
 mod fault;
 mod finished;
+mod marks;
 mod opening;
 mod replays;
 mod restored;

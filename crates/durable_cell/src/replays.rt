@@ -5,7 +5,7 @@ ghost use Rattle.durable_cell.specs.Replayed.{is_due, AreDue, replayed};
 
 use admission_core::Core;
 use cell_base::{Grant, Reply, Request, request_fits};
-use move_journal::MAX_CELL_TEXT;
+use move_journal::{ENTRY_SIZE, MAX_CELL_TEXT, TEXT_AT};
 use shift_recovery::JournalFault;
 
 /// The most grants of a journal for which there may be room, and the most entries of a history.
@@ -23,13 +23,13 @@ pub fn replay(core: &mut Core, cell_text: &[u8], grants: &[Grant]) -> Result<(),
     ensures due { OnOk result (AreDue core.old.cell grants.now) }
     ensures state { OnOk result (core.new ≡ record core.old { parts = replay core.old.cell grants.now }) }
 {
-    let mut gate = 13 + cell_text.len() as u64;
+    let mut gate = TEXT_AT + cell_text.len() as u64;
     for grant in grants {
         if !is_due(core, &grant.request) {
             return Err(JournalFault::Damaged { at: gate });
         }
         core.apply(&grant.request);
-        gate += 17;
+        gate += ENTRY_SIZE;
     }
     Ok(())
 }

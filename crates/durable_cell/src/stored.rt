@@ -17,6 +17,16 @@ pub enum Stored<D: Disk> {
 }
 
 impl<D: Disk> Stored<D> {
+    /// The disk.
+    pub(crate) fn disk(&self) -> &D
+        ensures { result.now ≡ disk_stored self.now }
+    {
+        match self {
+            Stored::Nothing(blank) => blank.disk(),
+            Stored::Journal(journal) => journal.disk(),
+        }
+    }
+
     /// The disk, as it is.
     pub fn into_disk(self) -> D
         ensures { result ≡ disk_stored self }

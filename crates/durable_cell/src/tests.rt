@@ -4,7 +4,7 @@ use cell_base::{
     Cell, JobId, JobType, List, Name, Refusal, Reply, Request, ResId, Resource, Step, TypeId,
     cell_fits, request_fits,
 };
-use outside_io::{CallKind, DiskCall, MemDisk};
+use outside_io::{CallKind, Disk, DiskCall, MemDisk};
 use std::alloc::Global;
 use std::test::Fail;
 
@@ -47,6 +47,11 @@ const A_FAILED_WRITE: [(Request, Answer); 3] = [
 
 fn may_be_sent<T: Send>(value: T) -> T {
     value
+}
+
+/// A durable cell goes where its disk goes.
+fn sent<D: Disk + Send>(durable: Durable<D>) -> Durable<D> {
+    may_be_sent(durable)
 }
 
 /// A machine of one unit, and a type whose route is that machine.
@@ -96,7 +101,7 @@ fn found_again(alloc: Global, disk: MemDisk) -> Result<u64, Fail> {
 
 fn run(alloc: Global, fails: List<DiskCall>, asks: &[(Request, Answer)]) -> Result<Outcome, Fail> {
     let disk = MemDisk::new(alloc, b"", fails)?;
-    let mut durable = may_be_sent(opened(alloc, disk)?);
+    let mut durable = sent(opened(alloc, disk)?);
     let as_listed = answers_as_listed(&mut durable, asks);
     let finished = durable.finish();
     let parts = finished.core.parts_left();

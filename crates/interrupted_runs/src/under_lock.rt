@@ -68,7 +68,7 @@ fn use_lock<R: Wait, D: Disk + Drop>(
     step: Option<Request>,
     request: Request,
 ) -> Result<()>
-    requires passes { (passes ≡ new_passes cell 1 1) × (cell.opening.passes ≡ 1) }
+    requires passes { (passes ≡ new_passes D.moment cell 1 1) × (cell.opening.passes ≡ 1) }
     requires fits { RequestFits cell.opening.cell request }
 {
     let mut pass = passes.pop().context("no pass")?;

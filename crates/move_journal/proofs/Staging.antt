@@ -1,12 +1,12 @@
 -- What the two writes of an append make of a journal.
-use Rattle.std.proofs.Common.{◌≡◌, ◌⊎◌, inl, inr, ℕ, ◌+◌, ◌≤◌, List, [], ◌∷◌, ◌++◌, length, get_or, drop, sym, ◌∙◌, ap, subst, arith, append_assoc, length-append}
+use Rattle.std.proofs.Common.{◌≡◌, inl, inr, ℕ, ◌+◌, ◌<◌, ◌≤◌, List, [], ◌∷◌, ◌++◌, length, get_or, drop, refl, sym, ◌∙◌, ap, subst, arith, append_assoc, length-append}
 use Rattle.std.proofs.lemmas.Bool.{cases_eq}
 use Rattle.cell_base.specs.declared.shifts.Grant.{Grant}
-use Rattle.entry_codec.specs.Records.{record_of}
 use Rattle.outside_io.specs.Disk.{overwritten, Torn, Only}
 use Rattle.move_journal.specs.Disks.{ComesOf}
-use Rattle.move_journal.specs.Journals.{front, gate_of, IsRead, IsJournal, HoldsRecord, Staged, WithOrWithout}
-use Rattle.move_journal.proofs.Fronts.{length-front, front-push, each-push}
+use Rattle.std.specs.List.{AllByRecursion}
+use Rattle.move_journal.specs.Journals.{entries, front, gate_of, group_bytes, IsRead, IsJournal, HoldsRecords, Staged, WithOrWithout}
+use Rattle.move_journal.proofs.Fronts.{length-front, front-append, each-append}
 use Rattle.move_journal.proofs.Splits.{torn_behind, torn_byte, written_behind, written_byte, regroup}
 use Rattle.move_journal.proofs.Turning.{of_only}
 
@@ -40,72 +40,79 @@ module _ (file text : List ℕ) (grants : List Grant) (journal : IsJournal file 
             ∙ append_assoc (front text grants) (journal.gate ∷ []) (drop at c);
       }
 
-  written_behind_gate : (grant : Grant) → IsRead grant → (new : List ℕ)
-      → new ≡ overwritten file (gate_of text grants + 1) (record_of grant ++ 0 ∷ []) → Staged text grants grant new
+  written_behind_gate : (more : List Grant) → 0 < length more → AllByRecursion IsRead more → (new : List ℕ)
+      → new ≡ overwritten file (gate_of text grants + 1) (drop 1 (group_bytes more)) → Staged text grants more new
   unfolding closed_front
-  written_behind_gate grant is new written =
+  written_behind_gate more some are new written =
       let at : ℕ = gate_of text grants + 1 in
-      let piece : List ℕ = record_of grant ++ 0 ∷ [] in
+      let piece : List ℕ = drop 1 (group_bytes more) in
       let rest : List ℕ = drop (at + length piece) (closed_front ++ journal.behind) in
       record {
         size = journal.size;
         each = journal.each;
-        is_read = is;
+        some = some;
+        are_read = are;
         gate = journal.gate;
         closed = journal.closed;
         behind = rest;
         split = written ∙ ap (λ (f : List ℕ). overwritten f at piece) split_at_gate
             ∙ written_behind at closed_front journal.behind piece length-closed_front
             ∙ append_assoc closed_front piece rest
-            ∙ append_assoc (front text grants) (journal.gate ∷ []) (piece ++ rest)
-            ∙ ap (λ (l : List ℕ). front text grants ++ journal.gate ∷ l) (append_assoc (record_of grant) (0 ∷ []) rest);
+            ∙ append_assoc (front text grants) (journal.gate ∷ []) (piece ++ rest);
       }
 
   pub gate_within : gate_of text grants + 1 ≤ length file
   gate_within =
       omega (arith, ap length journal.split, length-front text grants, length-append (front text grants) (journal.gate ∷ journal.behind))
 
-module _ (file text : List ℕ) (grants : List Grant) (gate : ℕ) (grant : Grant) (bytes piece : List ℕ)
-    (holds : HoldsRecord file text grants gate grant bytes) (piece_is : piece ≡ bytes ++ 0 ∷ [])
+module _ (file text : List ℕ) (grants : List Grant) (gate : ℕ) (more : List Grant) (bytes piece : List ℕ)
+    (holds : HoldsRecords file text grants gate more bytes) (piece_is : piece ≡ drop 1 bytes)
   where
-    pub record_torn : (outcomes : List ℕ → Type 0) → Only file outcomes → (c : List ℕ)
+    pub records_torn : (outcomes : List ℕ → Type 0) → Only file outcomes → (c : List ℕ)
         → ComesOf (gate + 1) (length piece) outcomes c → IsJournal c text grants
-    record_torn outcomes only c comes =
+    records_torn outcomes only c comes =
         let torn = of_only _ _ file outcomes only c comes in
         torn_behind_gate file text grants holds.journal (length piece) c
         (subst (λ (at : ℕ). Torn (at + 1) (length piece) file c) holds.gate_is torn)
 
-    pub record_written : (new : List ℕ) → new ≡ overwritten file (gate + 1) piece → Staged text grants grant new
-    record_written new written =
-        let same : piece ≡ record_of grant ++ 0 ∷ [] = piece_is ∙ ap (λ (l : List ℕ). l ++ 0 ∷ []) holds.bytes_are in
-        written_behind_gate file text grants holds.journal grant holds.is_read new
+    pub records_written : (new : List ℕ) → new ≡ overwritten file (gate + 1) piece → Staged text grants more new
+    records_written new written =
+        let same : piece ≡ drop 1 (group_bytes more) = piece_is ∙ ap (λ (l : List ℕ). drop 1 l) holds.bytes_are in
+        written_behind_gate file text grants holds.journal more holds.some holds.are_read new
         (written ∙ ap (λ (at : ℕ). overwritten file (at + 1) piece) holds.gate_is
         ∙ ap (λ (l : List ℕ). overwritten file (gate_of text grants + 1) l) same)
 
 -- ---- the write of the gate
 
-module _ (file text : List ℕ) (grants : List Grant) (grant : Grant) (staged : Staged text grants grant file)
+-- with its first gate open, a group is its bytes
+whole_group : (more : List Grant) → 0 < length more → 1 ∷ drop 1 (group_bytes more) ≡ group_bytes more
+whole_group [] some = absurd (omega (arith, some))
+whole_group (g ∷ more) some = refl
+
+module _ (file text : List ℕ) (grants more : List Grant) (staged : Staged text grants more file)
     (at : ℕ) (at_is : at ≡ gate_of text grants)
   where
     abbrev behind_it : List ℕ
-    behind_it = record_of grant ++ 0 ∷ staged.behind
+    behind_it = drop 1 (group_bytes more) ++ staged.behind
 
     front_is : length (front text grants) ≡ at
     front_is = length-front text grants ∙ sym at_is
 
-    opened : (c : List ℕ) → c ≡ front text grants ++ 1 ∷ behind_it → IsJournal c text (grants ++ grant ∷ [])
+    opened : (c : List ℕ) → c ≡ front text grants ++ 1 ∷ behind_it → IsJournal c text (grants ++ more)
     opened c is = record {
       size = staged.size;
-      each = each-push grants grant staged.each staged.is_read;
+      each = each-append grants more staged.each staged.are_read;
       gate = 0;
       closed = omega arith;
       behind = staged.behind;
-      split = is ∙ sym (front-push text grants grant (0 ∷ staged.behind));
+      split = is ∙ ap (λ (l : List ℕ). front text grants ++ (l ++ staged.behind)) (whole_group more staged.some)
+          ∙ ap (λ (l : List ℕ). front text grants ++ l) (append_assoc (entries more) (0 ∷ []) staged.behind)
+          ∙ sym (front-append text grants more (0 ∷ staged.behind));
     }
 
     -- a gate that is torn is open or it isn't
     pub gate_torn : (outcomes : List ℕ → Type 0) → Only file outcomes → (c : List ℕ) → ComesOf at 1 outcomes c
-        → WithOrWithout text grants grant c
+        → WithOrWithout text grants more c
     gate_torn outcomes only c comes =
         let gate : ℕ = get_or c at 0 in
         let torn = subst (λ (f : List ℕ). Torn at 1 f c) staged.split (of_only _ _ file outcomes only c comes) in
@@ -122,7 +129,7 @@ module _ (file text : List ℕ) (grants : List Grant) (grant : Grant) (staged : 
           })
         ]
 
-    pub gate_written : (new : List ℕ) → new ≡ overwritten file at (1 ∷ []) → IsJournal new text (grants ++ grant ∷ [])
+    pub gate_written : (new : List ℕ) → new ≡ overwritten file at (1 ∷ []) → IsJournal new text (grants ++ more)
     gate_written new written =
         opened new (written ∙ ap (λ (f : List ℕ). overwritten f at (1 ∷ [])) staged.split
         ∙ written_byte at (front text grants) staged.gate 1 behind_it front_is)

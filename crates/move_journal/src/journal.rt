@@ -1,14 +1,15 @@
 //! A journal of grants, to which one more is added at a time.
-ghost use Rattle.std.specs.Prelude.{◌≡◌, ℕ, ◌+◌, ◌*◌, ◌^◌, ◌<◌, ◌≤◌, List, true, false, Some, Ok, Err, [], ◌∷◌, ◌++◌, OnOk, ⊤};
+ghost use Rattle.std.specs.Prelude.{◌≡◌, ℕ, ◌+◌, ◌*◌, ◌^◌, ◌<◌, ◌≤◌, List, true, false, Some, Ok, Err, [], ◌∷◌, ◌++◌, length, OnOk, ⊤};
 ghost use Rattle.cell_base.specs.declared.shifts.Grant.{Grant};
 ghost use Rattle.entry_codec.specs.Records.{HasRecord};
 ghost use Rattle.outside_io.specs.Causes.{Rose};
 ghost use Rattle.outside_io.specs.Disk.{Turns, LeavesOnly};
 ghost use Rattle.move_journal.specs.Disks.{Rests, Shows};
-ghost use Rattle.move_journal.specs.Journals.{StandsFor, IsBeforeOrAfter};
+ghost use Rattle.move_journal.specs.Journals.{StandsFor, IsBeforeOrAfter, IsBeforeOrAfterAll};
 ghost use Rattle.move_journal.specs.Kept.{IsOpen};
 
-use crate::entry_write::write_entry;
+use crate::Group;
+use crate::entry_write::{ENTRY_SIZE, with_gates, write_entries};
 use cell_base::Grant;
 use entry_codec::encode;
 use outside_io::Disk;
@@ -89,10 +90,56 @@ impl<D: Disk> Journal<D> {
         if self.is_halted {
             return Err(AppendFault::Halted { after: self.len });
         }
-        match write_entry(&mut self.disk, self.gate, &encode(grant)) {
+        match write_entries(&mut self.disk, self.gate, &with_gates(&encode(grant))) {
             Ok(()) => {
-                self.gate += 17;
+                self.gate += ENTRY_SIZE;
                 self.len += 1;
+                Ok(())
+            }
+            Err(_) => {
+                self.is_halted = true;
+                Err(AppendFault::Device)
+            }
+        }
+    }
+
+    /// Adds all grants of a group, in their order, by as many device calls as one grant takes. At `Ok` each crash from then on
+    /// leaves a journal that has them all; and at each moment before it, a journal that has none of them or all.
+    pub fn append_all(&mut self, group: &Group) -> Result<(), AppendFault>
+        requires some { 0 < length group.now.grants }
+        requires room { self.old.len + length group.now.grants ≤ 4294967295 }
+        ensures grown { OnOk result (self.new.len ≡ self.old.len + length group.now.grants) }
+        ensures runs { OnOk result (self.new.is_halted ≡ false) }
+        ensures fed { OnOk result (D.faults self.new.disk ≡ D.faults self.old.disk) }
+
+        ensures halted { self.old.is_halted ≡ true → result ≡ Err (AppendFault.Halted self.old.len) }
+        ensures halted_only { (after : ℕ) → result ≡ Err (AppendFault.Halted after) → self.old.is_halted ≡ true }
+        ensures same { self.old.is_halted ≡ true → self.new ≡ self.old }
+
+        ensures device { result ≡ Err AppendFault.Device → Rose (D.faults self.old.disk) (D.faults self.new.disk) }
+        ensures halts { result ≡ Err AppendFault.Device → self.new.is_halted ≡ true }
+        ensures same_len { result ≡ Err AppendFault.Device → self.new.len ≡ self.old.len }
+
+        // What the disk holds at the return, and at each moment since the entry, where it told its bytes.
+        ensures tells { Turns (D.reads_as self.old.disk) (D.reads_as self.new.disk) (λ _ _. ⊤) }
+        ensures stored { (file text : List ℕ) (grants : List Grant)
+            → D.reads_as self.old.disk ≡ Some file → StandsFor file text grants
+            → OnOk result (Shows D.reads_as D.may_leave self.new.disk (λ new. StandsFor new text (grants ++ group.now.grants))) }
+        ensures kept { (file text : List ℕ) (grants : List Grant)
+            → D.reads_as self.old.disk ≡ Some file → StandsFor file text grants → self.old.is_halted ≡ false
+            → Shows D.reads_as D.may_leave self.new.disk (IsBeforeOrAfterAll text grants group.now.grants) }
+        ensures any_moment { (file text : List ℕ) (grants : List Grant)
+            → D.reads_as self.old.disk ≡ Some file → StandsFor file text grants → self.old.is_halted ≡ false
+            → LeavesOnly D.moment D.left_since self.old.disk self.new.disk (IsBeforeOrAfterAll text grants group.now.grants) }
+    {
+        if self.is_halted {
+            return Err(AppendFault::Halted { after: self.len });
+        }
+        let count = group.grants().len() as u64;
+        match write_entries(&mut self.disk, self.gate, group.bytes()) {
+            Ok(()) => {
+                self.gate += ENTRY_SIZE * count;
+                self.len += count;
                 Ok(())
             }
             Err(_) => {
@@ -110,6 +157,13 @@ impl<D: Disk> Journal<D> {
     }
 
     /// The disk on which the journal stands.
+    pub fn disk(&self) -> &D
+        ensures { result.now ≡ self.now.disk }
+    {
+        &self.disk
+    }
+
+    /// The disk, taken out of the journal.
     pub fn into_disk(self) -> D
         ensures { result ≡ self.disk }
     {

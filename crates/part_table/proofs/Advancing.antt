@@ -14,7 +14,7 @@ use Rattle.part_table.specs.declared.standing.Standing.{Standing}
 use Rattle.part_table.specs.declared.standing.Entry.{Entry}
 use Rattle.part_table.specs.declared.heads.TheConstants.{OFF}
 use Rattle.part_table.specs.Heads.{Keyed}
-use Rattle.part_table.specs.Parts.{parts_of, without_job, advanced}
+use Rattle.part_table.specs.Standings.{parts_of, without_job, advanced}
 use Rattle.part_table.specs.Logs.{gone_entry, staying, IsAbsent, IsPlaceOf, IsLogged, key_of_waiting}
 use Rattle.part_table.proofs.Jobs.{part_at}
 use Rattle.part_table.proofs.Logs.{logged_pushed, logged_taken}

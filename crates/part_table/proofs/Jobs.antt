@@ -13,7 +13,7 @@ use Rattle.part_table.specs.declared.standing.Standing.{Standing}
 use Rattle.part_table.specs.declared.standing.Entry.{Entry}
 use Rattle.part_table.specs.declared.heads.TheConstants.{OFF, NOWHERE}
 use Rattle.part_table.specs.Heads.{IsFirst}
-use Rattle.part_table.specs.Parts.{parts_of, is_job, is_waiting, finished}
+use Rattle.part_table.specs.Standings.{parts_of, is_job, is_waiting, finished}
 use Rattle.part_table.specs.Logs.{done_entry, staying, job_of, IsAbsent, IsPlaceOf, IsPlaceOfFirst, waiting_key, ArePlaces}
 use Rattle.part_table.proofs.Standings.{part_of-find}
 use Rattle.part_table.proofs.Staying.{passes, first_staying, none_staying, not_loaded_from_absent, staying_finished, found_by_key, passes_by_key, none_by_key, waiting_shows}

@@ -6,3 +6,4 @@ pub mod Listing
 pub mod Jobs
 pub mod Standings
 pub mod Advancing
+pub mod Told

@@ -13,11 +13,11 @@ use Rattle.cell_base.specs.declared.cells.ResId.{ResId}
 use Rattle.cell_base.specs.declared.requests.JobId.{JobId}
 use Rattle.cell_base.specs.declared.requests.Part.{Part}
 use Rattle.cell_base.specs.Policy.{is_of_job, is_loaded, HaveDistinctJobs}
-use Rattle.cell_base.specs.Outcomes.{part_of, without}
+use Rattle.cell_base.specs.Outcomes.{part_of, without, finish_first}
 use Rattle.cell_base.proofs.Admission.{others_from_not_loaded, not_loaded_from_others}
-use Rattle.policy_laws.proofs.Parts.{distinct-push, distinct-without, without-others, sum_by-without}
+use Rattle.policy_laws.proofs.Parts.{distinct-push, distinct-without, without-others, sum_by-without, sum_by-finish_first_same}
 use Rattle.part_table.specs.declared.standing.Standing.{Standing}
-use Rattle.part_table.specs.Parts.{parts_of, is_job, without_job, advanced, finish, finished}
+use Rattle.part_table.specs.Standings.{parts_of, is_job, without_job, advanced, finish, finished}
 
 -- the first that passes, and the ones that pass, among what a function gives
 pub find-map : {X Y : Type 0} (f : X → Y) (p : Y → Bool) (xs : List X) → find p (map f xs) ≡ option_map f (find (λ x. p (f x)) xs)
@@ -134,16 +134,30 @@ sum-length [] = refl
 sum-length (part ∷ parts) = omega (arith, sum-length parts, sum_by-cons (λ (part : Part). 1) part parts)
 
 -- one part less, by number
+pub length-without : (parts : List Part) (job : JobId) → HaveDistinctJobs parts → is_loaded parts job ≡ true
+    → length (without parts job) + 1 ≡ length parts
+length-without parts job distinct present =
+    let found = list_any-found (is_of_job job) parts present in
+    let less = sum_by-without (λ (part : Part). 1) parts found.0 distinct found.1 in
+    let without_it : length (without parts found.0.job) + 1 ≡ length parts =
+    omega (arith, less, sum-length parts, sum-length (without parts found.0.job)) in
+    subst (λ (j : JobId). length (without parts j) + 1 ≡ length parts) (same_job job found.0 found.2) without_it
+
 pub length_departed : (items : List Standing) (job : JobId) → HaveDistinctJobs (parts_of items) → is_loaded (parts_of items) job ≡ true
     → length (without_job items job) + 1 ≡ length items
 length_departed items job distinct present =
-    let found = list_any-found (is_of_job job) (parts_of items) present in
-    let less = sum_by-without (λ (part : Part). 1) (parts_of items) found.0 distinct found.1 in
-    let less_parts : length (without (parts_of items) found.0.job) + 1 ≡ length (parts_of items) =
-    omega (arith, less, sum-length (parts_of items), sum-length (without (parts_of items) found.0.job)) in
-    let without_it : length (without (parts_of items) job) + 1 ≡ length (parts_of items) =
-    subst (λ (j : JobId). length (without (parts_of items) j) + 1 ≡ length (parts_of items)) (same_job job found.0 found.2) less_parts in
     let of_items : length (parts_of items) ≡ length items = length-map items (λ (item : Standing). item.part) in
     let of_rest : length (parts_of (without_job items job)) ≡ length (without_job items job) =
     length-map (without_job items job) (λ (item : Standing). item.part) in
-    omega (arith, without_it, of_items, of_rest, ap length (parts_of-without items job))
+    omega (
+      arith,
+      length-without (parts_of items) job distinct present,
+      of_items,
+      of_rest,
+      ap length (parts_of-without items job),
+    )
+
+-- as many parts, where one is done
+pub length-finish_first : (test : Part → Bool) (parts : List Part) → length (finish_first test parts) ≡ length parts
+length-finish_first test parts =
+    sym (sum-length (finish_first test parts)) ∙ sum_by-finish_first_same (λ (part : Part). 1) test parts (λ part. refl) ∙ sum-length parts

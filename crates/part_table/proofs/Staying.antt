@@ -13,7 +13,7 @@ use Rattle.part_table.specs.declared.standing.Standing.{Standing}
 use Rattle.part_table.specs.declared.standing.Entry.{Entry}
 use Rattle.part_table.specs.declared.heads.TheConstants.{OFF, NOWHERE}
 use Rattle.part_table.specs.Heads.{IsFirst}
-use Rattle.part_table.specs.Parts.{parts_of, is_job, is_on, is_waiting, without_job, finished}
+use Rattle.part_table.specs.Standings.{parts_of, is_job, is_on, is_waiting, without_job, finished}
 use Rattle.part_table.specs.Logs.{gone_entry, done_entry, staying, job_of, IsAbsent, standing_key, waiting_key}
 use Rattle.part_table.proofs.Standings.{finish_no}
 

@@ -8,7 +8,7 @@ use Rattle.part_table.specs.declared.standing.Entry.{Entry}
 use Rattle.part_table.specs.declared.heads.TheConstants.{OFF, NOWHERE}
 use Rattle.cell_base.specs.Policy.{HaveDistinctJobs}
 use Rattle.part_table.specs.Heads.{Keyed}
-use Rattle.part_table.specs.Parts.{parts_of}
+use Rattle.part_table.specs.Standings.{parts_of}
 
 -- what a contract sees of a log: its entries, how many there may be, and the number of resources
 pub record Logged : Type 0 where

@@ -1,53 +1,18 @@
--- Parts in the order of their arrival, each with the resource on which it stands.
-use Rattle.std.specs.Prelude.{ℕ, ◌==◌, Bool, true, not, ◌&&◌, if◌then◌else◌, List, [], ◌∷◌, ◌++◌, map}
-use Rattle.std.specs.List.{filter, find}
+-- The parts of a cell in the order of their arrival.
+use Rattle.std.specs.Prelude.{ℕ, Bool, List, [], ◌∷◌, ◌++◌}
 use Rattle.std.specs.Option.{option_map_or}
-use Rattle.cell_base.specs.declared.cells.ResId.{ResId}
+use Rattle.cell_base.specs.declared.cells.Cell.{Cell}
 use Rattle.cell_base.specs.declared.requests.JobId.{JobId}
 use Rattle.cell_base.specs.declared.requests.Part.{Part}
-use Rattle.cell_base.specs.Policy.{is_of_job}
-use Rattle.part_table.specs.declared.standing.Standing.{Standing}
+use Rattle.cell_base.specs.Outcomes.{part_of, without}
 
--- what a contract sees of a table: the parts as they stand, in the order of their arrival, how many more it takes, and the resources
+-- what a contract sees of a table: the cell, its parts in the order of their arrival at their present stages, and how many more it takes
 pub record Table : Type 0 where
-  pub items : List Standing
+  pub cell : Cell
+  pub parts : List Part
   pub spare : ℕ
-  pub resources : ℕ
 
--- the parts alone
-abbrev pub parts_of : List Standing → List Part
-parts_of items = map (λ item. item.part) items
-
--- the part is of the job
-abbrev pub is_job : JobId → Standing → Bool
-is_job job item = is_of_job job item.part
-
--- the part stands on the resource
-abbrev pub is_on : ResId → Standing → Bool
-is_on on item = item.on.0 == on.0
-
--- the part stands on the resource and is not done
-abbrev pub is_waiting : ResId → Standing → Bool
-is_waiting on item = not item.part.done && is_on on item
-
--- the parts of other jobs
-abbrev pub without_job : List Standing → JobId → List Standing
-without_job items job = filter (λ item. not (is_job job item)) items
-
--- the part of the job at another place and on its resource, behind all others
-abbrev pub advanced : List Standing → JobId → ℕ → Bool → ResId → List Standing
-advanced items job place done on =
-    option_map_or (λ (item : Standing). without_job items job ++ (record {
-      part = record item.part { place = place; done = done };
-      on =
-          on;
-    }) ∷ [])
-    (find (is_job job) items) items
-
--- the part of the job is done, and keeps its place in the list
-abbrev pub finish : JobId → Standing → Standing
-finish job item = if is_job job item then record item { part = record item.part { done = true } } else item
-
--- the same in the list
-abbrev pub finished : List Standing → JobId → List Standing
-finished items job = map (finish job) items
+-- the part of the job at another place, behind all others
+abbrev pub gone_on : List Part → JobId → ℕ → Bool → List Part
+gone_on parts job place done =
+    option_map_or (λ part. without parts job ++ (record part { place = place; done = done }) ∷ []) (part_of parts job) parts

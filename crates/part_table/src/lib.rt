@@ -1,10 +1,11 @@
 //! The parts of a cell in the order of arrival at their present stages.
 //!
-//! A contract sees the list of the parts, each with the resource on which it stands, and how many more may arrive. Memory
-//! is taken once, by `with_room`, and by no later call.
+//! A contract sees the cell, the list of its parts, and how many more may arrive. A call that brings a part to a stage is told the
+//! resource of that stage, so that the table needs no routes; the type of the table keeps that it was told the right one. Memory
+//! is taken once, by `with_room`, and by no later call but `listed`, which makes a list.
 //!
 //! ```text
-//! let mut parts = Parts::with_room(alloc, 2, 8)?;
+//! let mut parts = Parts::with_room(alloc, &cell, 8)?;
 //! parts.arrive(part, on);
 //! if let Some(job) = parts.finish_first(on) {
 //!     parts.advance(job, place, false, next);
@@ -17,17 +18,18 @@
 //! and those that wait. So `get`, `first_on`, `first_waiting`, `finish`, `finish_first`, `len` and `spare` take a step or two.
 //! `arrive`, `advance` and `depart` take a few, of which `advance` looks its job up once; and where the first part of a
 //! resource goes, a look through the entries behind it for the next, which passes each entry at most once for each resource
-//! until the log is moved together. `nth` goes through the log. In the plan that empties a cell of 4,096 parts over 64
-//! resources all changes, with those of the counts, take some 180 instructions a step (November 2026).
+//! until the log is moved together. `nth` goes through the log, and so does `listed`, once for all parts. In the plan that
+//! empties a cell of 4,096 parts over 64 resources all changes, with those of the counts, take some 180 instructions a step
+//! (November 2026).
 #![tactic(auto)]
 
+mod arrivals;
 mod heads;
 mod log;
 mod parts;
 mod standing;
 
 pub use parts::Parts;
-pub use standing::Standing;
 
 #[cfg(test)]
 mod tests;

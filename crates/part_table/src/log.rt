@@ -5,12 +5,12 @@ ghost use Rattle.std.specs.HashMap.{get, hash_map_len, spare};
 ghost use Rattle.part_table.specs.declared.standing.Entry.{Entry};
 ghost use Rattle.part_table.specs.declared.heads.TheConstants.{NOWHERE};
 ghost use Rattle.part_table.specs.Logs.{gone_entry, done_entry, IsAbsent, IsPlaceOf, IsPlaceOfFirst, key_of_waiting, staying, IsLogged};
-ghost use Rattle.part_table.specs.Parts.{parts_of, is_on, is_waiting, advanced};
+ghost use Rattle.part_table.specs.Standings.{parts_of, is_on, is_waiting, advanced};
 ghost use Rattle.cell_base.specs.Policy.{is_loaded, HaveDistinctJobs};
 
 use crate::heads::{Heads, OFF};
 use crate::standing::{Entry, Standing};
-use cell_base::{JobId, NoMemory, Part, ResId};
+use cell_base::{JobId, List, NoMemory, Part, ResId};
 use std::alloc::Global;
 use std::collections::HashMap;
 use std::marker::Model;
@@ -105,6 +105,19 @@ fn nth(entries: &[Entry], i: u32) -> Option<Standing>
         }
     }
     None
+}
+
+/// The parts of the entries that stay.
+fn listed(alloc: Global, entries: &[Entry]) -> Result<List<Part>, NoMemory>
+    ensures { IfOk result (λ parts. parts ≡ parts_of (staying entries.now)) }
+{
+    let mut parts = List::new(alloc);
+    for entry in entries {
+        if entry.stays {
+            parts.try_push(entry.item.part)?;
+        }
+    }
+    Ok(parts)
 }
 
 impl Log {
@@ -245,6 +258,13 @@ impl Log {
         ensures { result ≡ slice_get (staying self.now.entries) i }
     {
         nth(&self.entries, i)
+    }
+
+    /// The parts that stay, in their order, by one walk.
+    pub fn listed(&self, alloc: Global) -> Result<List<Part>, NoMemory>
+        ensures { IfOk result (λ parts. parts ≡ parts_of (staying self.now.entries)) }
+    {
+        listed(alloc, &self.entries)
     }
 
     /// Only the entries that stay, in their order. It takes no memory.

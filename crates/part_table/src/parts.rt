@@ -1,197 +1,157 @@
 //! The table of parts.
-ghost use Rattle.std.specs.Prelude.{◌≡◌, ◌+◌, ◌<◌, ◌≤◌, true, false, [], ◌∷◌, ◌++◌, length, Some, slice_get, MatchOption, IfOk};
+ghost use Rattle.std.specs.Prelude.{◌≡◌, ◌+◌, ◌<◌, ◌≤◌, ◌==◌, true, false, [], ◌∷◌, ◌++◌, length, Some, slice_get, IfOk};
 ghost use Rattle.std.specs.List.{find};
-ghost use Rattle.std.specs.Option.{option_map};
-ghost use Rattle.cell_base.specs.Policy.{is_loaded, HaveDistinctJobs};
-ghost use Rattle.cell_base.specs.Outcomes.{part_of};
+ghost use Rattle.std.specs.Option.{option_map, ForSome};
+ghost use Rattle.cell_base.specs.Stages.{stage, stage_of, resource_at};
+ghost use Rattle.cell_base.specs.Policy.{is_of_job, is_loaded, HaveDistinctJobs};
+ghost use Rattle.cell_base.specs.Outcomes.{part_of, without, is_waiting_on, finish_first};
+ghost use Rattle.cell_base.specs.Plans.{place_of};
 ghost use Rattle.cell_base.specs.declared.limits.TheConstants.{MAX_RESOURCES, MAX_UNITS};
-ghost use Rattle.part_table.specs.Parts.{parts_of, is_on, is_waiting, without_job, advanced, finished};
-ghost use Rattle.part_table.specs.Logs.{staying};
+ghost use Rattle.part_table.specs.Parts.{gone_on};
 
-use crate::Standing;
-use crate::log::Log;
-use cell_base::{JobId, NoMemory, Part, ResId};
+use crate::arrivals::Arrivals;
+use cell_base::{Cell, JobId, List, NoMemory, Part, ResId};
 use std::alloc::Global;
 use std::marker::Model;
 
-/// The parts in the order of arrival at their present stages. Their jobs differ.
+/// The parts of a cell in the order of arrival at their present stages. Their jobs differ, and the resource that was told of a part is
+/// the one of its stage.
 #[derive(Drop)]
 pub struct Parts {
-    log: Log,
-    count: u32,
-    room: u32,
+    /// A copy of the cell, which contracts alone read. (A `Snapshot` of it would have no bytes, but beside the seats of a durable cell it
+    /// leaves `Send` unproved.)
+    cell: Cell,
+    arrivals: Arrivals,
 }
 
 impl Model for Parts {
-    ghost use Rattle.std.specs.Prelude.{◌-◌};
+    ghost use Rattle.std.specs.Prelude.{◌≡◌, length};
+    ghost use Rattle.part_table.specs.Standings.{parts_of, AreOn};
     ghost use Rattle.part_table.specs.Parts.{Table};
-    ghost use Rattle.part_table.specs.Logs.{staying, IsTable};
 
     ghost Value = { Table };
 
-    ghost view = { λ s. record { items = staying s.log.entries; spare = s.room - s.count; resources = s.log.resources } };
+    ghost view = { λ s. record { cell = s.cell; parts = parts_of s.arrivals.items; spare = s.arrivals.spare } };
 
-    ghost invariant = { λ s. IsTable s.log s.count s.room };
-}
-
-/// How many entries a log holds for each part that may stand at a time. So a part's entries are moved together once in many changes.
-const ENTRIES_A_PART: u32 = 4;
-
-/// Room for one more entry.
-fn make_room(log: &mut Log)
-    requires distinct { HaveDistinctJobs (parts_of (staying log.old.entries)) }
-    requires fits { length (staying log.old.entries) < log.old.room }
-    ensures items { staying log.new.entries ≡ staying log.old.entries }
-    ensures free { length log.new.entries < log.new.room }
-    ensures room { log.new.room ≡ log.old.room }
-    ensures resources { log.new.resources ≡ log.old.resources }
-{
-    if log.is_full() {
-        log.compact();
-    }
+    ghost invariant = { λ s. AreOn s.cell s.arrivals.items × (s.arrivals.resources ≡ length s.cell.resources) };
 }
 
 impl Parts {
-    /// An empty table with room for at least `n` parts.
-    pub fn with_room(alloc: Global, resources: u16, n: u32) -> Result<Parts, NoMemory>
-        requires few { resources ≤ MAX_RESOURCES }
+    /// An empty table of a cell with room for at least `n` parts.
+    pub fn with_room(alloc: Global, cell: &Cell, n: u32) -> Result<Parts, NoMemory>
+        requires few { length cell.now.resources ≤ MAX_RESOURCES }
         requires room { n ≤ MAX_UNITS }
-        ensures empty { IfOk result (λ parts. parts.items ≡ []) }
-        ensures spare { IfOk result (λ parts. n ≤ parts.spare) }
-        ensures resources { IfOk result (λ parts. parts.resources ≡ resources) }
+        ensures cell { IfOk result (λ table. table.cell ≡ cell.now) }
+        ensures empty { IfOk result (λ table. table.parts ≡ []) }
+        ensures spare { IfOk result (λ table. n ≤ table.spare) }
     {
-        let log = Log::with_room(alloc, resources, n * ENTRIES_A_PART + 1)?;
-        Ok(Parts {
-            log,
-            count: 0,
-            room: n,
-        })
+        let arrivals = Arrivals::with_room(alloc, cell.resources.len() as u16, n)?;
+        let cell = cell.copied(alloc)?;
+        Ok(Parts { cell, arrivals })
     }
 
     /// The part of a job.
     pub fn get(&self, job: JobId) -> Option<Part>
-        ensures part { result ≡ part_of (parts_of self.now.items) job }
-        ensures distinct { HaveDistinctJobs (parts_of self.now.items) }
+        ensures part { result ≡ part_of self.now.parts job }
+        ensures distinct { HaveDistinctJobs self.now.parts }
     {
-        match self.log.place_of(job) {
-            Some(at) => Some(self.log.get(at).item.part),
-            None => None,
-        }
+        self.arrivals.get(job)
     }
 
     /// The part at an index.
     pub fn nth(&self, i: u32) -> Part
-        requires { i < length self.now.items }
-        ensures { slice_get (parts_of self.now.items) i ≡ Some result }
+        requires { i < length self.now.parts }
+        ensures { slice_get self.now.parts i ≡ Some result }
     {
-        match self.log.nth(i) {
-            Some(item) => item.part,
-            None => unreachable!(),
-        }
+        self.arrivals.nth(i)
+    }
+
+    /// All parts, by one walk. It takes memory for the list.
+    pub fn listed(&self, alloc: Global) -> Result<List<Part>, NoMemory>
+        ensures { IfOk result (λ parts. parts ≡ self.now.parts) }
+    {
+        self.arrivals.listed(alloc)
     }
 
     /// The number of parts.
     pub fn len(&self) -> u64
-        ensures { result ≡ length self.now.items }
+        ensures { result ≡ length self.now.parts }
     {
-        u64::from(self.count)
+        self.arrivals.len()
     }
 
     /// How many more parts may arrive.
     pub fn spare(&self) -> u64
         ensures { result ≡ self.now.spare }
     {
-        u64::from(self.room - self.count)
+        self.arrivals.spare()
     }
 
-    /// The first part on a resource that is not done.
+    /// The job of the first part on a resource that is not done.
     pub fn first_waiting(&self, on: ResId) -> Option<JobId>
-        requires { on.0 < self.now.resources }
-        ensures { result ≡ option_map (λ item. item.part.job) (find (is_waiting on) self.now.items) }
+        requires { on.0 < length self.now.cell.resources }
+        ensures { result ≡ option_map (λ part. part.job) (find (is_waiting_on self.now.cell on.0) self.now.parts) }
     {
-        match self.log.first_waiting(on) {
-            Some(at) => Some(self.log.get(at).item.part.job),
-            None => None,
-        }
+        self.arrivals.first_waiting(on)
     }
 
     /// The first part on a resource.
     pub fn first_on(&self, on: ResId) -> Option<Part>
-        requires { on.0 < self.now.resources }
-        ensures { result ≡ option_map (λ item. item.part) (find (is_on on) self.now.items) }
+        requires { on.0 < length self.now.cell.resources }
+        ensures { result ≡ find (λ part. place_of self.now.cell part == on.0) self.now.parts }
     {
-        match self.log.first_on(on) {
-            Some(item) => Some(item.part),
-            None => None,
-        }
+        self.arrivals.first_on(on)
     }
 
-    /// A new part, behind all others.
+    /// A new part, behind all others. It is told on which resource it stands.
     pub fn arrive(&mut self, part: Part, on: ResId)
-        requires absent { is_loaded (parts_of self.old.items) part.job ≡ false }
-        requires on { on.0 < self.old.resources }
+        requires absent { is_loaded self.old.parts part.job ≡ false }
+        requires on { on.0 ≡ resource_at self.old.cell (stage_of part) }
+        requires within { on.0 < length self.old.cell.resources }
         requires room { 0 < self.old.spare }
-        ensures items { self.new.items ≡ self.old.items ++ (record { part = part; on = on }) ∷ [] }
+        ensures parts { self.new.parts ≡ self.old.parts ++ part ∷ [] }
         ensures spare { self.new.spare + 1 ≡ self.old.spare }
-        ensures resources { self.new.resources ≡ self.old.resources }
+        ensures cell { self.new.cell ≡ self.old.cell }
     {
-        make_room(&mut self.log);
-        self.log.push(Standing { part, on });
-        self.count += 1;
+        self.arrivals.arrive(part, on);
     }
 
-    /// The part of a job goes on to a place, and stands behind all others.
+    /// The part of a job goes on to a place, and stands behind all others. It is told on which resource it stands then.
     pub fn advance(&mut self, job: JobId, place: u16, done: bool, on: ResId)
-        requires present { is_loaded (parts_of self.old.items) job ≡ true }
-        requires on { on.0 < self.old.resources }
-        ensures items { self.new.items ≡ advanced self.old.items job place done on }
+        requires present { is_loaded self.old.parts job ≡ true }
+        requires on { ForSome (part_of self.old.parts job) (λ part. on.0 ≡ resource_at self.old.cell (stage part.kind.0 place)) }
+        requires within { on.0 < length self.old.cell.resources }
+        ensures parts { self.new.parts ≡ gone_on self.old.parts job place done }
         ensures spare { self.new.spare ≡ self.old.spare }
-        ensures resources { self.new.resources ≡ self.old.resources }
+        ensures cell { self.new.cell ≡ self.old.cell }
     {
-        make_room(&mut self.log);
-        self.log.advance(job, place, done, on);
+        self.arrivals.advance(job, place, done, on);
     }
 
     /// The work on the part of a job is done. It keeps its place in the order.
     pub fn finish(&mut self, job: JobId)
-        requires { is_loaded (parts_of self.old.items) job ≡ true }
-        ensures items { self.new.items ≡ finished self.old.items job }
-        ensures spare { self.new.spare ≡ self.old.spare }
-        ensures resources { self.new.resources ≡ self.old.resources }
+        requires { is_loaded self.old.parts job ≡ true }
+        ensures { self.new ≡ record self.old { parts = finish_first (is_of_job job) self.old.parts } }
     {
-        if let Some(at) = self.log.place_of(job) {
-            self.log.finish(at);
-        }
+        self.arrivals.finish(job);
     }
 
     /// The work on the first part on a resource that is not done, if there is one. The part keeps its place in the order. Gives its job.
     pub fn finish_first(&mut self, on: ResId) -> Option<JobId>
-        requires { on.0 < self.old.resources }
-        ensures job { result ≡ option_map (λ item. item.part.job) (find (is_waiting on) self.old.items) }
-        ensures items { MatchOption result (self.new.items ≡ self.old.items) (λ job. self.new.items ≡ finished self.old.items job) }
-        ensures spare { self.new.spare ≡ self.old.spare }
-        ensures resources { self.new.resources ≡ self.old.resources }
+        requires { on.0 < length self.old.cell.resources }
+        ensures job { result ≡ option_map (λ part. part.job) (find (is_waiting_on self.old.cell on.0) self.old.parts) }
+        ensures table { self.new ≡ record self.old { parts = finish_first (is_waiting_on self.old.cell on.0) self.old.parts } }
     {
-        match self.log.first_waiting(on) {
-            Some(at) => {
-                let job = self.log.get(at).item.part.job;
-                self.log.finish(at);
-                Some(job)
-            }
-            None => None,
-        }
+        self.arrivals.finish_first(on)
     }
 
     /// The part of a job leaves.
     pub fn depart(&mut self, job: JobId)
-        requires { is_loaded (parts_of self.old.items) job ≡ true }
-        ensures items { self.new.items ≡ without_job self.old.items job }
+        requires { is_loaded self.old.parts job ≡ true }
+        ensures parts { self.new.parts ≡ without self.old.parts job }
         ensures spare { self.new.spare ≡ self.old.spare + 1 }
-        ensures resources { self.new.resources ≡ self.old.resources }
+        ensures cell { self.new.cell ≡ self.old.cell }
     {
-        if let Some(at) = self.log.place_of(job) {
-            self.log.take_out(at);
-            self.count -= 1;
-        }
+        self.arrivals.depart(job);
     }
 }

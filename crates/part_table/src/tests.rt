@@ -1,10 +1,16 @@
 //! With memory at hand the table is made.
 use crate::Parts;
+use cell_base::{Cell, List};
 use std::test::Fail;
 
 #[test]
 fn a_table_is_made(rt: HostRuntime) -> Result<(), Fail> {
-    let parts = Parts::with_room(rt.alloc(), 2, 3)?;
+    let alloc = rt.alloc();
+    let cell = Cell {
+        resources: List::new(alloc),
+        types: List::new(alloc),
+    };
+    let parts = Parts::with_room(alloc, &cell, 3)?;
     assert_eq!(rt; parts.len(), 0);
     Ok(())
 }

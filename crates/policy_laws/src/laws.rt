@@ -1,6 +1,7 @@
 //! The laws of the policy for a cell, each the contract of a function that does nothing.
 ghost use Rattle.cell_base.specs.Fits.{CellFits};
 ghost use Rattle.policy_laws.specs.Laws.{NumberingLaw, MaskLaw, SweepLaw, UpLaw, DownLaw, MoveLaw, UnloadLaw, ProcessLaw, AdmissionLaw, RefusalLaw, SaturationLaw, UnitsLaw, PlanLaw};
+ghost use Rattle.policy_laws.specs.Decisions.{DecisionLaw};
 
 use cell_base::Cell;
 
@@ -59,6 +60,13 @@ pub fn admission_law(cell: &Cell)
 /// A refused request leaves the state.
 pub fn refusal_law(cell: &Cell)
     ensures { RefusalLaw cell.now }
+{}
+
+/// A request that no earlier test refuses is granted exactly where the policy admits the state that it asks for, which then is the
+/// next one, and else is refused for the least resource whose neighborhood that state overfills.
+pub fn decision_law(cell: &Cell)
+    requires { CellFits cell.now }
+    ensures { DecisionLaw cell.now }
 {}
 
 /// A saturation names a neighborhood that is full.

@@ -10,7 +10,7 @@ use cell_base::{JobId, List, NoMemory, Part, Refusal, ResId};
 use std::alloc::Global;
 
 /// The jobs that are counted in a neighborhood that is full, in the order of the state: as many as the resource has units.
-/// For each other refusal an empty list. A saturation is one of the present state.
+/// For each other refusal an empty list. A saturation is one of the present state. The parts are walked once.
 pub fn explain(alloc: Global, core: &Core, refusal: &Refusal) -> Result<List<JobId>, NoMemory>
     requires { IsPresent core.now.cell core.now.parts refusal.now }
     ensures jobs { IfOk result (λ jobs. jobs ≡ reason core.now.cell core.now.parts refusal.now) }
@@ -28,10 +28,10 @@ fn counted_jobs(alloc: Global, core: &Core, r: ResId) -> Result<List<JobId>, NoM
     ensures { IfOk result (λ jobs. jobs ≡ jobs_of (counted core.now.cell core.now.parts r.0)) }
 {
     let _fits = core.cell();
+    let parts = core.parts(alloc)?;
     let mut jobs = List::new(alloc);
-    for i in 0..core.parts_left() {
-        let part = core.part(i);
-        if leads(core, part, r) {
+    for part in parts.as_slice() {
+        if leads(core, *part, r) {
             jobs.try_push(part.job)?;
         }
     }

@@ -1,5 +1,5 @@
 -- What the head of a file and what stands behind it are read as.
-use Rattle.std.specs.Prelude.{Option, Some, None, Result, Err, Bool, true, false, not, nat_lt, slice_index, slice_range, if◌then◌else◌, ◌==◌, ◌&&◌, ◌||◌}
+use Rattle.std.specs.Prelude.{Option, Some, None, Result, Err, Bool, true, false, not, nat_lt, slice_index, slice_range, if◌then◌else◌, ◌==◌, ◌||◌}
 use Rattle.std.proofs.Common.{◌≡◌, ◌≢◌, ◌⊎◌, inl, inr, ℕ, ◌+◌, ◌*◌, ◌≤◌, min, List, [], ◌∷◌, ◌++◌, length, take, drop, refl, sym, ◌∙◌, ap, subst, arith, length-take, length-drop}
 use Rattle.std.proofs.lemmas.List.{append-nil, drop_all}
 use Rattle.std.proofs.lemmas.Bool.{cases_eq, cases_lt}
@@ -11,11 +11,11 @@ use Rattle.entry_codec.specs.Decoding.{number_4}
 use Rattle.move_journal.specs.Blanks.{HasForm, name}
 use Rattle.move_journal.specs.Journals.{gate_of}
 use Rattle.move_journal.specs.declared.blank.BlankForm.{BlankForm}
-use Rattle.move_journal.specs.declared.blank.BlankForm.TheVariants.{Short, Shut, Named}
+use Rattle.move_journal.specs.declared.blank.BlankForm.TheVariants.{Short, Named}
 use Rattle.shift_recovery.specs.declared.faults.JournalFault.{JournalFault}
-use Rattle.shift_recovery.specs.declared.faults.JournalFault.TheVariants.{NotAJournal, OtherCell, Damaged}
+use Rattle.shift_recovery.specs.declared.faults.JournalFault.TheVariants.{OtherCell}
 use Rattle.shift_recovery.specs.declared.heads.Head.{Head}
-use Rattle.shift_recovery.specs.declared.heads.Head.TheVariants.{Blank, Faulty, Open}
+use Rattle.shift_recovery.specs.declared.heads.Head.TheVariants.{Blank, Open}
 use Rattle.shift_recovery.proofs.HeadTests.{head_by, blank_by, open_by, neither, both_true}
 use Rattle.shift_recovery.specs.Readings.{has_name, head_of, first_difference, grants_from, found, behind_head, from_head, read_as}
 

@@ -1,5 +1,5 @@
 -- The head of a journal.
-use Rattle.std.specs.Prelude.{Bool, true, false, not, nat_lt, slice_index, slice_range, if◌then◌else◌, ◌==◌, ◌&&◌, ◌||◌}
+use Rattle.std.specs.Prelude.{false, not, nat_lt, slice_index, slice_range, ◌==◌, ◌||◌}
 use Rattle.std.proofs.Common.{◌≡◌, ℕ, zero, suc, ◌+◌, ◌^◌, ◌<◌, ◌≤◌, List, [], ◌∷◌, ◌++◌, length, get_or, take, drop, refl, sym, ◌∙◌, ap, arith, append_assoc, length-take, length-drop, take-append-drop, lit<}
 use Rattle.std.specs.Int.{to_be_bytes, w32}
 use Rattle.std.proofs.lemmas.Nat.{be_bytes_4}
@@ -10,10 +10,7 @@ use Rattle.cell_base.specs.declared.shifts.Grant.{Grant}
 use Rattle.entry_codec.specs.Decoding.{number_4}
 use Rattle.move_journal.specs.Blanks.{name}
 use Rattle.move_journal.specs.Journals.{entries, IsJournal}
-use Rattle.move_journal.specs.declared.blank.BlankForm.TheVariants.{Short, Shut, Named}
-use Rattle.shift_recovery.specs.declared.faults.JournalFault.TheVariants.{NotAJournal, Damaged}
-use Rattle.shift_recovery.specs.declared.heads.Head.{Head}
-use Rattle.shift_recovery.specs.declared.heads.Head.TheVariants.{Blank, Faulty, Open}
+use Rattle.shift_recovery.specs.declared.heads.Head.TheVariants.{Open}
 use Rattle.shift_recovery.specs.Readings.{has_name, head_of}
 use Rattle.shift_recovery.proofs.HeadTests.{open_by, both_true}
 use Rattle.shift_recovery.proofs.Windowed.{drop-drop_at}

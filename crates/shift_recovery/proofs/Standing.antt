@@ -13,9 +13,7 @@ use Rattle.move_journal.specs.Blanks.{HasForm, name}
 use Rattle.move_journal.specs.Journals.{entries, StandsFor}
 use Rattle.move_journal.specs.declared.blank.BlankForm.{BlankForm}
 use Rattle.move_journal.specs.declared.blank.BlankForm.TheVariants.{Short, Shut, Named}
-use Rattle.shift_recovery.specs.declared.faults.JournalFault.TheVariants.{NotAJournal, Damaged}
-use Rattle.shift_recovery.specs.declared.heads.Head.{Head}
-use Rattle.shift_recovery.specs.declared.heads.Head.TheVariants.{Blank, Faulty, Open}
+use Rattle.shift_recovery.specs.declared.heads.Head.TheVariants.{Blank, Open}
 use Rattle.shift_recovery.specs.Readings.{has_name, head_of, first_difference, grants_from, read_as}
 use Rattle.shift_recovery.specs.Opening.{IsFoundBy}
 use Rattle.shift_recovery.proofs.HeadTests.{head_by}

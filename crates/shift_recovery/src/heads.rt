@@ -4,7 +4,7 @@ ghost use Rattle.std.specs.Prelude.{◌≡◌, ◌<◌, ◌≤◌, ℕ, min, len
 ghost use Rattle.shift_recovery.specs.Readings.{head_of};
 
 use crate::faults::JournalFault;
-use move_journal::{BlankForm, NAME};
+use move_journal::{BlankForm, NAME, TEXT_AT};
 
 /// What the head of a file shows.
 #[derive(Clone, Copy, Debug, PartialEq, Eq)]
@@ -34,11 +34,11 @@ pub(crate) fn read_head(start: &[u8], len: u64) -> Head
     if start[0] != 1 {
         return Head::Blank(BlankForm::Named);
     }
-    if len < 13 {
+    if len < TEXT_AT {
         return Head::Faulty(JournalFault::Damaged { at: 9 });
     }
     let size = u32::from_be_bytes([start[9], start[10], start[11], start[12]]);
-    if len < 13 + u64::from(size) {
+    if len < TEXT_AT + u64::from(size) {
         return Head::Faulty(JournalFault::Damaged { at: 9 });
     }
     Head::Open(size)

@@ -15,7 +15,7 @@ use crate::pieces::with_piece;
 use crate::texts::{Compared, compare};
 use crate::walks::{Walked, walk};
 use cell_base::{Grant, List};
-use move_journal::{Blank, BlankForm, Journal};
+use move_journal::{Blank, BlankForm, Journal, TEXT_AT};
 use outside_io::Disk;
 use std::alloc::Global;
 
@@ -111,7 +111,7 @@ fn read_journal<D: Disk>(
     };
     match compare(alloc, disk, len, kept, size, cell_text)? {
         Compared::Differs(at) => Ok(Reading::Faulty(JournalFault::OtherCell { at })),
-        Compared::Same(window) => match walk(alloc, disk, len, 13 + size, window, room)? {
+        Compared::Same(window) => match walk(alloc, disk, len, TEXT_AT + size, window, room)? {
             Walked::Faulty(why) => Ok(Reading::Faulty(why)),
             Walked::Closed { gate, grants } => Ok(Reading::Found { gate, grants }),
         },

@@ -8,6 +8,7 @@ ghost use Rattle.shift_recovery.specs.Windows.{IsTextEnd};
 
 use crate::faults::Stop;
 use crate::pieces::{PIECE, with_piece};
+use move_journal::TEXT_AT;
 use outside_io::Disk;
 use std::alloc::Global;
 
@@ -64,7 +65,7 @@ pub(crate) fn compare<D: Disk>(
 {
     let mut at = kept.len() as u64;
     let mut kept = kept;
-    let mut used = 13;
+    let mut used = TEXT_AT as usize;
     let mut done = 0;
     'text: loop {
         let ready = ((kept.len() - used) as u64).min(size - done);

@@ -10,6 +10,7 @@ use crate::gates::gate_in;
 use crate::pieces::{PIECE, with_piece};
 use crate::texts::Window;
 use cell_base::{Grant, List};
+use move_journal::ENTRY_SIZE;
 use outside_io::Disk;
 use std::alloc::Global;
 
@@ -60,8 +61,8 @@ pub(crate) fn walk<D: Disk>(
                     return Ok(Walked::Faulty(JournalFault::Long { len: room + 1 }));
                 }
                 grants.try_push(grant)?;
-                used += 17;
-                gate += 17;
+                used += ENTRY_SIZE as usize;
+                gate += ENTRY_SIZE;
             }
         }
     }

@@ -3,6 +3,7 @@ ghost use Rattle.std.specs.Prelude.{◌≡◌, ◌<◌, length, map, slice_index
 ghost use Rattle.cell_base.specs.declared.limits.TheConstants.{MAX_RESOURCES};
 ghost use Rattle.cell_base.specs.Masks.{has_bit};
 ghost use Rattle.cell_base.specs.Neighborhoods.{masks_of};
+ghost use Rattle.upstream_sets.specs.Masks.{TellsLeads};
 ghost use Rattle.upstream_sets.specs.Members.{AreMembersOf, with_bit};
 
 use crate::sweep::sweep;
@@ -39,7 +40,8 @@ impl Upstream {
     /// The mask of a stage: bit `r` is set exactly where the stage leads to resource `r`.
     pub fn mask(&self, stage: StageNo) -> u64
         requires { stage.0 < length self.now }
-        ensures { result ≡ slice_index self.now stage.0 }
+        ensures mask { result ≡ slice_index self.now stage.0 }
+        ensures leads { TellsLeads self.now stage.0 result }
     {
         self.masks[stage.0 as usize]
     }

@@ -2,8 +2,10 @@
 //! output.
 #![tactic(auto)]
 
-use cell_program::{DirFiles, FileDisk, OutSink, RestPace, cell_main};
+use cell_program::{Journal, cell_main, journal_in};
 use outside_io::{Disk, Pace};
+use real_outside::{DirFiles, FileDisk, OutSink, Purpose, RestPace};
+use std::fs::File;
 use std::io::{BufWriter, Write};
 use std::process::ExitCode;
 use std::rt::{Env, Files};
@@ -11,12 +13,15 @@ use std::sync::Wait;
 use std::thread::Threads;
 use std::{env, io};
 
+/// The bytes that standard output gathers for one write.
+const OUT_BUFFER: usize = 65536;
+
 // A buffer makes one write of many lines. Where there is no memory for it, each line is a write.
 fn main(rt: HostRuntime) -> ExitCode {
-    let words = words_behind_name(&rt);
-    let disk = FileDisk::new(&rt, rt.alloc(), journal_in(&words));
+    let words = words_after_name(&rt);
+    let disk = disk_for(&rt, &words);
     let pace = RestPace::new(&rt);
-    let status = match BufWriter::new(rt.alloc(), io::writer(&rt)) {
+    let status = match BufWriter::with_capacity(rt.alloc(), OUT_BUFFER, io::writer(&rt)) {
         Ok(writer) => run_over(&rt, &words, writer, disk, &pace),
         Err(_) => run_over(&rt, &words, io::writer(&rt), disk, &pace),
     };
@@ -40,22 +45,22 @@ fn run_over<
     }
 }
 
-// The word that names a command's journal: the last one, but for `why` the third. Where it isn't there it is the empty name, which
-// no file has.
-fn journal_in(words: &[String]) -> &str {
-    match words {
-        [verb, rest @ ..] if verb.as_str() == "why" => match rest {
-            [_, journal, ..] => journal.as_str(),
-            _ => "",
-        },
-        [.., last] => last.as_str(),
-        [] => "",
+// The disk of the command that the words are. Without a journal it is on the empty name, which no file has.
+fn disk_for<'a, R: Files<File = File> + AllocGlobal>(
+    rt: &'a R,
+    words: &'a [String],
+) -> FileDisk<'a, R> {
+    let alloc = rt.alloc();
+    match journal_in(words) {
+        Some(Journal::Read(name)) => FileDisk::new(rt, alloc, name, Purpose::ToRead),
+        Some(Journal::Added(name)) => FileDisk::new(rt, alloc, name, Purpose::ToAdd),
+        None => FileDisk::new(rt, alloc, "", Purpose::ToRead),
     }
 }
 
-// The words behind the program's name. Words that can't be had, as those that aren't UTF-8, are none: no command has
+// The words after the program's name. Words that can't be had, as those that aren't UTF-8, are none: no command has
 // none, so the program answers with the usage line.
-fn words_behind_name<R: Env + AllocGlobal>(rt: &R) -> Vec<String> {
+fn words_after_name<R: Env + AllocGlobal>(rt: &R) -> Vec<String> {
     let mut words = Vec::new(rt.alloc());
     let Ok(given) = env::args(rt) else {
         return words;

@@ -2,15 +2,13 @@
 use Rattle.std.proofs.Common.{◌≡◌, ℕ, ◌<◌, List, [], length, map, get_or, ap, subst, sym, ◌∙◌, arith}
 use Rattle.std.specs.Option.{option_map_or}
 use Rattle.std.proofs.lemmas.List.{length-map, get_or-map, take_all}
-use Rattle.std.proofs.lemmas.List.Elements.{All-nil}
 use Rattle.std.proofs.lemmas.Option.{slice_get-get_or}
 use Rattle.cell_base.specs.declared.cells.Cell.{Cell}
 use Rattle.cell_base.specs.declared.cells.Resource.{Resource}
-use Rattle.cell_base.specs.Stages.{stage_of, resource_at, capacity_of}
+use Rattle.cell_base.specs.declared.requests.Part.{Part}
+use Rattle.cell_base.specs.Stages.{capacity_of}
 use Rattle.cell_base.specs.Plans.{work}
-use Rattle.part_table.specs.declared.standing.Standing.{Standing}
-use Rattle.part_table.specs.Parts.{parts_of}
-use Rattle.admission_core.specs.CoreState.{AreOn, AreCounts}
+use Rattle.admission_core.specs.CoreState.{AreCounts}
 use Rattle.admission_core.proofs.admission.no_parts.Goals as goal
 
 -- the capacities of all resources
@@ -30,13 +28,12 @@ returns-clause-tallied c =
     c.in_ok-counts.ensures.length ∙ ap length all ∙ length-map cell.resources (λ (r : Resource). r.capacity) in
     let none = c.in_ok-parts.ensures.empty in
     record {
-      on = subst (AreOn cell) (sym none) (All-nil (λ (item : Standing). item.on.0 ≡ resource_at cell (stage_of item.part)));
-      resources = omega (arith, c.in_ok-parts.ensures.resources, c.len.ensures);
+      same_cell = c.in_ok-parts.ensures.cell;
       enough = omega (arith, c.in_ok-parts.ensures.spare, c.units.ensures);
-      counts = subst (λ (items : List Standing). AreCounts cell (parts_of items) c.in_ok-counts.counts) (sym none) (record {
+      counts = subst (λ (parts : List Part). AreCounts cell parts c.in_ok-counts.counts) (sym none) (record {
         complete = complete;
         each = λ r h. c.in_ok-counts.ensures.zero r;
         capacities = λ r h. ap (λ (xs : List ℕ). get_or xs r 0) (c.in_ok-counts.ensures.capacities ∙ all) ∙ capacity_at cell r h;
       });
-      work = ap (λ (items : List Standing). work cell (parts_of items)) (sym none);
+      work = ap (λ (parts : List Part). work cell parts) (sym none);
     }

@@ -1,6 +1,5 @@
 -- An unload that is granted takes out the part.
 use Rattle.std.proofs.Common.{sym, ◌∙◌}
-use Rattle.part_table.specs.Parts.{parts_of}
 use Rattle.policy_laws.proofs.Granting.{unload-granted}
 use Rattle.admission_core.proofs.changes.apply.Goals as goal
 
@@ -9,4 +8,4 @@ returns-in-Unload-clause-parts c =
     rw c.in-Unload.is
     (c.leave.ensures.parts
     ∙ sym
-    (unload-granted c.args.table.now (parts_of c.args.tally.now.parts.items) c.in-Unload.job (rw c.in-Unload.is at c.requires.granted)))
+    (unload-granted c.args.table.now c.args.tally.now.parts.parts c.in-Unload.job (rw c.in-Unload.is at c.requires.granted)))

@@ -1,17 +1,14 @@
 -- A part that is granted to enter has room, and every number goes along with it.
 use Rattle.std.proofs.Common.{◌≡◌, List, [], ◌∷◌, ◌++◌, length, ap, subst, sym, ◌∙◌, arith}
-use Rattle.std.proofs.lemmas.List.{length-map, length_push}
+use Rattle.std.proofs.lemmas.List.{length_push}
 use Rattle.cell_base.specs.declared.requests.Part.{Part}
 use Rattle.cell_base.specs.Stages.{stage_of}
 use Rattle.cell_base.specs.Plans.{work}
 use Rattle.neighborhood_counts.specs.Counts.{IsMaskOf, first_full}
-use Rattle.part_table.specs.declared.standing.Standing.{Standing}
-use Rattle.part_table.specs.Parts.{parts_of}
-use Rattle.admission_core.specs.CoreState.{AreOn, AreCounts}
+use Rattle.admission_core.specs.CoreState.{AreCounts}
 use Rattle.policy_laws.proofs.Granting.{entry-granted, without-absent}
 use Rattle.policy_laws.proofs.Room.{room_for, few_parts}
 use Rattle.admission_core.proofs.Saturating.{mask_is_of, entry_over}
-use Rattle.admission_core.proofs.Standing.{AreOn-push, parts_of-push}
 use Rattle.admission_core.proofs.Tallying.{counts_entered, work_entered, work_of-le, work-le}
 use Rattle.admission_core.proofs.changes.enter.Goals as goal
 
@@ -19,12 +16,12 @@ pub enter-requires-clause-mask : goal.enter-requires-clause-mask
 enter-requires-clause-mask c =
     let sound = c.requires.sound in
     subst (IsMaskOf c.args.tally.now.counts) (sym c.mask.ensures)
-    (mask_is_of c.args.table.now sound.fits c.args.tally.now.counts (parts_of c.args.tally.now.parts.items) sound.tallied.counts (stage_of c.args.part))
+    (mask_is_of c.args.table.now sound.fits c.args.tally.now.counts c.args.tally.now.parts.parts sound.tallied.counts (stage_of c.args.part))
 
 pub enter-requires-clause-room : goal.enter-requires-clause-room
 enter-requires-clause-room c =
     let cell = c.args.table.now in
-    let parts = parts_of c.args.tally.now.parts.items in
+    let parts = c.args.tally.now.parts.parts in
     let sound = c.requires.sound in
     ap (first_full c.args.tally.now.counts) c.mask.ensures
     ∙ entry_over cell sound.fits c.args.tally.now.counts parts sound.tallied.counts c.args.part sound.admitted.within
@@ -33,14 +30,12 @@ enter-requires-clause-room c =
 pub arrive-requires-clause-room : goal.arrive-requires-clause-room
 arrive-requires-clause-room c =
     let cell = c.args.table.now in
-    let items = c.args.tally.now.parts.items in
-    let parts = parts_of items in
+    let parts = c.args.tally.now.parts.parts in
     let sound = c.requires.sound in
     let enters = entry-granted cell parts c.args.part c.requires.granted in
     omega (
       arith,
       sound.tallied.enough,
-      length-map items (λ (item : Standing). item.part),
       ap length (without-absent parts c.args.part.job enters.absent),
       room_for cell sound.fits parts c.args.part sound.admitted c.requires.stage enters.within,
     )
@@ -48,7 +43,7 @@ arrive-requires-clause-room c =
 pub overflow_add-tally : goal.overflow_add-tally
 overflow_add-tally c =
     let cell = c.args.table.now in
-    let parts = parts_of c.args.tally.now.parts.items in
+    let parts = c.args.tally.now.parts.parts in
     let sound = c.requires.sound in
     omega (
       arith,
@@ -61,21 +56,17 @@ overflow_add-tally c =
 pub returns-clause-tallied : goal.returns-clause-tallied
 returns-clause-tallied c =
     let cell = c.args.table.now in
-    let items = c.args.tally.now.parts.items in
-    let parts = parts_of items in
+    let parts = c.args.tally.now.parts.parts in
     let tallied = c.requires.sound.tallied in
-    let now : parts_of c.arrive.new.self.items ≡ parts ++ c.args.part ∷ [] =
-    ap (λ (items : List Standing). parts_of items) c.arrive.ensures.items ∙ parts_of-push items c.args.part c.resource_at.result in
+    let now : c.arrive.new.self.parts ≡ parts ++ c.args.part ∷ [] = c.arrive.ensures.parts in
     record {
-      on = subst (AreOn cell) (sym c.arrive.ensures.items)
-          (AreOn-push cell items c.args.part c.resource_at.result tallied.on c.resource_at.ensures.value);
-      resources = c.arrive.ensures.resources ∙ tallied.resources;
+      same_cell = c.arrive.ensures.cell ∙ tallied.same_cell;
       enough = omega (
         arith,
         tallied.enough,
         c.arrive.ensures.spare,
-        ap length c.arrive.ensures.items,
-        length_push items (record { part = c.args.part; on = c.resource_at.result }),
+        ap length now,
+        length_push parts c.args.part,
       );
       counts = subst (λ (parts : List Part). AreCounts cell parts c.enter.new.self) (sym now)
           (counts_entered cell c.requires.sound.fits parts c.args.tally.now.counts c.enter.new.self tallied.counts c.enter.ensures.length

@@ -1,89 +1,106 @@
 -- The first part that waits is done, and needs one step less.
-use Rattle.std.proofs.Common.{◌≡◌, ◌+◌, false, not, ◌==◌, Some, None, find, List, length, ap, subst, sym, ◌∙◌, arith}
+use Rattle.std.proofs.Common.{◌≡◌, ℕ, ◌+◌, ◌-◌, false, Option, not, ◌==◌, Some, None, find, List, length, ap, subst, sym, ◌∙◌, arith}
 use Rattle.std.specs.Option.{option_map}
 use Rattle.std.proofs.lemmas.Bool.{and_parts, not-true}
-use Rattle.std.proofs.lemmas.List.{length-map}
+use Rattle.cell_base.specs.declared.cells.Cell.{Cell}
+use Rattle.cell_base.specs.declared.cells.ResId.{ResId}
+use Rattle.cell_base.specs.declared.requests.JobId.{JobId}
 use Rattle.cell_base.specs.declared.requests.Part.{Part}
 use Rattle.cell_base.specs.Stages.{stage_of, resource_at}
 use Rattle.cell_base.specs.Outcomes.{is_waiting_on, finish_first}
 use Rattle.cell_base.specs.Plans.{work}
 use Rattle.policy_laws.proofs.Lists.{find-Contains, find_passes}
 use Rattle.policy_laws.proofs.Work.{work_of-positive}
-use Rattle.part_table.specs.declared.standing.Standing.{Standing}
-use Rattle.part_table.specs.Parts.{parts_of, is_waiting, finish, finished}
-use Rattle.admission_core.specs.CoreState.{AreOn, AreCounts}
-use Rattle.admission_core.proofs.Moving.{some_waiting, no_waiting, none_left, finish_first-none}
-use Rattle.admission_core.proofs.Standing.{waiting_found, finished_found, AreOn-finished}
+use Rattle.part_table.specs.Parts.{Table}
+use Rattle.part_table.proofs.Standings.{length-finish_first}
+use Rattle.part_table.proofs.Told.{finish_first-none}
+use Rattle.admission_core.specs.CoreState.{AreCounts, IsTallied, IsSound}
+use Rattle.admission_core.specs.declared.tally.Tally.{Tally}
+use Rattle.admission_core.proofs.Moving.{some_job, no_job}
 use Rattle.admission_core.proofs.Tallying.{counts_finished, work_finished, work_without}
 use Rattle.admission_core.proofs.changes.finish_first_on.Goals as goal
 
--- the parts behind the work
-now : (c : goal.After-tally-1)
-    → parts_of c.finish_first.new.self.items ≡ finish_first (is_waiting_on c.args.table.now c.args.machine.0) (parts_of c.args.tally.now.parts.items)
-now c =
-    let cell = c.args.table.now in
-    let items = c.args.tally.now.parts.items in
-    let some = some_waiting (find (is_waiting c.args.machine) items) c.in-Some.field-0 c.in-Some.ensures.job in
-    ap (λ (items : List Standing). parts_of items) (c.in-Some.ensures.items ∙ ap (finished items) (sym some.2))
-    ∙ finished_found cell c.args.machine items some.0 c.requires.sound.tallied.on c.requires.sound.admitted.state.distinct some.1
+pub finish_first-requires : goal.finish_first-requires
+finish_first-requires c =
+    omega (arith, c.requires.machine, ap (λ (cell : Cell). length cell.resources) c.requires.sound.tallied.same_cell)
 
--- and the work behind it
-less : (c : goal.After-tally-1) → work c.args.table.now (parts_of c.finish_first.new.self.items) + 1 ≡ c.args.tally.now.work
-less c =
-    let cell = c.args.table.now in
-    let items = c.args.tally.now.parts.items in
-    let tallied = c.requires.sound.tallied in
-    let some = some_waiting (find (is_waiting c.args.machine) items) c.in-Some.field-0 c.in-Some.ensures.job in
-    let waits : find (is_waiting_on cell c.args.machine.0) (parts_of items) ≡ Some some.0.part =
-    waiting_found cell c.args.machine items tallied.on ∙ ap (option_map (λ (item : Standing). item.part)) some.1 in
-    let undone : some.0.part.done ≡ false =
-    not-true _ (and_parts (not some.0.part.done) (resource_at cell (stage_of some.0.part) == c.args.machine.0)
-    (find_passes (is_waiting_on cell c.args.machine.0) (parts_of items) some.0.part waits)).0 in
-    ap (λ parts. work cell parts + 1) (now c)
-    ∙ work_finished cell c.requires.sound.fits (parts_of items) (is_waiting_on cell c.args.machine.0) some.0.part waits undone
-    ∙ sym tallied.work
+module _ (cell : Cell) (before : Tally) (sound : IsSound cell before) (machine : ResId) where
+  -- the first part that waits, by the cell
+  waits : (job : Option JobId)
+      → job ≡ option_map (λ (part : Part). part.job) (find (is_waiting_on before.parts.cell machine.0) before.parts.parts)
+      → job ≡ option_map (λ (part : Part). part.job) (find (is_waiting_on cell machine.0) before.parts.parts)
+  waits job found =
+      found
+      ∙ ap (λ (cell : Cell). option_map (λ (part : Part). part.job) (find (is_waiting_on cell machine.0) before.parts.parts))
+      sound.tallied.same_cell
+
+  module _ (new : Table)
+      (change : new ≡ record before.parts { parts = finish_first (is_waiting_on before.parts.cell machine.0) before.parts.parts }) where
+    -- the parts behind the work
+    now : new.parts ≡ finish_first (is_waiting_on cell machine.0) before.parts.parts
+    now =
+        ap (λ (table : Table). table.parts) change
+        ∙ ap (λ (cell : Cell). finish_first (is_waiting_on cell machine.0) before.parts.parts) sound.tallied.same_cell
+
+    -- what goes along with them
+    tallied : (left : ℕ) → left ≡ work cell new.parts → IsTallied cell (record before { parts = new; work = left })
+    tallied left is = record {
+      same_cell = ap (λ (table : Table). table.cell) change ∙ sound.tallied.same_cell;
+      enough = omega (
+        arith,
+        sound.tallied.enough,
+        ap (λ (table : Table). table.spare) change,
+        ap length now,
+        length-finish_first (is_waiting_on cell machine.0) before.parts.parts,
+      );
+      counts = subst (λ (parts : List Part). AreCounts cell parts before.counts) (sym now)
+          (counts_finished cell sound.fits before.parts.parts before.counts (is_waiting_on cell machine.0) sound.tallied.counts);
+      work = is;
+    }
 
 pub overflow_sub-tally : goal.overflow_sub-tally
 overflow_sub-tally c =
     let cell = c.args.table.now in
-    let items = c.args.tally.now.parts.items in
+    let before = c.args.tally.now in
     let sound = c.requires.sound in
-    let some = some_waiting (find (is_waiting c.args.machine) items) c.in-Some.field-0 c.in-Some.ensures.job in
-    let waits : find (is_waiting_on cell c.args.machine.0) (parts_of items) ≡ Some some.0.part =
-    waiting_found cell c.args.machine items sound.tallied.on ∙ ap (option_map (λ (item : Standing). item.part)) some.1 in
+    let test = is_waiting_on cell c.args.machine.0 in
+    let first = some_job (find test before.parts.parts) c.in-Some.field-0
+    (waits cell before sound c.args.machine (Some c.in-Some.field-0) c.in-Some.ensures.job) in
     omega (
       arith,
       sound.tallied.work,
-      work_without cell sound.fits (parts_of items) some.0.part sound.admitted.state.distinct
-          (find-Contains (is_waiting_on cell c.args.machine.0) (parts_of items) some.0.part waits),
-      work_of-positive cell some.0.part,
+      work_without cell sound.fits before.parts.parts first.0 sound.admitted.state.distinct
+          (find-Contains test before.parts.parts first.0 first.1),
+      work_of-positive cell first.0,
     )
-
-pub returns-in-Some-clause-parts : goal.returns-in-Some-clause-parts
-returns-in-Some-clause-parts c = now c
 
 pub returns-in-Some-clause-tallied : goal.returns-in-Some-clause-tallied
 returns-in-Some-clause-tallied c =
     let cell = c.args.table.now in
-    let items = c.args.tally.now.parts.items in
-    let tallied = c.requires.sound.tallied in
-    record {
-      on = subst (AreOn cell) (sym c.in-Some.ensures.items) (AreOn-finished cell items c.in-Some.field-0 tallied.on);
-      resources = c.finish_first.ensures.resources ∙ tallied.resources;
-      enough = omega (arith, tallied.enough, c.finish_first.ensures.spare, ap length c.in-Some.ensures.items, length-map items (finish c.in-Some.field-0));
-      counts = subst (λ (parts : List Part). AreCounts cell parts c.args.tally.now.counts) (sym (now c))
-          (counts_finished cell c.requires.sound.fits (parts_of items) c.args.tally.now.counts (is_waiting_on cell c.args.machine.0) tallied.counts);
-      work = omega (arith, less c);
-    }
+    let before = c.args.tally.now in
+    let sound = c.requires.sound in
+    let test = is_waiting_on cell c.args.machine.0 in
+    let first = some_job (find test before.parts.parts) c.in-Some.field-0
+    (waits cell before sound c.args.machine (Some c.in-Some.field-0) c.in-Some.ensures.job) in
+    let undone : first.0.done ≡ false =
+    not-true _ (and_parts (not first.0.done) (resource_at cell (stage_of first.0) == c.args.machine.0)
+    (find_passes test before.parts.parts first.0 first.1)).0 in
+    let less : work cell c.finish_first.new.self.parts + 1 ≡ before.work =
+    ap (λ parts. work cell parts + 1) (now cell before sound c.args.machine c.finish_first.new.self c.in-Some.ensures.table)
+    ∙ work_finished cell sound.fits before.parts.parts test first.0 first.1 undone
+    ∙ sym sound.tallied.work in
+    tallied cell before sound c.args.machine c.finish_first.new.self c.in-Some.ensures.table (before.work - 1) (omega (arith, less))
 
-pub returns-in_default-clause-parts : goal.returns-in_default-clause-parts
-returns-in_default-clause-parts c =
+pub returns-in_default-clause-tallied : goal.returns-in_default-clause-tallied
+returns-in_default-clause-tallied c =
     let cell = c.args.table.now in
-    let items = c.args.tally.now.parts.items in
-    let result : c.finish_first.result ≡ None = none_left c.finish_first.result c.in_default.not-Some in
-    let none = no_waiting (find (is_waiting c.args.machine) items) (sym result ∙ c.finish_first.ensures.job) in
-    let same = rw result at c.finish_first.ensures.items in
-    ap (λ (items : List Standing). parts_of items) same
-    ∙ sym
-    (finish_first-none (is_waiting_on cell c.args.machine.0) (parts_of items)
-    (waiting_found cell c.args.machine items c.requires.sound.tallied.on ∙ ap (option_map (λ (item : Standing). item.part)) none))
+    let before = c.args.tally.now in
+    let sound = c.requires.sound in
+    let test = is_waiting_on cell c.args.machine.0 in
+    let found = waits cell before sound c.args.machine c.finish_first.result c.finish_first.ensures.job in
+    let nobody : find test before.parts.parts ≡ None = no_job (find test before.parts.parts) (sym c.in_default.is ∙ found) in
+    let same : before.parts.parts ≡ c.finish_first.new.self.parts =
+    sym (now cell before sound c.args.machine c.finish_first.new.self c.finish_first.ensures.table
+    ∙ finish_first-none test before.parts.parts nobody) in
+    tallied cell before sound c.args.machine c.finish_first.new.self c.finish_first.ensures.table before.work
+    (sound.tallied.work ∙ ap (work cell) same)

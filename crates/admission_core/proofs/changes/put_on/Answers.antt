@@ -8,38 +8,36 @@ use Rattle.cell_base.specs.Neighborhoods.{mask_of}
 use Rattle.cell_base.specs.Outcomes.{without}
 use Rattle.cell_base.specs.Plans.{work}
 use Rattle.neighborhood_counts.specs.Counts.{IsMaskOf, AreHeld, first_full}
-use Rattle.part_table.specs.declared.standing.Standing.{Standing}
-use Rattle.part_table.specs.Parts.{parts_of, without_job}
-use Rattle.part_table.proofs.Standings.{parts_of-without, length_departed, advanced_is}
-use Rattle.admission_core.specs.CoreState.{AreOn, AreCounts}
+use Rattle.part_table.specs.Parts.{gone_on}
+use Rattle.part_table.proofs.Standings.{length-without}
+use Rattle.admission_core.specs.CoreState.{AreCounts}
 use Rattle.admission_core.proofs.Moving.{part_known}
 use Rattle.policy_laws.proofs.Room.{few_parts}
 use Rattle.admission_core.proofs.Saturating.{mask_is_of, only_held, move_over}
-use Rattle.admission_core.proofs.Standing.{AreOn-without, AreOn-push, parts_of-push}
 use Rattle.admission_core.proofs.Tallying.{counts_moved, work_entered, work_without, work_of-le, work-le}
 use Rattle.admission_core.proofs.changes.put_on.Goals as goal
 
 pub mask-requires : goal.mask-requires
 mask-requires c =
-    (part_known c.args.table.now (parts_of c.args.tally.now.parts.items) c.args.part.job c.args.part c.requires.sound.admitted
+    (part_known c.args.table.now c.args.tally.now.parts.parts c.args.part.job c.args.part c.requires.sound.admitted
     c.requires.found).stage
 
 pub shift-requires-clause-from_mask : goal.shift-requires-clause-from_mask
 shift-requires-clause-from_mask c =
     let sound = c.requires.sound in
     subst (IsMaskOf c.args.tally.now.counts) (sym c.mask.ensures)
-    (mask_is_of c.args.table.now sound.fits c.args.tally.now.counts (parts_of c.args.tally.now.parts.items) sound.tallied.counts (stage_of c.args.part))
+    (mask_is_of c.args.table.now sound.fits c.args.tally.now.counts c.args.tally.now.parts.parts sound.tallied.counts (stage_of c.args.part))
 
 pub shift-requires-clause-to_mask : goal.shift-requires-clause-to_mask
 shift-requires-clause-to_mask c =
     let sound = c.requires.sound in
     subst (IsMaskOf c.args.tally.now.counts) (sym c.mask-2.ensures)
-    (mask_is_of c.args.table.now sound.fits c.args.tally.now.counts (parts_of c.args.tally.now.parts.items) sound.tallied.counts (stage_of c.args.next))
+    (mask_is_of c.args.table.now sound.fits c.args.tally.now.counts c.args.tally.now.parts.parts sound.tallied.counts (stage_of c.args.next))
 
 pub shift-requires-clause-room : goal.shift-requires-clause-room
 shift-requires-clause-room c =
     let cell = c.args.table.now in
-    let parts = parts_of c.args.tally.now.parts.items in
+    let parts = c.args.tally.now.parts.parts in
     let sound = c.requires.sound in
     let here = part_known cell parts c.args.part.job c.args.part sound.admitted c.requires.found in
     ap₂ (λ to from. first_full c.args.tally.now.counts (bits_only_of to from)) c.mask-2.ensures c.mask.ensures
@@ -50,7 +48,7 @@ shift-requires-clause-room c =
 pub shift-requires-clause-held : goal.shift-requires-clause-held
 shift-requires-clause-held c =
     let cell = c.args.table.now in
-    let parts = parts_of c.args.tally.now.parts.items in
+    let parts = c.args.tally.now.parts.parts in
     let sound = c.requires.sound in
     let here = part_known cell parts c.args.part.job c.args.part sound.admitted c.requires.found in
     subst (λ from. AreHeld c.args.tally.now.counts (bits_only_of from c.mask-2.result)) (sym c.mask.ensures)
@@ -59,18 +57,18 @@ shift-requires-clause-held c =
 
 pub advance-requires-clause-present : goal.advance-requires-clause-present
 advance-requires-clause-present c =
-    (part_known c.args.table.now (parts_of c.args.tally.now.parts.items) c.args.part.job c.args.part c.requires.sound.admitted
+    (part_known c.args.table.now c.args.tally.now.parts.parts c.args.part.job c.args.part c.requires.sound.admitted
     c.requires.found).loaded
 
 pub work_of-requires : goal.work_of-requires
 work_of-requires c =
-    (part_known c.args.table.now (parts_of c.args.tally.now.parts.items) c.args.part.job c.args.part c.requires.sound.admitted
+    (part_known c.args.table.now c.args.tally.now.parts.parts c.args.part.job c.args.part c.requires.sound.admitted
     c.requires.found).stage
 
 pub overflow_sub-tally : goal.overflow_sub-tally
 overflow_sub-tally c =
     let cell = c.args.table.now in
-    let parts = parts_of c.args.tally.now.parts.items in
+    let parts = c.args.tally.now.parts.parts in
     let sound = c.requires.sound in
     let here = part_known cell parts c.args.part.job c.args.part sound.admitted c.requires.found in
     omega (arith, sound.tallied.work, c.work_of.ensures, work_without cell sound.fits parts c.args.part sound.admitted.state.distinct here.stands)
@@ -78,7 +76,7 @@ overflow_sub-tally c =
 pub overflow_add-tally : goal.overflow_add-tally
 overflow_add-tally c =
     let cell = c.args.table.now in
-    let parts = parts_of c.args.tally.now.parts.items in
+    let parts = c.args.tally.now.parts.parts in
     let sound = c.requires.sound in
     omega (
       arith,
@@ -88,21 +86,14 @@ overflow_add-tally c =
       work_of-le cell sound.fits parts c.args.next c.requires.stage,
     )
 
--- the list behind the move
-moved : (c : goal.After-tally-1) → c.advance.new.self.items
-    ≡ without_job c.args.tally.now.parts.items c.args.part.job ++ (record { part = c.args.next; on = c.resource_at.result }) ∷ []
-moved c =
-    c.advance.ensures.items
-    ∙ advanced_is c.args.tally.now.parts.items c.args.part.job c.args.next.place c.args.next.done c.resource_at.result c.args.part c.requires.found
-    ∙ ap (λ (part : Part). without_job c.args.tally.now.parts.items c.args.part.job ++ (record { part = part; on = c.resource_at.result }) ∷ [])
-    (sym c.requires.same)
-
-now : (c : goal.After-tally-1) → parts_of c.advance.new.self.items
-    ≡ without (parts_of c.args.tally.now.parts.items) c.args.part.job ++ c.args.next ∷ []
+-- the parts behind the move
+now : (c : goal.After-tally-1) → c.advance.new.self.parts ≡ without c.args.tally.now.parts.parts c.args.part.job ++ c.args.next ∷ []
 now c =
-    ap (λ (items : List Standing). parts_of items) (moved c)
-    ∙ parts_of-push (without_job c.args.tally.now.parts.items c.args.part.job) c.args.next c.resource_at.result
-    ∙ ap (λ (parts : List Part). parts ++ c.args.next ∷ []) (parts_of-without c.args.tally.now.parts.items c.args.part.job)
+    let parts = c.args.tally.now.parts.parts in
+    let part = c.args.part in
+    let gone : gone_on parts part.job c.args.next.place c.args.next.done
+    ≡ without parts part.job ++ (record part { place = c.args.next.place; done = c.args.next.done }) ∷ [] = rw c.requires.found in
+    c.advance.ensures.parts ∙ gone ∙ ap (λ (next : Part). without parts part.job ++ next ∷ []) (sym c.requires.same)
 
 pub returns-clause-parts : goal.returns-clause-parts
 returns-clause-parts c = now c
@@ -110,25 +101,21 @@ returns-clause-parts c = now c
 pub returns-clause-tallied : goal.returns-clause-tallied
 returns-clause-tallied c =
     let cell = c.args.table.now in
-    let items = c.args.tally.now.parts.items in
-    let parts = parts_of items in
+    let parts = c.args.tally.now.parts.parts in
     let sound = c.requires.sound in
     let tallied = sound.tallied in
     let part = c.args.part in
     let distinct = sound.admitted.state.distinct in
     let here = part_known cell parts part.job part sound.admitted c.requires.found in
     record {
-      on = subst (AreOn cell) (sym (moved c))
-          (AreOn-push cell (without_job items part.job) c.args.next c.resource_at.result (AreOn-without cell items part.job tallied.on)
-          c.resource_at.ensures.value);
-      resources = c.advance.ensures.resources ∙ tallied.resources;
+      same_cell = c.advance.ensures.cell ∙ tallied.same_cell;
       enough = omega (
         arith,
         tallied.enough,
         c.advance.ensures.spare,
-        ap length (moved c),
-        length_push (without_job items part.job) (record { part = c.args.next; on = c.resource_at.result }),
-        length_departed items part.job distinct here.loaded,
+        ap length (now c),
+        length_push (without parts part.job) c.args.next,
+        length-without parts part.job distinct here.loaded,
       );
       counts = subst (λ (parts : List Part). AreCounts cell parts c.shift.new.self) (sym (now c))
           (counts_moved cell sound.fits parts c.args.tally.now.counts c.shift.new.self tallied.counts c.shift.ensures.length

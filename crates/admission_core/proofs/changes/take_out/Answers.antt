@@ -5,31 +5,28 @@ use Rattle.cell_base.specs.Stages.{stage_of}
 use Rattle.cell_base.specs.Outcomes.{without}
 use Rattle.cell_base.specs.Plans.{work}
 use Rattle.neighborhood_counts.specs.Counts.{IsMaskOf, AreHeld}
-use Rattle.part_table.specs.declared.standing.Standing.{Standing}
-use Rattle.part_table.specs.Parts.{parts_of}
-use Rattle.part_table.proofs.Standings.{parts_of-without, length_departed}
-use Rattle.admission_core.specs.CoreState.{AreOn, AreCounts}
+use Rattle.part_table.proofs.Standings.{length-without}
+use Rattle.admission_core.specs.CoreState.{AreCounts}
 use Rattle.admission_core.proofs.Moving.{part_known}
 use Rattle.admission_core.proofs.Saturating.{mask_is_of, mask_held}
-use Rattle.admission_core.proofs.Standing.{AreOn-without}
 use Rattle.admission_core.proofs.Tallying.{counts_left, work_without}
 use Rattle.admission_core.proofs.changes.take_out.Goals as goal
 
 pub mask-requires : goal.mask-requires
 mask-requires c =
-    (part_known c.args.table.now (parts_of c.args.tally.now.parts.items) c.args.part.job c.args.part c.requires.sound.admitted
+    (part_known c.args.table.now c.args.tally.now.parts.parts c.args.part.job c.args.part c.requires.sound.admitted
     c.requires.found).stage
 
 pub leave-requires-clause-mask : goal.leave-requires-clause-mask
 leave-requires-clause-mask c =
     let sound = c.requires.sound in
     subst (IsMaskOf c.args.tally.now.counts) (sym c.mask.ensures)
-    (mask_is_of c.args.table.now sound.fits c.args.tally.now.counts (parts_of c.args.tally.now.parts.items) sound.tallied.counts (stage_of c.args.part))
+    (mask_is_of c.args.table.now sound.fits c.args.tally.now.counts c.args.tally.now.parts.parts sound.tallied.counts (stage_of c.args.part))
 
 pub leave-requires-clause-held : goal.leave-requires-clause-held
 leave-requires-clause-held c =
     let sound = c.requires.sound in
-    let parts = parts_of c.args.tally.now.parts.items in
+    let parts = c.args.tally.now.parts.parts in
     let stands = (part_known c.args.table.now parts c.args.part.job c.args.part sound.admitted c.requires.found).stands in
     subst (AreHeld c.args.tally.now.counts) (sym c.mask.ensures)
     (mask_held c.args.table.now sound.fits c.args.tally.now.counts parts sound.tallied.counts c.args.part c.args.part
@@ -37,47 +34,44 @@ leave-requires-clause-held c =
 
 pub depart-requires : goal.depart-requires
 depart-requires c =
-    (part_known c.args.table.now (parts_of c.args.tally.now.parts.items) c.args.part.job c.args.part c.requires.sound.admitted
+    (part_known c.args.table.now c.args.tally.now.parts.parts c.args.part.job c.args.part c.requires.sound.admitted
     c.requires.found).loaded
 
 pub work_of-requires : goal.work_of-requires
 work_of-requires c =
-    (part_known c.args.table.now (parts_of c.args.tally.now.parts.items) c.args.part.job c.args.part c.requires.sound.admitted
+    (part_known c.args.table.now c.args.tally.now.parts.parts c.args.part.job c.args.part c.requires.sound.admitted
     c.requires.found).stage
 
 pub overflow_sub-tally : goal.overflow_sub-tally
 overflow_sub-tally c =
     let cell = c.args.table.now in
-    let parts = parts_of c.args.tally.now.parts.items in
+    let parts = c.args.tally.now.parts.parts in
     let sound = c.requires.sound in
     let stands = (part_known cell parts c.args.part.job c.args.part sound.admitted c.requires.found).stands in
     omega (arith, sound.tallied.work, c.work_of.ensures, work_without cell sound.fits parts c.args.part sound.admitted.state.distinct stands)
 
 pub returns-clause-parts : goal.returns-clause-parts
 returns-clause-parts c =
-    ap (λ (items : List Standing). parts_of items) c.depart.ensures.items ∙ parts_of-without c.args.tally.now.parts.items c.args.part.job
+    c.depart.ensures.parts
 
 pub returns-clause-tallied : goal.returns-clause-tallied
 returns-clause-tallied c =
     let cell = c.args.table.now in
-    let items = c.args.tally.now.parts.items in
-    let parts = parts_of items in
+    let parts = c.args.tally.now.parts.parts in
     let sound = c.requires.sound in
     let tallied = sound.tallied in
     let part = c.args.part in
     let distinct = sound.admitted.state.distinct in
     let here = part_known cell parts part.job part sound.admitted c.requires.found in
-    let now : parts_of c.depart.new.self.items ≡ without parts part.job =
-    ap (λ (items : List Standing). parts_of items) c.depart.ensures.items ∙ parts_of-without items part.job in
+    let now : c.depart.new.self.parts ≡ without parts part.job = c.depart.ensures.parts in
     record {
-      on = subst (AreOn cell) (sym c.depart.ensures.items) (AreOn-without cell items part.job tallied.on);
-      resources = c.depart.ensures.resources ∙ tallied.resources;
+      same_cell = c.depart.ensures.cell ∙ tallied.same_cell;
       enough = omega (
         arith,
         tallied.enough,
         c.depart.ensures.spare,
-        ap length c.depart.ensures.items,
-        length_departed items part.job distinct here.loaded,
+        ap length now,
+        length-without parts part.job distinct here.loaded,
       );
       counts = subst (λ (parts : List Part). AreCounts cell parts c.leave.new.self) (sym now)
           (counts_left cell sound.fits parts c.args.tally.now.counts c.leave.new.self tallied.counts c.leave.ensures.length

@@ -5,7 +5,6 @@ use Rattle.cell_base.specs.declared.requests.Refusal.TheVariants.{Saturated}
 use Rattle.cell_base.specs.declared.requests.Reply.TheVariants.{Refused}
 use Rattle.cell_base.specs.Stages.{capacity_of}
 use Rattle.neighborhood_counts.specs.Counts.{first_full}
-use Rattle.part_table.specs.Parts.{parts_of}
 use Rattle.admission_core.specs.Replies.{reply_at}
 use Rattle.admission_core.proofs.Moving.{some_resource, full_within}
 use Rattle.admission_core.proofs.replies.reply_at.Goals as goal
@@ -28,7 +27,7 @@ capacity_of-requires c =
 pub returns-in-Some : goal.returns-in-Some
 returns-in-Some c =
     let cell = c.args.table.now in
-    let parts = parts_of c.args.tally.now.parts.items in
+    let parts = c.args.tally.now.parts.parts in
     let r = c.in-Some.at.0 in
     let full : first_full c.args.tally.now.counts c.args.mask ≡ Some r =
     some_resource (first_full c.args.tally.now.counts c.args.mask) c.in-Some.at (sym c.in-Some.is ∙ c.first_full.ensures) in

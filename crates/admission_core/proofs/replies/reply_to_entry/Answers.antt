@@ -3,7 +3,6 @@ use Rattle.std.proofs.Common.{◌≡◌, false, refl, ◌++◌, ◌∷◌, [], a
 use Rattle.cell_base.specs.Policy.{is_loaded}
 use Rattle.cell_base.specs.Stages.{stage_of}
 use Rattle.neighborhood_counts.specs.Counts.{IsMaskOf, first_full}
-use Rattle.part_table.specs.Parts.{parts_of}
 use Rattle.admission_core.specs.Replies.{reply_at}
 use Rattle.admission_core.proofs.Moving.{part_known, not_found, admit_reply}
 use Rattle.admission_core.proofs.Saturating.{mask_is_of, entry_over}
@@ -12,7 +11,7 @@ use Rattle.admission_core.proofs.replies.reply_to_entry.Goals as goal
 pub returns-in-Some : goal.returns-in-Some
 returns-in-Some c =
     let known =
-    part_known c.args.table.now (parts_of c.args.tally.now.parts.items) c.args.part.job c.in-Some.field-0 c.requires.sound.admitted
+    part_known c.args.table.now c.args.tally.now.parts.parts c.args.part.job c.in-Some.field-0 c.requires.sound.admitted
     (sym c.get.ensures.part ∙ c.in-Some.is) in
     rw known.loaded refl
 
@@ -20,12 +19,12 @@ pub reply_at-requires-clause-mask : goal.reply_at-requires-clause-mask
 reply_at-requires-clause-mask c =
     let sound = c.requires.sound in
     subst (IsMaskOf c.args.tally.now.counts) (sym c.mask.ensures)
-    (mask_is_of c.args.table.now sound.fits c.args.tally.now.counts (parts_of c.args.tally.now.parts.items) sound.tallied.counts (stage_of c.args.part))
+    (mask_is_of c.args.table.now sound.fits c.args.tally.now.counts c.args.tally.now.parts.parts sound.tallied.counts (stage_of c.args.part))
 
 pub returns-in-None : goal.returns-in-None
 returns-in-None c =
     let cell = c.args.table.now in
-    let parts = parts_of c.args.tally.now.parts.items in
+    let parts = c.args.tally.now.parts.parts in
     let sound = c.requires.sound in
     let absent : is_loaded parts c.args.part.job ≡ false = not_found parts c.args.part.job (sym c.get.ensures.part ∙ c.in-None.is) in
     rw absent

@@ -6,17 +6,16 @@ use Rattle.cell_base.specs.Stages.{IsStage, is_last, stage_of}
 use Rattle.cell_base.specs.Neighborhoods.{mask_of}
 use Rattle.cell_base.specs.Outcomes.{without, admit}
 use Rattle.neighborhood_counts.specs.Counts.{IsMaskOf, first_full}
-use Rattle.part_table.specs.Parts.{parts_of}
 use Rattle.admission_core.specs.Replies.{reply_at}
 use Rattle.admission_core.proofs.Moving.{part_known, admit_reply}
 use Rattle.admission_core.proofs.Saturating.{only_is_of, move_over}
 use Rattle.admission_core.proofs.replies.reply_to_move.Goals as goal
 
 pub is_last-requires : goal.is_last-requires
-is_last-requires c = (part_known c.args.table.now (parts_of c.args.tally.now.parts.items) c.args.part.job c.args.part c.requires.sound.admitted c.requires.found).stage
+is_last-requires c = (part_known c.args.table.now c.args.tally.now.parts.parts c.args.part.job c.args.part c.requires.sound.admitted c.requires.found).stage
 
 pub next_place-requires : goal.next_place-requires
-next_place-requires c = (part_known c.args.table.now (parts_of c.args.tally.now.parts.items) c.args.part.job c.args.part c.requires.sound.admitted c.requires.found).stage
+next_place-requires c = (part_known c.args.table.now c.args.tally.now.parts.parts c.args.part.job c.args.part c.requires.sound.admitted c.requires.found).stage
 
 pub mask-requires : goal.mask-requires
 mask-requires c =
@@ -29,13 +28,13 @@ reply_at-requires-clause-mask c =
     let held = c.args.tally.now.counts in
     subst (λ mask. IsMaskOf held (bits_only_of mask c.mask-in-Some.result)) (sym c.mask.ensures)
     (subst (λ mask. IsMaskOf held (bits_only_of (mask_of cell (stage_of c.arrival-next.result)) mask)) (sym c.mask-in-Some.ensures)
-    (only_is_of cell sound.fits held (parts_of c.args.tally.now.parts.items) sound.tallied.counts (stage_of c.arrival-next.result)
+    (only_is_of cell sound.fits held c.args.tally.now.parts.parts sound.tallied.counts (stage_of c.arrival-next.result)
     (stage_of c.args.part)))
 
 pub returns-in-Some : goal.returns-in-Some
 returns-in-Some c =
     let cell = c.args.table.now in
-    let parts = parts_of c.args.tally.now.parts.items in
+    let parts = c.args.tally.now.parts.parts in
     let held = c.args.tally.now.counts in
     let sound = c.requires.sound in
     let part = c.args.part in

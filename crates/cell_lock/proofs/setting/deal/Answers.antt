@@ -17,12 +17,12 @@ loop-k-preserved g c =
     let count = ap (λ (m : AtSeat g.row.D.Denot). m.0.count) i.left in
     let fewer : c.args.passes - at.k - 1 ≡ c.args.passes - (at.k + 1) = omega arith in
     let number : 1 + at.k ≡ at.k + 1 = omega arith in
-    let same_pass : c.deal_one-pass.result ≡ new_pass lock (1 + at.k) =
-    c.deal_one-pass.ensures.pass ∙ (λ j. new_pass (record { table = i.table j; opening = opening_is j }) (sym number j)) in
+    let same_pass : c.deal_one-pass.result ≡ new_pass g.D.Disk.moment lock (1 + at.k) =
+    c.deal_one-pass.ensures.pass ∙ (λ j. new_pass g.D.Disk.moment (record { table = i.table j; opening = opening_is j }) (sym number j)) in
     record {
       table = c.deal_one-pass.ensures.table ∙ i.table;
       left = c.deal_one-pass.ensures.left ∙ (λ j. (stock (opening_is j) (first j + 1) (count j - 1), []))
           ∙ ap (λ (k : ℕ). (stock o (at.k + 1 + 1) k, [])) fewer;
-      dealt = c.push.ensures.items ∙ (λ j. i.dealt j ++ same_pass j ∷ []) ∙ sym (passes_more lock 1 at.k);
+      dealt = c.push.ensures.items ∙ (λ j. i.dealt j ++ same_pass j ∷ []) ∙ sym (passes_more g.D.Disk.moment lock 1 at.k);
       room = omega (arith, i.room, c.push.ensures.spare);
     }

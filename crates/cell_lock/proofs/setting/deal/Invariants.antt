@@ -9,6 +9,6 @@ abbrev pub invariant-loop-k : goal.invariant-loop-k
 invariant-loop-k g l = record {
   table : l.seat.table_id ≡ l.initial.seat.table_id;
   left : l.seat.me ≡ (stock l.initial.seat.me.0.opening (l.k + 1) (l.passes - l.k), []);
-  dealt : l.dealt.items ≡ new_passes (lock_of l.initial.seat) 1 l.k;
+  dealt : l.dealt.items ≡ new_passes g.D.Disk.moment (lock_of l.initial.seat) 1 l.k;
   room : l.passes ≤ l.dealt.spare + l.k;
 }

@@ -10,6 +10,6 @@ split_seat-seat-requires g c =
     let some_left : v.count ≡ suc (v.count - 1) = omega arith in (
       c.requires.table.0,
       omega arith,
-      deals _ v.opening _ v.first (v.count - 1) v
+      deals _ g.D.Disk.moment _ v.opening _ v.first (v.count - 1) v
           (ap (λ (m : AtSeat g.row.D.Denot). m.0) c.requires.left.0 ∙ ap (λ k. stock v.opening v.first k) some_left),
     )

@@ -36,10 +36,11 @@ loop-pass-preserved g c =
     let first : ℕ = length c.loop-pass.passes + 1 in
     let t = last_left (lock_of c.args.host) c.loop-pass.passes c.pop.new.self done c.args.passes p i.1.1 c.in-Some.ensures.some
     c.requires.passes in
-    let more : gathered (passing p.lock.opening p.number p.seen p.mine) (gathering o first done) ≡ gathering o p.number (p ∷ done) =
+    let more : gathered (passing p.lock.opening p.number p.seen p.moment p.earlier p.mine) (gathering o first done)
+    ≡ gathering o p.number (p ∷ done) =
     gathered_more o first p done (ap (λ (l : LockId g.row.D.Denot). l.opening) t.1) in
     let taken : View g.row.D.Denot → AtSeat g.row.D.Denot =
-    λ (v : View g.row.D.Denot). (gathered (passing p.lock.opening p.number p.seen p.mine) v, []) in
+    λ (v : View g.row.D.Denot). (gathered (passing p.lock.opening p.number p.seen p.moment p.earlier p.mine) v, []) in
     let view = c.gather_one-host.ensures.view ∙ (ap (λ (m : AtSeat g.row.D.Denot). taken m.0) i.1.2
     ∙ ((λ j. (more j, [])) ∙ (λ j. (gathering o (t.2 j) (p ∷ done), [])))) in
     (c.gather_one-host.ensures.table ∙ i.0, (p ∷ done, t.0, view))

@@ -18,5 +18,5 @@ join_seat-requires g c =
       c.requires.table.0,
       c.requires.host.1,
       omega arith,
-      gathers _ _ _ _ _ idle c.requires.host.0 one next,
+      gathers _ _ _ _ _ _ _ idle c.requires.host.0 one next,
     )

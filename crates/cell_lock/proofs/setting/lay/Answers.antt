@@ -1,11 +1,13 @@
 -- The rule of the table holds of a durable cell in which nothing was decided.
-use Rattle.std.proofs.Common.{◌≡◌, ◌≤◌, Option, Some, None, List, [], ◌∷◌, map, length, refl, arith, sym, ap, ◌∙◌, subst}
+use Rattle.std.proofs.Common.{◌≡◌, ◌≤◌, ℕ, Option, Some, None, List, [], ◌∷◌, map, length, refl, arith, sym, ap, ◌∙◌, subst}
 use Rattle.std.specs.Option.{option_map}
 use Rattle.cell_base.specs.Histories.{IsLegal, granted_entries, grants, replay}
+use Rattle.durable_cell.specs.Acknowledged.{HasSince}
 use Rattle.durable_cell.specs.Asked.{halted_in, unsure_grant}
 use Rattle.durable_cell.specs.DurableState.{DurableState}
 use Rattle.durable_cell.specs.Kept.{KeepsHistory, asked_by, asked_in}
 use Rattle.cell_lock.specs.Openings.{opening_of, Fits}
+use Rattle.cell_lock.proofs.Acknowledging.{since_found}
 use Rattle.cell_lock.proofs.Dealing.{starts}
 use Rattle.cell_lock.proofs.setting.lay.Goals as goal
 
@@ -40,5 +42,10 @@ new-requires g c =
       added = none ∙ ap (λ h. grants c.args.shift h) (sym new);
       unsure = sure ∙ ap (λ h. unsure_grant c.args.shift h) (sym new);
     } in
-    starts (opening_of a c.args.shift c.args.passes) a c.args.passes _ _ refl
-    (c.in_ok-slots.ensures.ok ∙ ap (λ (x : DurableState g.row.D.Denot). x ∷ []) (sym same)) new fits refl
+    let has : DurableState g.row.D.Denot → ℕ → ℕ → Type 0 = HasSince g.D.Disk.reads_as g.D.Disk.moment g.D.Disk.left_since in
+    let begun : has a (g.D.Disk.moment a.found) 0 =
+    subst (λ (x : DurableState g.row.D.Denot). has x (g.D.Disk.moment x.found) 0) (sym same)
+    (since_found g.D.Disk.reads_as g.D.Disk.may_leave g.D.Disk.moment g.D.Disk.left_since g.D.Disk.faults c.args.durable
+    c.history-history.ensures.keeps_disk) in
+    starts has g.D.Disk.moment (opening_of a c.args.shift c.args.passes) a c.args.passes _ _ refl
+    (c.in_ok-slots.ensures.ok ∙ ap (λ (x : DurableState g.row.D.Denot). x ∷ []) (sym same)) new fits refl begun

@@ -8,5 +8,5 @@ store-requires g c =
     let grew = c.requires.grew in (
       c.requires.table.0,
       omega arith,
-      grows _ _ _ _ _ _ _ _ grew.entry _ _ c.requires.acts.0 c.requires.acts.1 grew.ends grew.own c.requires.len,
+      grows _ _ _ _ _ _ _ _ _ _ _ _ grew.entry _ _ c.requires.acts.0 c.requires.acts.1 grew.ends grew.own c.requires.len,
     )

@@ -1,7 +1,29 @@
--- What each status tells, by the end of the call.
-use Rattle.cell_program.proofs.Promising.{promises}
+-- The command promises what its walk does.
+use Rattle.cell_program.proofs.Headlines.{headline}
+use Rattle.cell_program.proofs.Promised.{command_promises, no_journal, none_promises}
+use Rattle.cell_program.specs.Words.{Run}
 use Rattle.cell_program.proofs.top.cell_main.Goals as goal
 
-pub returns-clause-promises : goal.returns-clause-promises
-returns-clause-promises g c =
-    promises _ _ _ c.run_command.ensures.ends c.reads_an_image.ensures _ c.run_command.ensures.sound
+pub returns-clause-command : goal.returns-clause-command
+returns-clause-command g c task so = (
+  c.run_command-status.result.status,
+  c.number.ensures,
+  command_promises _ _ c.run_command-status.result.status _ c.reads_an_image.ensures c.run_command-status.ensures.ends task so,
+)
+
+pub returns-clause-none : goal.returns-clause-none
+returns-clause-none g c none = (
+  c.run_command-status.result.status,
+  c.number.ensures,
+  none_promises _ _ c.run_command-status.result.status _ c.reads_an_image.ensures c.run_command-status.ensures.ends none,
+)
+
+pub returns-clause-untouched : goal.returns-clause-untouched
+returns-clause-untouched g c each = c.run_command-status.ensures.same (no_journal _ each)
+
+pub returns-clause-headline : goal.returns-clause-headline
+returns-clause-headline g c cell shift journal so =
+    headline _ _ cell shift c.run_command-status.result.status
+    (command_promises _ _ c.run_command-status.result.status _ c.reads_an_image.ensures c.run_command-status.ensures.ends
+    (Run cell shift journal) so)
+    _ c.number.ensures

@@ -4,5 +4,5 @@ use Rattle.cell_base.specs.Neighborhoods.{counted}
 use Rattle.refusal_reason.specs.Reasons.{jobs_of}
 use Rattle.refusal_reason.proofs.reasons.counted_jobs.Given as goal
 
-abbrev pub invariant-loop-i : goal.invariant-loop-i
-invariant-loop-i l = l.jobs ≡ jobs_of (counted l.core.cell (take l.i l.core.parts) l.r.0)
+abbrev pub invariant-loop-part : goal.invariant-loop-part
+invariant-loop-part l = l.jobs ≡ jobs_of (counted l.core.cell (take l.part-index l.core.parts) l.r.0)

@@ -28,7 +28,7 @@ returns c =
     let s = stage_of c.args.part in
     ap (λ bit. bit == 1) (shr_and_one c.mask.result c.args.r.0)
     ∙ ap (λ mask. has_bit mask c.args.r.0)
-    (c.mask.ensures
+    (c.mask.ensures.mask
     ∙ ap (λ (masks : List ℕ). get_or masks c.number-stage.result.0 0) c.upstream.ensures
     ∙ ap (λ n. get_or (masks_of cell) n 0) (c.number-stage.ensures ∙ ap (λ cell. number_of cell s) c.table.ensures)
     ∙ mask_at_stage cell s c.requires.stage)

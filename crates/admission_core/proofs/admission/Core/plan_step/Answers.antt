@@ -2,7 +2,6 @@
 use Rattle.std.proofs.Common.{subst}
 use Rattle.policy_laws.specs.Laws.{HasPlan}
 use Rattle.policy_laws.proofs.Plans.{plan_law}
-use Rattle.part_table.specs.Parts.{parts_of}
 use Rattle.admission_core.specs.CoreState.{CoreState}
 use Rattle.admission_core.proofs.admission.Core.plan_step.Goals as goal
 
@@ -10,4 +9,4 @@ pub returns-clause-plan : goal.returns-clause-plan
 returns-clause-plan c =
     let sound = c.self.invariant.0 in
     subst (λ (state : CoreState). HasPlan state.cell state.parts) c.self.view_is
-    (plan_law c.self.inside.table sound.fits (parts_of c.self.inside.tally.parts.items) sound.admitted)
+    (plan_law c.self.inside.table sound.fits c.self.inside.tally.parts.parts sound.admitted)

@@ -20,7 +20,7 @@ pub returns : goal.returns
 returns c =
     let cell = c.self.inside.stages in
     let s = stage_of c.args.part in
-    c.mask.ensures
+    c.mask.ensures.mask
     ∙ ap (λ (masks : List ℕ). get_or masks c.number-stage.result.0 0) c.self.invariant
     ∙ ap (λ n. get_or (masks_of cell) n 0) c.number-stage.ensures
     ∙ mask_at_stage cell s (subst (λ cell. IsStage cell s) (sym c.self.view_is) c.requires)

@@ -1,5 +1,5 @@
 -- What the pass knows is what the durable cell in its hand answered.
-use Rattle.std.proofs.Common.{subst}
+use Rattle.std.proofs.Common.{◌∙◌, subst}
 use mathlib.Core.List.{IsPrefix}
 use Rattle.durable_cell.specs.DurableState.{DurableState}
 use Rattle.cell_lock.specs.Views.{held_of}
@@ -17,3 +17,11 @@ returns-clause-seen g c =
     rw c.give_turn.ensures.seen
     (asked_seen c.args.pass.now.seen c.self.inside.shift c.pass.inside.number c.args.request.now c.ask_held-answer.result a b began
     c.ask_held-answer.ensures.answer)
+
+pub give_turn-requires-clause-safe : goal.give_turn-requires-clause-safe
+give_turn-requires-clause-safe g c =
+    let safe = c.take_turn.ensures.safe in (
+      safe.0,
+      c.ask_held-answer.ensures.taken ∙ safe.1,
+      λ then count had. c.ask_held-answer.ensures.disk.still then count (safe.2 then count had),
+    )

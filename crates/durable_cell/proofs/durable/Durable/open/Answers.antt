@@ -1,5 +1,5 @@
 -- The disk was only read until a journal is made on it.
-use Rattle.std.proofs.Common.{ℕ, inr, sym, ap, subst}
+use Rattle.std.proofs.Common.{ℕ, [], ◌∷◌, inr, sym, ◌∙◌, ap, subst}
 use Rattle.admission_core.specs.CoreState.{CoreState}
 use Rattle.outside_io.specs.Causes.{Rose}
 use Rattle.durable_cell.specs.DurableState.{DurableState}
@@ -11,20 +11,23 @@ use Rattle.durable_cell.proofs.durable.Durable.open.Goals as goal
 pub invariant_of-result : goal.invariant_of-result
 invariant_of-result g c =
     let cell = c.args.cell in let text = c.args.cell_text.now in let disk = c.args.disk in let limit = c.args.limit in
+    let found = disk_stored c.in-Open.stored in
     let grants = c.in-Open.grants in let core = c.in-Open.core in let journal = c.in-Ok-into_journal.journal in
     let shelves = c.in-Ok-reserve.shelves in let reserved = c.in-Ok-reserve.ensures in
+    let is_found = reserved.found ∙ ap (λ (d : _). d ∷ []) c.disk.ensures in
     let is_core = c.in-Open.ensures.core in
     let made = c.in-Ok-into_journal.ensures grants c.in-Open.ensures.holds in
-    let is_fresh = seen_fresh c.in-Ok.entry disk cell core text shelves.text journal grants shelves.history.items shelves.added.items limit
-    c.in-Ok.ensures (ap (λ (k : CoreState). k.cell) is_core.state) reserved.text_is reserved.no_history reserved.none_added in
+    let is_fresh = seen_fresh c.in-Ok.entry shelves.found disk found cell core text shelves.text journal grants shelves.history.items
+    shelves.added.items limit c.in-Ok.ensures is_found (ap (λ (k : CoreState). k.cell) is_core.state) reserved.text_is
+    reserved.no_history reserved.none_added in
     subst (λ (d : DurableState _). Keeps g.D.Disk.reads_as g.D.Disk.may_leave g.D.Disk.moment g.D.Disk.left_since g.D.Disk.faults d
-    c.in-Ok.entry core journal shelves.history.spare shelves.added.spare) (sym is_fresh) (
-      history_opened cell text disk grants limit c.requires.fits is_core.due,
-      disk_opened g.D.Disk.reads_as g.D.Disk.may_leave g.D.Disk.moment g.D.Disk.left_since g.D.Disk.faults disk
-          (disk_stored c.in-Open.stored)
+    c.in-Ok.entry shelves.found core journal shelves.history.spare shelves.added.spare) (sym is_fresh) (
+      history_opened cell text disk found journal.disk grants limit c.requires.fits is_core.due,
+      disk_opened g.D.Disk.reads_as g.D.Disk.may_leave g.D.Disk.moment g.D.Disk.left_since g.D.Disk.faults disk found
           cell text grants limit journal c.in-Open.ensures.reads c.in-Open.ensures.cause made,
-      parts_opened cell text disk grants limit c.args.room c.in-Ok.entry core journal shelves.history.spare shelves.added.spare
-          c.in-Ok.ensures is_core c.requires.room c.requires.limit made.len made.runs reserved.history_room reserved.added_room,
+      parts_opened cell text disk found grants limit c.args.room c.in-Ok.entry shelves.found core journal shelves.history.spare
+          shelves.added.spare c.in-Ok.ensures is_found is_core c.requires.room c.requires.limit made.len made.runs
+          reserved.history_room reserved.added_room,
     )
 
 pub returns-in-Err-clause-cause : goal.returns-in-Err-clause-cause
@@ -37,3 +40,6 @@ returns-in-Err-clause-leaves g c =
     inr (unmade_since g.D.Disk.reads_as g.D.Disk.may_leave g.D.Disk.moment g.D.Disk.left_since g.D.Disk.faults c.args.disk
     (disk_stored c.in-Open.stored) c.in-Err.disk c.args.cell_text.now c.in-Open.ensures.reads
     (c.in-Err.ensures c.in-Open.grants c.in-Open.ensures.holds).0)
+
+pub returns-in-Ok-into_journal-clause-leaves : goal.returns-in-Ok-into_journal-clause-leaves
+returns-in-Ok-into_journal-clause-leaves g c = (invariant_of-result g c).1

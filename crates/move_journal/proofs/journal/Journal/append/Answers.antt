@@ -1,16 +1,16 @@
 -- The disk rests at an open journal, which is the one that the file stands for; the record of the new grant goes behind its gate.
-use Rattle.std.proofs.Common.{inr, ◌∙◌, ap, subst, arith}
+use Rattle.std.proofs.Common.{inr, [], ◌∷◌, ◌∙◌, ap, subst, arith}
 use Rattle.outside_io.specs.Disk.{LeavesOnly}
 use Rattle.outside_io.specs.Moments.{widened}
 use Rattle.outside_io.specs.Telling.{where_told, told, turned_back}
-use Rattle.move_journal.specs.Journals.{IsBeforeOrAfter}
+use Rattle.move_journal.specs.Journals.{IsBeforeOrAfterAll}
 use Rattle.move_journal.specs.Kept.{JournalState}
 use Rattle.move_journal.proofs.Turning.{rests_show, leaves_show}
-use Rattle.move_journal.proofs.Appends.{open_within, open_holds, open_more, stands_either}
+use Rattle.move_journal.proofs.Appends.{open_within, open_more, open_holds_one, stands_either}
 use Rattle.move_journal.proofs.journal.Journal.append.Goals as goal
 
-pub write_entry-requires-clause-within : goal.write_entry-requires-clause-within
-write_entry-requires-clause-within g c = λ file is.
+pub write_entries-requires-clause-within : goal.write_entries-requires-clause-within
+write_entries-requires-clause-within g c = λ file is.
     open_within c.self.inside.gate c.self.inside.len file (told _ _ file is (c.self.invariant.rests c.if-self.false)).0
 
 pub invariant_of-self : goal.invariant_of-self
@@ -19,10 +19,11 @@ invariant_of-self g c = record {
       let grant = c.args.grant.now in
       let old = turned_back _ _ _ new is c.in-Ok.ensures.tells in
       let rests = told _ _ old.0 old.1 (c.self.invariant.rests c.if-self.false) in
-      let holds = open_holds _ _ old.0 rests.0 rests.0.text rests.0.grants grant c.encode.result (inr rests.0.journal)
-      c.encode.ensures.record c.encode.ensures.read_back in
-      let after = told _ _ new is (c.in-Ok.ensures.stored old.0 rests.0.text rests.0.grants grant old.1 rests.1 holds) in
-      (open_more _ _ old.0 rests.0 new grant after.0, after.1));
+      let holds = open_holds_one _ _ old.0 rests.0 rests.0.text rests.0.grants grant c.encode.result c.with_gates.result
+      (inr rests.0.journal)
+      c.with_gates.ensures c.encode.ensures.record c.encode.ensures.read_back in
+      let after = told _ _ new is (c.in-Ok.ensures.stored old.0 rests.0.text rests.0.grants (grant ∷ []) old.1 rests.1 holds) in
+      (open_more _ _ old.0 rests.0 new (grant ∷ []) after.0, after.1));
   in_range = omega (arith, c.self.invariant.in_range);
 }
 
@@ -31,49 +32,49 @@ returns-in-Ok-clause-stored g c file text grants is stands =
     let grant = c.args.grant.now in
     let was = ap (λ (j : JournalState _). g.D.Disk.reads_as j.disk) c.self.view_is ∙ is in
     let rests = told _ _ file was (c.self.invariant.rests c.if-self.false) in
-    let holds = open_holds _ _ file rests.0 text grants grant c.encode.result stands
-    c.encode.ensures.record c.encode.ensures.read_back in
-    rests_show _ _ _ _ (λ f journal. inr journal) (c.in-Ok.ensures.stored file text grants grant was rests.1 holds)
+    let holds = open_holds_one _ _ file rests.0 text grants grant c.encode.result c.with_gates.result stands
+    c.with_gates.ensures c.encode.ensures.record c.encode.ensures.read_back in
+    rests_show _ _ _ _ (λ f journal. inr journal) (c.in-Ok.ensures.stored file text grants (grant ∷ []) was rests.1 holds)
 
 pub returns-in-Ok-clause-kept : goal.returns-in-Ok-clause-kept
 returns-in-Ok-clause-kept g c file text grants is stands running =
     let grant = c.args.grant.now in
     let was = ap (λ (j : JournalState _). g.D.Disk.reads_as j.disk) c.self.view_is ∙ is in
     let rests = told _ _ file was (c.self.invariant.rests c.if-self.false) in
-    let holds = open_holds _ _ file rests.0 text grants grant c.encode.result stands
-    c.encode.ensures.record c.encode.ensures.read_back in
-    rests_show _ _ _ _ (λ f journal. inr (inr journal)) (c.in-Ok.ensures.stored file text grants grant was rests.1 holds)
+    let holds = open_holds_one _ _ file rests.0 text grants grant c.encode.result c.with_gates.result stands
+    c.with_gates.ensures c.encode.ensures.record c.encode.ensures.read_back in
+    rests_show _ _ _ _ (λ f journal. inr (inr journal)) (c.in-Ok.ensures.stored file text grants (grant ∷ []) was rests.1 holds)
 
 pub returns-in-Ok-clause-any_moment : goal.returns-in-Ok-clause-any_moment
 returns-in-Ok-clause-any_moment g c file text grants is stands running =
     let grant = c.args.grant.now in
     let was = ap (λ (j : JournalState _). g.D.Disk.reads_as j.disk) c.self.view_is ∙ is in
     let rests = told _ _ file was (c.self.invariant.rests c.if-self.false) in
-    let holds = open_holds _ _ file rests.0 text grants grant c.encode.result stands
-    c.encode.ensures.record c.encode.ensures.read_back in
-    let P = IsBeforeOrAfter text grants grant in
+    let holds = open_holds_one _ _ file rests.0 text grants grant c.encode.result c.with_gates.result stands
+    c.with_gates.ensures c.encode.ensures.record c.encode.ensures.read_back in
+    let P = IsBeforeOrAfterAll text grants (grant ∷ []) in
     let moments = widened g.D.Disk.moment g.D.Disk.left_since _ _ _ P
-    (c.in-Ok.ensures.any_moment file text grants grant was rests.1 holds) (stands_either text grants grant) in
-    subst (λ (j : JournalState _). LeavesOnly g.D.Disk.moment g.D.Disk.left_since j.disk c.write_entry.new.disk P) c.self.view_is moments
+    (c.in-Ok.ensures.any_moment file text grants (grant ∷ []) was rests.1 holds) (stands_either text grants (grant ∷ [])) in
+    subst (λ (j : JournalState _). LeavesOnly g.D.Disk.moment g.D.Disk.left_since j.disk c.write_entries.new.disk P) c.self.view_is moments
 
 pub returns-in-Err-clause-kept : goal.returns-in-Err-clause-kept
 returns-in-Err-clause-kept g c file text grants is stands running =
     let grant = c.args.grant.now in
     let was = ap (λ (j : JournalState _). g.D.Disk.reads_as j.disk) c.self.view_is ∙ is in
     let rests = told _ _ file was (c.self.invariant.rests c.if-self.false) in
-    let holds = open_holds _ _ file rests.0 text grants grant c.encode.result stands
-    c.encode.ensures.record c.encode.ensures.read_back in
-    leaves_show _ _ _ (g.met.D.Disk.reads_now c.write_entry.new.disk)
-    (λ f left. stands_either text grants grant f (c.in-Err.ensures.left file text grants grant was rests.1 holds f left))
+    let holds = open_holds_one _ _ file rests.0 text grants grant c.encode.result c.with_gates.result stands
+    c.with_gates.ensures c.encode.ensures.record c.encode.ensures.read_back in
+    leaves_show _ _ _ (g.met.D.Disk.reads_now c.write_entries.new.disk)
+    (λ f left. stands_either text grants (grant ∷ []) f (c.in-Err.ensures.left file text grants (grant ∷ []) was rests.1 holds f left))
 
 pub returns-in-Err-clause-any_moment : goal.returns-in-Err-clause-any_moment
 returns-in-Err-clause-any_moment g c file text grants is stands running =
     let grant = c.args.grant.now in
     let was = ap (λ (j : JournalState _). g.D.Disk.reads_as j.disk) c.self.view_is ∙ is in
     let rests = told _ _ file was (c.self.invariant.rests c.if-self.false) in
-    let holds = open_holds _ _ file rests.0 text grants grant c.encode.result stands
-    c.encode.ensures.record c.encode.ensures.read_back in
-    let P = IsBeforeOrAfter text grants grant in
+    let holds = open_holds_one _ _ file rests.0 text grants grant c.encode.result c.with_gates.result stands
+    c.with_gates.ensures c.encode.ensures.record c.encode.ensures.read_back in
+    let P = IsBeforeOrAfterAll text grants (grant ∷ []) in
     let moments = widened g.D.Disk.moment g.D.Disk.left_since _ _ _ P
-    (c.in-Err.ensures.any_moment file text grants grant was rests.1 holds) (stands_either text grants grant) in
-    subst (λ (j : JournalState _). LeavesOnly g.D.Disk.moment g.D.Disk.left_since j.disk c.write_entry.new.disk P) c.self.view_is moments
+    (c.in-Err.ensures.any_moment file text grants (grant ∷ []) was rests.1 holds) (stands_either text grants (grant ∷ [])) in
+    subst (λ (j : JournalState _). LeavesOnly g.D.Disk.moment g.D.Disk.left_since j.disk c.write_entries.new.disk P) c.self.view_is moments

@@ -1,7 +1,7 @@
 -- The first place of the resource shows the first part.
 use Rattle.std.proofs.Common.{◌≡◌, ◌<◌, length, ap, sym, arith, ◌∙◌}
 use Rattle.std.proofs.lemmas.List.{length-map}
-use Rattle.part_table.specs.Parts.{is_on}
+use Rattle.part_table.specs.Standings.{is_on}
 use Rattle.part_table.specs.Logs.{standing_key}
 use Rattle.part_table.proofs.Logs.{get_read}
 use Rattle.part_table.proofs.Staying.{found_by_key, none_by_key, standing_shows}

@@ -1,23 +1,25 @@
--- The part leaves its place in the order, and comes again behind all others.
-use Rattle.std.proofs.Common.{◌≡◌, length, ap, sym, arith, ◌∙◌}
-use Rattle.part_table.specs.Parts.{advanced}
-use Rattle.part_table.specs.Logs.{staying}
-use Rattle.part_table.proofs.Advancing.{distinct_advanced, length_advanced}
+-- The part that goes on has the resource that was told.
+use Rattle.std.proofs.Common.{List, ap, sym, subst, ◌∙◌}
+use Rattle.part_table.specs.declared.standing.Standing.{Standing}
+use Rattle.part_table.specs.Standings.{parts_of, AreOn}
+use Rattle.part_table.proofs.Told.{went_on}
 use Rattle.part_table.proofs.parts.Parts.advance.Goals as goal
 
 pub invariant_of-self : goal.invariant_of-self
 invariant_of-self c =
-    let items = staying c.self.inside.log.entries in
-    let present = rw (← c.self.view_is) at c.requires.present in
-    let after : staying c.advance.new.self.entries ≡
-    advanced (staying c.self.inside.log.entries) c.args.job c.args.place c.args.done c.args.on =
-    c.advance.ensures.items
-    ∙ ap (λ items. advanced items c.args.job c.args.place c.args.done c.args.on) c.make_room.ensures.items in
-    record {
-      distinct = rw after
-          (distinct_advanced items c.args.job c.args.place c.args.done c.args.on c.self.invariant.distinct present);
-      counted = c.self.invariant.counted
-          ∙ sym (ap length after ∙ length_advanced items c.args.job c.args.place c.args.done c.args.on c.self.invariant.distinct present);
-      within = c.self.invariant.within;
-      fits = omega (arith, c.self.invariant.fits, c.advance.ensures.room, c.make_room.ensures.room);
-    }
+    let cell = c.self.inside.cell in
+    let items = c.self.inside.arrivals.items in
+    let told = rw (← c.self.view_is) at c.requires.on in (
+      subst (AreOn cell) (sym c.advance.ensures.items)
+          (went_on cell items c.args.job c.args.place c.args.done c.args.on c.self.invariant.0 told).0,
+      c.advance.ensures.resources ∙ c.self.invariant.1,
+    )
+
+pub returns-clause-parts : goal.returns-clause-parts
+returns-clause-parts c =
+    let cell = c.self.inside.cell in
+    let items = c.self.inside.arrivals.items in
+    let told = rw (← c.self.view_is) at c.requires.on in
+    rw (← c.self.view_is)
+    (ap (λ (items : List Standing). parts_of items) c.advance.ensures.items
+    ∙ (went_on cell items c.args.job c.args.place c.args.done c.args.on c.self.invariant.0 told).1)

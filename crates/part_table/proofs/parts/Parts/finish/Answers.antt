@@ -1,37 +1,23 @@
--- The part is at its place, since its job is present.
-use Rattle.std.proofs.Common.{◌≡◌, length, ap, sym, arith, ◌∙◌}
-use Rattle.std.proofs.lemmas.Bool.{false≢true}
-use Rattle.std.proofs.lemmas.List.{length-map}
-use Rattle.part_table.specs.Parts.{finished, finish}
-use Rattle.part_table.specs.Logs.{staying}
-use Rattle.part_table.proofs.Standings.{distinct_finished}
-use Rattle.part_table.proofs.Staying.{staying_finished, not_loaded_from_absent}
+-- The part of the job is the first one of it, and each keeps its resource.
+use Rattle.std.proofs.Common.{◌≡◌, List, ap, sym, subst, ◌∙◌}
+use Rattle.cell_base.specs.Policy.{is_of_job}
+use Rattle.cell_base.specs.Outcomes.{finish_first}
+use Rattle.part_table.specs.declared.standing.Standing.{Standing}
+use Rattle.part_table.specs.Standings.{parts_of, AreOn}
+use Rattle.part_table.proofs.Told.{AreOn-finished, finished_first}
 use Rattle.part_table.proofs.parts.Parts.finish.Goals as goal
 
 pub invariant_of-self : goal.invariant_of-self
-invariant_of-self c =
-    let entries = c.self.inside.log.entries in
-    let place = c.in-Some.ensures in
-    let present = rw (← c.self.view_is) at c.requires in
-    let items : staying c.finish.new.self.entries ≡ finished (staying c.self.inside.log.entries) c.args.job =
-    ap staying (c.finish.ensures.entries place.0 place.1)
-    ∙ staying_finished entries c.in-Some.at place.0 c.args.job place.1 place.2 place.3 place.4 in
-    record {
-      distinct = rw items (distinct_finished (staying entries) c.args.job c.self.invariant.distinct);
-      counted = omega (arith, c.self.invariant.counted, ap length items, length-map (staying entries) (finish c.args.job));
-      within = omega (arith, c.self.invariant.within);
-      fits = omega (arith, c.self.invariant.fits, c.finish.ensures.room);
-    }
+invariant_of-self c = (
+  subst (AreOn c.self.inside.cell) (sym c.finish.ensures.items)
+      (AreOn-finished c.self.inside.cell c.self.inside.arrivals.items c.args.job c.self.invariant.0),
+  c.finish.ensures.resources ∙ c.self.invariant.1,
+)
 
-pub returns-in-Some-clause-items : goal.returns-in-Some-clause-items
-returns-in-Some-clause-items c =
-    let place = c.in-Some.ensures in
-    rw (← c.self.view_is)
-    (ap staying (c.finish.ensures.entries place.0 place.1)
-    ∙ staying_finished c.self.inside.log.entries c.in-Some.at place.0 c.args.job place.1 place.2 place.3 place.4)
-
-pub returns-in_default-clause-items : goal.returns-in_default-clause-items
-returns-in_default-clause-items c =
-    let present = rw (← c.self.view_is) at c.requires in
-    let absent = rw c.in_default.is at c.place_of.ensures in
-    absurd (false≢true (sym (not_loaded_from_absent c.self.inside.log.entries c.args.job absent) ∙ present))
+pub returns : goal.returns
+returns c =
+    let items = c.self.inside.arrivals.items in
+    let parts : parts_of c.finish.new.self.items ≡ finish_first (is_of_job c.args.job) (parts_of items) =
+    ap (λ (items : List Standing). parts_of items) c.finish.ensures.items
+    ∙ finished_first items c.args.job c.finish.ensures.distinct in
+    rw (← c.self.view_is) (λ i. record { cell = c.self.inside.cell; parts = parts i; spare = c.finish.ensures.spare i })

@@ -1,28 +1,28 @@
--- The part is at its place, and is done there.
-use Rattle.std.proofs.Common.{◌≡◌, length, ap, arith, ◌∙◌}
-use Rattle.std.proofs.lemmas.List.{length-map}
-use Rattle.part_table.specs.Parts.{is_waiting, finished, finish}
-use Rattle.part_table.specs.Logs.{staying}
-use Rattle.part_table.proofs.Jobs.{staying_first_done}
-use Rattle.part_table.proofs.Standings.{distinct_finished}
+-- The first part that waits is the one that is finished, and each keeps its resource.
+use Rattle.std.proofs.Common.{◌≡◌, ◌∙◌}
+use Rattle.cell_base.specs.Outcomes.{is_waiting_on, finish_first}
+use Rattle.part_table.specs.Standings.{parts_of, AreOn}
+use Rattle.part_table.proofs.Told.{waiting_job, worked}
 use Rattle.part_table.proofs.parts.Parts.finish_first.Goals as goal
 
-pub invariant_of-self : goal.invariant_of-self
-invariant_of-self c =
-    let entries = c.self.inside.log.entries in
-    let job = c.get.result.item.part.job in
-    let items : staying c.finish.new.self.entries ≡ finished (staying c.self.inside.log.entries) c.get.result.item.part.job =
-    ap staying (c.finish.ensures.entries c.get.result c.get.ensures)
-    ∙ staying_first_done (is_waiting c.args.on) entries c.in-Some.at c.get.result c.in-Some.ensures c.get.ensures in
-    record {
-      distinct = rw items (distinct_finished (staying entries) job c.self.invariant.distinct);
-      counted = omega (arith, c.self.invariant.counted, ap length items, length-map (staying entries) (finish job));
-      within = omega (arith, c.self.invariant.within);
-      fits = omega (arith, c.self.invariant.fits, c.finish.ensures.room);
-    }
+-- what the work leaves
+work_leaves : (c : goal.After-finish_first)
+    → AreOn c.self.inside.cell c.finish_first.new.self.items
+    × (parts_of c.finish_first.new.self.items
+    ≡ finish_first (is_waiting_on c.self.inside.cell c.args.on.0) (parts_of c.self.inside.arrivals.items))
+work_leaves c =
+    worked c.self.inside.cell c.args.on c.self.inside.arrivals.items c.finish_first.new.self.items c.finish_first.result
+    c.self.invariant.0 c.finish_first.ensures.distinct c.finish_first.ensures.job c.finish_first.ensures.items
 
-pub returns-in-Some-clause-items : goal.returns-in-Some-clause-items
-returns-in-Some-clause-items c =
+pub invariant_of-self : goal.invariant_of-self
+invariant_of-self c = ((work_leaves c).0, c.finish_first.ensures.resources ∙ c.self.invariant.1)
+
+pub returns-clause-job : goal.returns-clause-job
+returns-clause-job c =
     rw (← c.self.view_is)
-    (ap staying (c.finish.ensures.entries c.get.result c.get.ensures)
-    ∙ staying_first_done (is_waiting c.args.on) c.self.inside.log.entries c.in-Some.at c.get.result c.in-Some.ensures c.get.ensures)
+    (c.finish_first.ensures.job ∙ waiting_job c.self.inside.cell c.args.on c.self.inside.arrivals.items c.self.invariant.0)
+
+pub returns-clause-table : goal.returns-clause-table
+returns-clause-table c =
+    let parts = (work_leaves c).1 in
+    rw (← c.self.view_is) (λ i. record { cell = c.self.inside.cell; parts = parts i; spare = c.finish_first.ensures.spare i })

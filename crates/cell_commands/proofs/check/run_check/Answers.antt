@@ -1,0 +1,20 @@
+-- The disk is not touched.
+use Rattle.cell_walks.specs.DiskTold.{disk_told}
+use Rattle.cell_walks.specs.Observed.{files_told}
+use Rattle.cell_walks.proofs.Steps.{on_any_disk}
+use Rattle.cell_commands.specs.Check.{check, checked_outcome}
+use Rattle.cell_texts.proofs.Disks.{untouched}
+use Rattle.cell_commands.proofs.check.run_check.Goals as goal
+
+pub returns-clause-ends : goal.returns-clause-ends
+returns-clause-ends g c = record {
+  outcome = checked_outcome c.verdict_of_files-made.result;
+  allowed = on_any_disk
+      (files_told g.F.Files.holds g.F.Files.is_sound g.F.Files.faults c.args.files.now c.verdict_of_files-made.new.files)
+      (disk_told g.D.Disk.reads_as g.D.Disk.may_leave g.D.Disk.moment g.D.Disk.left_since g.D.Disk.faults c.args.disk c.args.disk)
+      (untouched g.D.Disk.reads_as g.D.Disk.may_leave g.D.Disk.moment g.D.Disk.left_since g.D.Disk.faults c.args.disk
+      (g.met.D.Disk.only_now c.args.disk))
+      (checked_outcome c.verdict_of_files-made.result) (check c.args.cell.now c.args.record_file.now) (λ held blocks. tt)
+      c.verdict_of_files-made.ensures;
+  delivered = c.print_made-status.ensures;
+}

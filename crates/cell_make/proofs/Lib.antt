@@ -1,0 +1,7 @@
+-- The lemmas, by what they are about.
+mod Sequences
+mod Lists
+mod Spelling
+mod CellFit
+mod Work
+mod ShiftFit

@@ -1,0 +1,47 @@
+-- The command that words decide: their number and the first of them.
+use Rattle.std.specs.Prelude.{ℕ, List, [], ◌∷◌, Option, Some, None, codes, if◌then◌else◌}
+use Rattle.std.specs.Str.{bytes_eq}
+pub use Rattle.std.specs.Option.{option_and_then, option_map}
+pub use Rattle.std.specs.String.{string_bytes}
+use Rattle.cell_walks.specs.Walks.{ToAdd, ToRead}
+use Rattle.cell_program.specs.Words.{NamedJournal, Task, Solo as SoloTask, Run as RunTask, Plan as PlanTask, Drain as DrainTask, Why as WhyTask, Check as CheckTask, Show as ShowTask}
+use Rattle.cell_program.specs.declared.words.Command.{Command}
+use Rattle.cell_program.specs.declared.words.Command.TheVariants.{Solo, Run, Plan, Drain, Why, Check, Show}
+use Rattle.cell_program.specs.declared.words.Journal.{Journal}
+use Rattle.cell_program.specs.declared.words.Journal.TheVariants.{Read, Added}
+
+-- what a command asks for
+abbrev pub task_in : Command → Task
+task_in (Solo cell shift) = SoloTask cell.now shift.now
+task_in (Run cell shift journal) = RunTask cell.now shift.now journal.now
+task_in (Plan cell journal) = PlanTask cell.now journal.now
+task_in (Drain cell journal) = DrainTask cell.now journal.now
+task_in (Why cell journal step) = WhyTask cell.now journal.now step.now
+task_in (Check cell record_file) = CheckTask cell.now record_file.now
+task_in (Show cell) = ShowTask cell.now
+
+-- the journal that is named
+abbrev pub named : Journal → NamedJournal
+named (Read name) = record { name = name.now; purpose = ToRead }
+named (Added name) = record { name = name.now; purpose = ToAdd }
+
+abbrev pub task_of_two : List ℕ → List ℕ → List ℕ → Option Task
+task_of_two verb a b =
+    if bytes_eq verb (codes "solo") then Some (SoloTask a b)
+    else (if bytes_eq verb (codes "plan") then Some (PlanTask a b)
+    else (if bytes_eq verb (codes "drain") then Some (DrainTask a b)
+    else (if bytes_eq verb (codes "check") then Some (CheckTask a b)
+    else None)))
+
+abbrev pub task_of_three : List ℕ → List ℕ → List ℕ → List ℕ → Option Task
+task_of_three verb a b c =
+    if bytes_eq verb (codes "run") then Some (RunTask a b c)
+    else (if bytes_eq verb (codes "why") then Some (WhyTask a b c)
+    else None)
+
+-- the command that the words are written as
+abbrev pub task_of : List (List ℕ) → Option Task
+task_of (verb ∷ a ∷ []) = if bytes_eq verb (codes "show") then Some (ShowTask a) else None
+task_of (verb ∷ a ∷ b ∷ []) = task_of_two verb a b
+task_of (verb ∷ a ∷ b ∷ c ∷ []) = task_of_three verb a b c
+task_of words = None

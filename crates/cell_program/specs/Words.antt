@@ -1,0 +1,86 @@
+-- The commands, one line each: how a command is written, its journal, and its walk.
+use Rattle.std.specs.Prelude.{◌≡◌, ℕ, List, [], ◌∷◌, ◌++◌, map, Option, Some, None, codes}
+use Rattle.step_text.specs.Words.{joined}
+use Rattle.cell_walks.specs.Outcomes.{printed}
+use Rattle.cell_walks.specs.Walks.{Answers, Purpose, ToAdd, ToRead, Walk}
+use Rattle.cell_walks.specs.declared.status.Status.TheVariants.{NoCommand}
+use Rattle.cell_commands.specs.Check.{check}
+use Rattle.cell_commands.specs.Drain.{drain}
+use Rattle.cell_commands.specs.Plan.{plan}
+use Rattle.cell_commands.specs.Show.{show}
+use Rattle.cell_commands.specs.Why.{why}
+use Rattle.shift_commands.specs.Run.{run}
+use Rattle.shift_commands.specs.Solo.{solo}
+
+-- a command, with its words
+pub data Task : Type 0 where
+  Solo : (cell shift : List ℕ) → Task
+  Run : (cell shift journal : List ℕ) → Task
+  Plan : (cell journal : List ℕ) → Task
+  Drain : (cell journal : List ℕ) → Task
+  Why : (cell journal step : List ℕ) → Task
+  Check : (cell record_file : List ℕ) → Task
+  Show : (cell : List ℕ) → Task
+
+-- how it is written
+abbrev pub words_of : Task → List (List ℕ)
+words_of (Solo cell shift) = codes "solo" ∷ cell ∷ shift ∷ []
+words_of (Run cell shift journal) = codes "run" ∷ cell ∷ shift ∷ journal ∷ []
+words_of (Plan cell journal) = codes "plan" ∷ cell ∷ journal ∷ []
+words_of (Drain cell journal) = codes "drain" ∷ cell ∷ journal ∷ []
+words_of (Why cell journal step) = codes "why" ∷ cell ∷ journal ∷ step ∷ []
+words_of (Check cell record_file) = codes "check" ∷ cell ∷ record_file ∷ []
+words_of (Show cell) = codes "show" ∷ cell ∷ []
+
+-- the name of a journal, and whether it is only read
+pub record NamedJournal : Type 0 where
+  pub name : List ℕ
+  pub purpose : Purpose
+
+-- its journal
+abbrev pub journal_of : Task → Option NamedJournal
+journal_of (Solo cell shift) = None
+journal_of (Run cell shift journal) = Some (record { name = journal; purpose = ToAdd })
+journal_of (Plan cell journal) = Some (record { name = journal; purpose = ToRead })
+journal_of (Drain cell journal) = Some (record { name = journal; purpose = ToAdd })
+journal_of (Why cell journal step) = Some (record { name = journal; purpose = ToRead })
+journal_of (Check cell record_file) = None
+journal_of (Show cell) = None
+
+-- its walk
+abbrev pub walk_of : Task → Walk
+walk_of (Solo cell shift) = solo cell shift
+walk_of (Run cell shift journal) = run cell shift
+walk_of (Plan cell journal) = plan cell
+walk_of (Drain cell journal) = drain cell
+walk_of (Why cell journal step) = why cell step
+walk_of (Check cell record_file) = check cell record_file
+walk_of (Show cell) = show cell
+
+-- ---- words that no command is written as
+
+-- each command, with names for its words
+abbrev pub every_form : List Task
+every_form =
+    Solo (codes "CELL") (codes "SHIFT") ∷ Run (codes "CELL") (codes "SHIFT") (codes "JOURNAL") ∷ Plan (codes "CELL") (codes "JOURNAL")
+    ∷ Drain (codes "CELL") (codes "JOURNAL") ∷ Why (codes "CELL") (codes "JOURNAL") (codes "STEP") ∷ Check (codes "CELL") (codes "RECORD")
+    ∷ Show (codes "CELL") ∷ []
+
+-- with a comma and a space between them
+abbrev pub listed : List (List ℕ) → List ℕ
+listed [] = []
+listed (form ∷ []) = form
+listed (form ∷ next ∷ rest) = form ++ codes ", " ++ listed (next ∷ rest)
+
+-- the commands with their words
+abbrev pub usage_text : List ℕ
+usage_text = codes "usage: " ++ listed (map (λ task. joined (words_of task)) every_form) ++ 10 ∷ []
+
+-- the commands with their words are printed, status 2
+abbrev pub no_command : Walk
+no_command = Answers λ input outcome. outcome ≡ printed NoCommand (usage_text ∷ [])
+
+-- the walk of words that are this command, or none
+abbrev pub walk_for : Option Task → Walk
+walk_for None = no_command
+walk_for (Some task) = walk_of task

@@ -1,0 +1,84 @@
+-- Requests that fit the cell: the states after them are admitted, and the entries of a legal history fit.
+use Rattle.std.proofs.Common.{◌≡◌, List, [], ◌∷◌, All}
+use Rattle.std.proofs.lemmas.List.Elements.{All-nil, All-cons, All-head, All-tail}
+use Rattle.cell_base.specs.declared.cells.Cell.{Cell}
+use Rattle.cell_base.specs.declared.requests.Part.{Part}
+use Rattle.cell_base.specs.declared.requests.Request.{Request}
+use Rattle.cell_base.specs.declared.requests.Refusal.{Refusal}
+use Rattle.cell_base.specs.declared.requests.Refusal.TheVariants.{JobLoaded, NoSuchJob, NotProcessed, AtLast, NotLast, Idle, Saturated, NoBranch}
+use Rattle.cell_base.specs.declared.requests.Reply.TheVariants.{Granted, Refused}
+use Rattle.cell_base.specs.declared.requests.Told.{Told}
+use Rattle.cell_base.specs.declared.requests.Told.TheVariants.{Answered, Halted}
+use Rattle.cell_base.specs.declared.shifts.Entry.{Entry}
+use Rattle.cell_base.specs.declared.shifts.Grant.{Grant}
+use Rattle.cell_base.specs.Fits.{CellFits, RequestFits}
+use Rattle.cell_base.specs.Histories.{IsLegal, IsToldRightly, after, after_requests, replay, requests_of, state_after_entry}
+use Rattle.cell_base.specs.Outcomes.{reply_to, state_after}
+use Rattle.cell_base.specs.Policy.{IsAdmitted}
+use Rattle.policy_laws.proofs.Admission.{admission_law, saturation_law}
+use Rattle.policy_laws.proofs.States.{IsAdmitted-empty}
+use Rattle.durable_cell.specs.Replayed.{AreDue}
+use Rattle.record_text.specs.Fitting.{EntryFits, ToldFits, RefusalFits}
+
+module _ (cell : Cell) (fits : CellFits cell) where
+  -- what a request is told fits
+  refusal_fits : (parts : List Part) (request : Request) (why : Refusal) → IsAdmitted cell parts → RequestFits cell request
+      → reply_to cell parts request ≡ Refused why → RefusalFits cell why
+  refusal_fits parts request (Saturated at held units) admitted fit is =
+      (saturation_law cell fits parts admitted request fit at held units is).resource
+  refusal_fits parts request JobLoaded admitted fit is = tt
+  refusal_fits parts request NoSuchJob admitted fit is = tt
+  refusal_fits parts request NotProcessed admitted fit is = tt
+  refusal_fits parts request AtLast admitted fit is = tt
+  refusal_fits parts request NotLast admitted fit is = tt
+  refusal_fits parts request Idle admitted fit is = tt
+  refusal_fits parts request NoBranch admitted fit is = tt
+
+  told_fits : (parts : List Part) (request : Request) (told : Told) (later : List Entry) → IsAdmitted cell parts
+      → RequestFits cell request
+      → IsToldRightly cell parts request told later → ToldFits cell told
+  told_fits parts request (Answered Granted) later admitted fit is = tt
+  told_fits parts request (Answered (Refused why)) later admitted fit is = refusal_fits parts request why admitted fit is
+  told_fits parts request Halted later admitted fit is = tt
+
+  stays : (parts : List Part) (request : Request) (told : Told) → IsAdmitted cell parts → RequestFits cell request
+      → IsAdmitted cell (state_after_entry cell parts request told)
+  stays parts request (Answered reply) admitted fit = (admission_law cell fits parts admitted).request request fit
+  stays parts request Halted admitted fit = admitted
+
+  -- so the entries fit
+  pub entries_fit : (parts : List Part) (entries : List Entry) → IsAdmitted cell parts → IsLegal cell parts entries
+      → All (λ (entry : Entry). RequestFits cell entry.request) entries → All (EntryFits cell) entries
+  entries_fit parts [] admitted legal fit = All-nil _
+  entries_fit parts (entry ∷ entries) admitted legal fit =
+      let Fits : Entry → Type 0 = λ e. RequestFits cell e.request in
+      let here : RequestFits cell entry.request = All-head Fits entry entries fit in
+      All-cons (EntryFits cell) entry entries
+      (record { request = here; told = told_fits parts entry.request entry.told entries admitted here legal.0 })
+      (entries_fit (state_after_entry cell parts entry.request entry.told) entries
+      (stays parts entry.request entry.told admitted here) legal.1 (All-tail Fits entry entries fit))
+
+  -- and the state after them is admitted
+  pub admitted_after : (parts : List Part) (entries : List Entry) → IsAdmitted cell parts
+      → All (λ (entry : Entry). RequestFits cell entry.request) entries
+      → IsAdmitted cell (after cell parts entries)
+  admitted_after parts [] admitted fit = admitted
+  admitted_after parts (entry ∷ entries) admitted fit =
+      let Fits : Entry → Type 0 = λ e. RequestFits cell e.request in
+      admitted_after (state_after_entry cell parts entry.request entry.told) entries
+      (stays parts entry.request entry.told admitted (All-head Fits entry entries fit)) (All-tail Fits entry entries fit)
+
+  -- ---- grants
+
+  admitted_replayed : (parts : List Part) (grants : List Grant) → IsAdmitted cell parts
+      → All (λ (grant : Grant). RequestFits cell grant.request) grants → IsAdmitted cell (after_requests cell parts (requests_of grants))
+  admitted_replayed parts [] admitted fit = admitted
+  admitted_replayed parts (grant ∷ grants) admitted fit =
+      let Fits : Grant → Type 0 = λ g. RequestFits cell g.request in
+      admitted_replayed (state_after cell parts grant.request) grants
+      ((admission_law cell fits parts admitted).request grant.request (All-head Fits grant grants fit))
+      (All-tail Fits grant grants fit)
+
+  -- the state after the grants of a journal is admitted
+  pub replay_admitted : (grants : List Grant) → AreDue cell grants → IsAdmitted cell (replay cell grants)
+  replay_admitted grants due = admitted_replayed [] grants (IsAdmitted-empty cell) due.fit

@@ -1,0 +1,12 @@
+pub mod Blocks
+pub mod Clauses
+pub mod FaultNumbers
+pub mod JournalReads
+pub mod OneWay
+pub mod Parting
+pub mod RecordReads
+pub mod Recorded
+pub mod Records
+pub mod Starting
+pub mod Tests
+pub mod Texts

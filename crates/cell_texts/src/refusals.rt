@@ -1,0 +1,88 @@
+//! The end of a command at a fault, with its line.
+ghost use Rattle.std.specs.Prelude.{◌≡◌, ◌≤◌, length, Some};
+ghost use Rattle.std.specs.Option.{option_map};
+ghost use Rattle.cell_walks.specs.Walks.{end_with};
+ghost use Rattle.cell_walks.specs.declared.early_end.Subject.TheVariants.{Cell, Input, Journal};
+ghost use Rattle.cell_texts.specs.RecordReads.{record_line};
+ghost use Rattle.cell_texts.specs.Starting.{other_shift};
+ghost use Rattle.cell_texts.specs.Tests.{cell_fault_line, journal_line, shift_fault_line, step_fault_line};
+ghost use Rattle.cell_texts.specs.Texts.{refusal_text};
+
+use crate::findings::Finding;
+use crate::lines::{bad_line, refusal_line, step_line};
+use cell_file::CellFault;
+use cell_walks::{EarlyEnd, Refusal, Subject};
+use record_text::RecordFault;
+use shift_file::ShiftFault;
+use shift_recovery::JournalFault;
+use step_text::StepFault;
+
+// The end at a finding in a file of this kind; without one it is want of memory.
+fn at_finding(subject: Subject, file: &[u8], finding: Option<Finding>) -> EarlyEnd
+    requires { length file.now ≤ 7 }
+    ensures { result ≡ end_with subject (option_map (refusal_text file.now) finding) }
+{
+    match finding {
+        Some(finding) => EarlyEnd::Refused(Refusal {
+            subject,
+            line: refusal_line(file, &finding),
+        }),
+        None => EarlyEnd::WantOfMemory,
+    }
+}
+
+/// The end at a fault of a cell file.
+pub fn at_cell_fault(fault: CellFault) -> EarlyEnd
+    ensures { result ≡ end_with Cell (cell_fault_line fault) }
+{
+    at_finding(Subject::Cell, b"cell", Finding::of_cell(fault))
+}
+
+/// The end at a fault of a shift file.
+pub fn at_shift_fault(fault: ShiftFault) -> EarlyEnd
+    ensures { result ≡ end_with Input (shift_fault_line fault) }
+{
+    at_finding(Subject::Input, b"shift", Finding::of_shift(fault))
+}
+
+/// The end at a fault of a record.
+pub fn at_record_fault(fault: RecordFault) -> EarlyEnd
+    ensures { result ≡ end_with Input (record_line fault) }
+{
+    match fault {
+        RecordFault::Bad { line } => EarlyEnd::Refused(Refusal {
+            subject: Subject::Input,
+            line: bad_line(line),
+        }),
+        RecordFault::Memory => EarlyEnd::WantOfMemory,
+    }
+}
+
+/// The end at a word that is no step.
+pub fn at_step_fault(fault: StepFault) -> EarlyEnd
+    ensures { result ≡ end_with Input (step_fault_line fault) }
+{
+    let _ = fault;
+    EarlyEnd::Refused(Refusal {
+        subject: Subject::Input,
+        line: step_line(),
+    })
+}
+
+/// The end at a fault of a journal.
+pub fn at_journal_fault(why: JournalFault) -> EarlyEnd
+    ensures { result ≡ end_with Journal (Some (journal_line why)) }
+{
+    at_finding(Subject::Journal, b"journal", Some(Finding::of_journal(why)))
+}
+
+/// The end at a grant of another shift in a journal, of this session.
+pub fn at_other_shift(session: u16) -> EarlyEnd
+    ensures { result ≡ end_with Journal (Some (other_shift session)) }
+{
+    at_finding(
+        Subject::Journal,
+        b"journal",
+        Some(Finding::of_other_shift(session)),
+    )
+}

@@ -1,0 +1,8 @@
+-- Lemmas, grouped by subject.
+pub mod DiskLaws
+pub mod Laws
+pub mod OpenedOnce
+pub mod Promising
+pub mod Standing
+pub mod Steps
+pub mod Walked

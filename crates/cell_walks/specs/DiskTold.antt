@@ -1,0 +1,92 @@
+-- What a disk tells of one call of the program.
+use Rattle.std.specs.Prelude.{◌≡◌, ◌⊎◌, ℕ, List, [], Option, None, IfSome, IsSome, IsSomeAnd}
+use Rattle.outside_io.specs.Disk.{SameOutcomes}
+use Rattle.cell_base.specs.declared.shifts.Grant.{Grant}
+use Rattle.move_journal.specs.Blanks.{IsBlank}
+use Rattle.move_journal.specs.Journals.{StandsFor}
+
+-- What the disk reads as, which files a crash may leave, and how many calls have failed, at entry and at the return; and which files
+-- a crash at any moment since entry might have left.
+pub record DiskTold : Type 1 where
+  pub reads : Option (List ℕ)
+  pub reads_after : Option (List ℕ)
+  pub leaves : List ℕ → Type 0
+  pub leaves_after : List ℕ → Type 0
+  pub left : List ℕ → Type 0
+  pub faults : ℕ
+  pub faults_after : ℕ
+
+-- the same, by the meanings of the disk
+abbrev pub disk_told : {D : Type 0} → (D → Option (List ℕ)) → (D → List ℕ → Type 0) → (D → ℕ) → (D → ℕ → List ℕ → Type 0)
+    → (D → ℕ) → D → D → DiskTold
+disk_told reads_as may_leave moment left_since faults old new = record {
+  reads = reads_as old;
+  reads_after = reads_as new;
+  leaves = may_leave old;
+  leaves_after = may_leave new;
+  left = left_since new (moment old);
+  faults = faults old;
+  faults_after = faults new;
+}
+
+-- the disk of a function that has none
+abbrev pub no_disk : DiskTold
+no_disk = record {
+  reads = None;
+  reads_after = None;
+  leaves = λ file. ⊥;
+  leaves_after = λ file. ⊥;
+  left = λ file. ⊥;
+  faults = 0;
+  faults_after = 0;
+}
+
+-- ---- what was done to it
+
+-- nothing: it reads and counts as it did, a crash leaves the same, and none since entry might have left anything else
+pub record IsUntouched (disk : DiskTold) : Type 0 where
+  pub reads : disk.reads_after ≡ disk.reads
+  pub counts : disk.faults_after ≡ disk.faults
+  pub leaves : SameOutcomes disk.leaves disk.leaves_after
+  pub any_moment : (file : List ℕ) → disk.left file → disk.leaves file
+
+-- it was only read: it reads as it did, and no crash since entry might have left what one at entry might not have left
+pub record IsOnlyRead (disk : DiskTold) : Type 0 where
+  pub reads : disk.reads_after ≡ disk.reads
+  pub leaves : (file : List ℕ) → disk.leaves_after file → disk.leaves file
+  pub any_moment : (file : List ℕ) → disk.left file → disk.leaves file
+
+-- ---- for which grants it stands
+
+-- where it told, it still tells, and reads as a file of which this holds, and a crash now leaves none of which it doesn't
+abbrev pub IsNow : DiskTold → (List ℕ → Type 0) → Type 0
+IsNow disk P =
+    IfSome disk.reads (λ _. IsSomeAnd disk.reads_after (λ file. P file × ((left : List ℕ) → disk.leaves_after left → P left)))
+
+-- where it told, a crash since entry might have left no file of which this doesn't hold
+abbrev pub IsAlways : DiskTold → (List ℕ → Type 0) → Type 0
+IsAlways disk P = IfSome disk.reads (λ _. (left : List ℕ) → disk.left left → P left)
+
+-- It was blank and stands for no grants; and so does each file since entry that a crash at entry might not have left.
+pub record StaysEmpty (text : List ℕ) (disk : DiskTold) : Type 0 where
+  pub blank : IfSome disk.reads IsBlank
+  pub now : IsNow disk (λ file. StandsFor file text [])
+  pub any_moment : IsAlways disk (λ file. disk.leaves file ⊎ StandsFor file text [])
+
+-- an end before anything was added to its journal: it was only read, or none could be made where it was blank
+abbrev pub AddsNothing : List ℕ → DiskTold → Type 0
+AddsNothing text disk = IsOnlyRead disk ⊎ StaysEmpty text disk
+
+-- It stands for these grants; and so does each file since entry that a crash at entry might not have left.
+pub record StandsOpened (text : List ℕ) (opening : List Grant) (disk : DiskTold) : Type 0 where
+  pub now : IsNow disk (λ file. StandsFor file text opening)
+  pub any_moment : IsAlways disk (λ file. disk.leaves file ⊎ StandsFor file text opening)
+
+-- it told at entry, and a crash then might have left no file but such as stand for these grants
+abbrev pub StoodFor : DiskTold → List ℕ → List Grant → Type 0
+StoodFor disk text grants = IsSome disk.reads × ((left : List ℕ) → disk.leaves left → StandsFor left text grants)
+
+-- it stands for them now, and a crash since entry might have left no file that doesn't
+abbrev pub StillStandsFor : DiskTold → List ℕ → List Grant → Type 0
+StillStandsFor disk text grants =
+    IsNow disk (λ file. StandsFor file text grants) × IsAlways disk (λ file. StandsFor file text grants)

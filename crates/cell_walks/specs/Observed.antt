@@ -1,0 +1,75 @@
+-- What is observed of the outside in one call of the program.
+use Rattle.std.specs.Prelude.{ℕ, List, [], Option, Some, IfSome, IsSomeAnd, ⊤}
+use Rattle.outside_io.specs.Files.{Names, IsThere}
+use Rattle.cell_walks.specs.DiskTold.{DiskTold}
+
+-- what each name holds, whether the files are sound, and their counts of faults before and after
+pub record FilesTold : Type 1 where
+  pub names : Option Names
+  pub is_sound : Type 0
+  pub faults : ℕ
+  pub faults_after : ℕ
+
+-- the same, by the meanings of the files
+abbrev pub files_told : {F : Type 0} → (F → Option Names) → (F → Type 0) → (F → ℕ) → F → F → FilesTold
+files_told holds is_sound faults old new =
+    record { names = holds old; is_sound = is_sound old; faults = faults old; faults_after = faults new }
+
+-- what a command reads line by line while it answers: its lines, where they are told, and the counts of faults
+pub record InputTold : Type 0 where
+  pub lines : Option (List (List ℕ))
+  pub faults : ℕ
+  pub faults_after : ℕ
+
+pub record Observed : Type 1 where
+  pub files : FilesTold
+  pub input : InputTold
+  pub disk : DiskTold
+
+-- a command that reads no input
+abbrev pub no_input : InputTold
+no_input = record { lines = Some []; faults = 0; faults_after = 0 }
+
+abbrev pub observed : FilesTold → DiskTold → Observed
+observed files disk = record { files = files; input = no_input; disk = disk }
+
+-- where a test looks: at a word of the command line, a file, or at nothing but what was read before
+pub data Source : Type 0 where
+  Word : (word : List ℕ) → Source
+  File : (name : List ℕ) → Source
+  Known : Source
+
+-- this holds of the bytes of a name, as far as the files tell
+abbrev pub ShowsFile : FilesTold → List ℕ → (List ℕ → Type 0) → Type 0
+ShowsFile files name P = IfSome files.names (λ names. IsSomeAnd (names name) P)
+
+-- this holds of the bytes there, as far as the files tell
+abbrev pub Shows : FilesTold → Source → (List ℕ → Type 0) → Type 0
+Shows files (Word word) P = P word
+Shows files (File name) P = ShowsFile files name P
+Shows files Known P = P []
+
+-- the files tell the bytes there, and this holds of them
+abbrev pub Tells : FilesTold → Source → (List ℕ → Type 0) → Type 0
+Tells files (Word word) P = P word
+Tells files (File name) P = IsSomeAnd files.names (λ names. IsSomeAnd (names name) P)
+Tells files Known P = P []
+
+-- how sure a statement is of the bytes of a test and of the disk at entry
+pub record Evidence : Type 1 where
+  pub at : Source → (List ℕ → Type 0) → Type 0
+  pub on_disk : (List ℕ → Type 0) → Type 0
+
+-- as far as the outside tells
+abbrev pub shown : Observed → Evidence
+shown seen = record { at = Shows seen.files; on_disk = IfSome seen.disk.reads }
+
+-- for certain, since it tells
+abbrev pub certain : Observed → Evidence
+certain seen = record { at = Tells seen.files; on_disk = IsSomeAnd seen.disk.reads }
+
+-- a file that is asked for is there
+abbrev pub IsThereAt : FilesTold → Source → Type 0
+IsThereAt files (File name) = IsThere files.names name
+IsThereAt files (Word word) = ⊤
+IsThereAt files Known = ⊤

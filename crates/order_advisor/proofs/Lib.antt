@@ -1,0 +1,10 @@
+-- The lemmas, by what they are about.
+pub mod Sums
+pub mod Masks
+pub mod Digits
+pub mod Ties
+pub mod Rankings
+pub mod Best
+pub mod Sweeps
+pub mod Costs
+pub mod Worked

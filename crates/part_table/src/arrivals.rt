@@ -1,0 +1,206 @@
+//! The parts in the order of their arrival, each with the resource that was told of it.
+ghost use Rattle.std.specs.Prelude.{◌≡◌, ◌+◌, ◌<◌, ◌≤◌, true, false, [], ◌∷◌, ◌++◌, length, Some, slice_get, MatchOption, IfOk};
+ghost use Rattle.std.specs.List.{find};
+ghost use Rattle.std.specs.Option.{option_map};
+ghost use Rattle.cell_base.specs.Policy.{is_loaded, HaveDistinctJobs};
+ghost use Rattle.cell_base.specs.Outcomes.{part_of};
+ghost use Rattle.cell_base.specs.declared.limits.TheConstants.{MAX_RESOURCES, MAX_UNITS};
+ghost use Rattle.part_table.specs.Standings.{parts_of, is_on, is_waiting, without_job, advanced, finished};
+ghost use Rattle.part_table.specs.Logs.{staying};
+
+use crate::log::Log;
+use crate::standing::Standing;
+use cell_base::{JobId, List, NoMemory, Part, ResId};
+use std::alloc::Global;
+use std::marker::Model;
+
+/// Parts of different jobs with their resources, in the order of arrival at their present stages.
+#[derive(Drop)]
+pub struct Arrivals {
+    log: Log,
+    count: u32,
+    room: u32,
+}
+
+impl Model for Arrivals {
+    ghost use Rattle.std.specs.Prelude.{◌-◌};
+    ghost use Rattle.part_table.specs.Standings.{Arrived};
+    ghost use Rattle.part_table.specs.Logs.{staying, IsTable};
+
+    ghost Value = { Arrived };
+
+    ghost view = { λ s. record { items = staying s.log.entries; spare = s.room - s.count; resources = s.log.resources } };
+
+    ghost invariant = { λ s. IsTable s.log s.count s.room };
+}
+
+/// How many entries a log holds for each part that may stand at a time. So a part's entries are moved together once in many changes.
+const ENTRIES_A_PART: u32 = 4;
+
+/// Room for one more entry.
+fn make_room(log: &mut Log)
+    requires distinct { HaveDistinctJobs (parts_of (staying log.old.entries)) }
+    requires fits { length (staying log.old.entries) < log.old.room }
+    ensures items { staying log.new.entries ≡ staying log.old.entries }
+    ensures free { length log.new.entries < log.new.room }
+    ensures room { log.new.room ≡ log.old.room }
+    ensures resources { log.new.resources ≡ log.old.resources }
+{
+    if log.is_full() {
+        log.compact();
+    }
+}
+
+impl Arrivals {
+    /// Nothing yet, and room for at least `n` parts.
+    pub fn with_room(alloc: Global, resources: u16, n: u32) -> Result<Arrivals, NoMemory>
+        requires few { resources ≤ MAX_RESOURCES }
+        requires room { n ≤ MAX_UNITS }
+        ensures empty { IfOk result (λ arrivals. arrivals.items ≡ []) }
+        ensures spare { IfOk result (λ arrivals. n ≤ arrivals.spare) }
+        ensures resources { IfOk result (λ arrivals. arrivals.resources ≡ resources) }
+    {
+        let log = Log::with_room(alloc, resources, n * ENTRIES_A_PART + 1)?;
+        Ok(Arrivals {
+            log,
+            count: 0,
+            room: n,
+        })
+    }
+
+    /// The part of a job.
+    pub fn get(&self, job: JobId) -> Option<Part>
+        ensures part { result ≡ part_of (parts_of self.now.items) job }
+        ensures distinct { HaveDistinctJobs (parts_of self.now.items) }
+    {
+        match self.log.place_of(job) {
+            Some(at) => Some(self.log.get(at).item.part),
+            None => None,
+        }
+    }
+
+    /// The part at an index.
+    pub fn nth(&self, i: u32) -> Part
+        requires { i < length self.now.items }
+        ensures { slice_get (parts_of self.now.items) i ≡ Some result }
+    {
+        match self.log.nth(i) {
+            Some(item) => item.part,
+            None => unreachable!(),
+        }
+    }
+
+    /// All parts.
+    pub fn listed(&self, alloc: Global) -> Result<List<Part>, NoMemory>
+        ensures { IfOk result (λ parts. parts ≡ parts_of self.now.items) }
+    {
+        self.log.listed(alloc)
+    }
+
+    /// The number of parts.
+    pub fn len(&self) -> u64
+        ensures { result ≡ length self.now.items }
+    {
+        u64::from(self.count)
+    }
+
+    /// How many more parts may arrive.
+    pub fn spare(&self) -> u64
+        ensures { result ≡ self.now.spare }
+    {
+        u64::from(self.room - self.count)
+    }
+
+    /// The first part on a resource that is not done.
+    pub fn first_waiting(&self, on: ResId) -> Option<JobId>
+        requires { on.0 < self.now.resources }
+        ensures { result ≡ option_map (λ item. item.part.job) (find (is_waiting on) self.now.items) }
+    {
+        match self.log.first_waiting(on) {
+            Some(at) => Some(self.log.get(at).item.part.job),
+            None => None,
+        }
+    }
+
+    /// The first part on a resource.
+    pub fn first_on(&self, on: ResId) -> Option<Part>
+        requires { on.0 < self.now.resources }
+        ensures { result ≡ option_map (λ item. item.part) (find (is_on on) self.now.items) }
+    {
+        match self.log.first_on(on) {
+            Some(item) => Some(item.part),
+            None => None,
+        }
+    }
+
+    /// A new part, behind all others.
+    pub fn arrive(&mut self, part: Part, on: ResId)
+        requires absent { is_loaded (parts_of self.old.items) part.job ≡ false }
+        requires on { on.0 < self.old.resources }
+        requires room { 0 < self.old.spare }
+        ensures items { self.new.items ≡ self.old.items ++ (record { part = part; on = on }) ∷ [] }
+        ensures spare { self.new.spare + 1 ≡ self.old.spare }
+        ensures resources { self.new.resources ≡ self.old.resources }
+    {
+        make_room(&mut self.log);
+        self.log.push(Standing { part, on });
+        self.count += 1;
+    }
+
+    /// The part of a job goes on to a place, and stands behind all others.
+    pub fn advance(&mut self, job: JobId, place: u16, done: bool, on: ResId)
+        requires present { is_loaded (parts_of self.old.items) job ≡ true }
+        requires on { on.0 < self.old.resources }
+        ensures items { self.new.items ≡ advanced self.old.items job place done on }
+        ensures spare { self.new.spare ≡ self.old.spare }
+        ensures resources { self.new.resources ≡ self.old.resources }
+    {
+        make_room(&mut self.log);
+        self.log.advance(job, place, done, on);
+    }
+
+    /// The work on the part of a job is done. It keeps its place in the order.
+    pub fn finish(&mut self, job: JobId)
+        requires { is_loaded (parts_of self.old.items) job ≡ true }
+        ensures distinct { HaveDistinctJobs (parts_of self.old.items) }
+        ensures items { self.new.items ≡ finished self.old.items job }
+        ensures spare { self.new.spare ≡ self.old.spare }
+        ensures resources { self.new.resources ≡ self.old.resources }
+    {
+        if let Some(at) = self.log.place_of(job) {
+            self.log.finish(at);
+        }
+    }
+
+    /// The work on the first part on a resource that is not done, if there is one. The part keeps its place in the order. Gives its job.
+    pub fn finish_first(&mut self, on: ResId) -> Option<JobId>
+        requires { on.0 < self.old.resources }
+        ensures distinct { HaveDistinctJobs (parts_of self.old.items) }
+        ensures job { result ≡ option_map (λ item. item.part.job) (find (is_waiting on) self.old.items) }
+        ensures items { MatchOption result (self.new.items ≡ self.old.items) (λ job. self.new.items ≡ finished self.old.items job) }
+        ensures spare { self.new.spare ≡ self.old.spare }
+        ensures resources { self.new.resources ≡ self.old.resources }
+    {
+        match self.log.first_waiting(on) {
+            Some(at) => {
+                let job = self.log.get(at).item.part.job;
+                self.log.finish(at);
+                Some(job)
+            }
+            None => None,
+        }
+    }
+
+    /// The part of a job leaves.
+    pub fn depart(&mut self, job: JobId)
+        requires { is_loaded (parts_of self.old.items) job ≡ true }
+        ensures items { self.new.items ≡ without_job self.old.items job }
+        ensures spare { self.new.spare ≡ self.old.spare + 1 }
+        ensures resources { self.new.resources ≡ self.old.resources }
+    {
+        if let Some(at) = self.log.place_of(job) {
+            self.log.take_out(at);
+            self.count -= 1;
+        }
+    }
+}

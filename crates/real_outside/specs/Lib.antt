@@ -1,0 +1,2 @@
+-- What the contracts of the real outside cite.
+pub mod OutSink

@@ -1,0 +1,22 @@
+//! How much the sessions of a shift may ask.
+ghost use Rattle.std.specs.Prelude.{◌≡◌, ◌*◌, ◌≤◌};
+ghost use Rattle.shift_commands.specs.Clauses.{MAX_STEPS, steps_of};
+
+use cell_base::Shift;
+
+/// How many steps all sessions have together.
+pub fn steps_of(shift: &Shift) -> u64
+    requires { steps_of shift.now ≤ MAX_STEPS }
+    ensures { result ≡ steps_of shift.now }
+{
+    let scripts = shift.scripts.as_slice();
+    scripts.iter().map(|script| script.len()).sum()
+}
+
+/// The most entries of the shift: its steps times its patience.
+pub fn asks_of(shift: &Shift) -> u64
+    requires { steps_of shift.now ≤ MAX_STEPS }
+    ensures { result ≡ steps_of shift.now * shift.now.patience }
+{
+    steps_of(shift) * u64::from(shift.patience)
+}
