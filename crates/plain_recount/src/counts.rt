@@ -1,13 +1,14 @@
 //! Counts of the parts in a neighborhood, each by a look at every part.
-ghost use Rattle.std.specs.Prelude.{◌≡◌, ◌≤◌, ◌<◌, ◌++◌, ◌∷◌, [], length, All, option_map, IfSome, not, ◌&&◌};
-ghost use Rattle.std.specs.List.{filter};
-ghost use Rattle.cell_base.specs.Stages.{IsStage, stage_of};
+ghost use Rattle.std.specs.Prelude.{◌≡◌, ◌≤◌, ◌<◌, ◌++◌, ◌∷◌, [], length, All, option_map, IfSome, nat_lt};
+ghost use Rattle.cell_base.specs.Stages.{IsStage, capacity_of, stage_of};
 ghost use Rattle.cell_base.specs.Neighborhoods.{count, leads};
-ghost use Rattle.cell_base.specs.Policy.{first_over, is_of_job};
-ghost use Rattle.cell_base.specs.Outcomes.{without};
+ghost use Rattle.cell_base.specs.Policy.{IsAdmitted, first_over};
+ghost use Rattle.cell_base.specs.Outcomes.{part_of, without};
+ghost use Rattle.plain_recount.specs.Entering.{enters};
 
 use crate::lead_table::LeadTable;
-use cell_base::{JobId, Part, ResId};
+use crate::parts::part_of;
+use cell_base::{Part, ResId};
 
 /// How many parts the neighborhood of a resource holds.
 pub fn count(table: &LeadTable<'_>, parts: &[Part], r: ResId) -> u64
@@ -19,45 +20,50 @@ pub fn count(table: &LeadTable<'_>, parts: &[Part], r: ResId) -> u64
     parts.iter().filter(|part| table.leads(**part, r)).count() as u64
 }
 
-/// The same without the part of a job.
-fn count_others(table: &LeadTable<'_>, parts: &[Part], job: JobId, r: ResId) -> u64
+/// Whether a part would be counted anew in a neighborhood: it comes in the place of the present part of its job, if there is one.
+fn enters(table: &LeadTable<'_>, present: Option<Part>, part: Part, r: ResId) -> bool
     requires resource { r.0 < length table.now.resources }
-    requires standing { All (λ part. IsStage table.now (stage_of part)) parts.now }
-    ensures value { result
-        ≡ length (filter (λ part. not (is_of_job job part) && leads table.now (stage_of part) r.0) parts.now) }
-    ensures few { result ≤ length parts.now }
+    requires present { IfSome present (λ part. IsStage table.now (stage_of part)) }
+    requires stage { IsStage table.now (stage_of part) }
+    ensures { result ≡ enters table.now present part r.0 }
 {
-    parts
-        .iter()
-        .filter(|part| part.job != job && table.leads(**part, r))
-        .count() as u64
+    let is_counted = match present {
+        Some(present) => table.leads(present, r),
+        None => false,
+    };
+    table.leads(part, r) && !is_counted
 }
 
-/// How many parts it would hold if the part came in the place of its job's present one.
-fn count_with(table: &LeadTable<'_>, parts: &[Part], part: Part, r: ResId) -> u64
-    requires resource { r.0 < length table.now.resources }
-    requires standing { All (λ part. IsStage table.now (stage_of part)) parts.now }
+/// Whether a neighborhood would hold too many if the part came in the place of the present one of its job. One that the part
+/// doesn't enter holds no more than it does now, so only the others are counted.
+fn is_over_with(
+    table: &LeadTable<'_>,
+    parts: &[Part],
+    present: Option<Part>,
+    part: Part,
+    r: ResId,
+) -> bool
+    requires admitted { IsAdmitted table.now parts.now }
+    requires present { present ≡ part_of parts.now part.job }
     requires stage { IsStage table.now (stage_of part) }
-    ensures { result ≡ count table.now (without parts.now part.job ++ part ∷ []) r.0 }
+    requires resource { r.0 < length table.now.resources }
+    ensures { result ≡ nat_lt (capacity_of table.now r.0) (count table.now (without parts.now part.job ++ part ∷ []) r.0) }
 {
-    let others = count_others(table, parts, part.job, r);
-    if table.leads(part, r) {
-        others + 1
-    } else {
-        others
-    }
+    enters(table, present, part, r)
+        && u64::from(table.cell().capacity_of(r)) < count(table, parts, r) + 1
 }
 
 /// The least resource whose neighborhood would then hold too many.
 pub fn first_over(table: &LeadTable<'_>, parts: &[Part], part: Part) -> Option<ResId>
-    requires standing { All (λ part. IsStage table.now (stage_of part)) parts.now }
+    requires admitted { IsAdmitted table.now parts.now }
     requires stage { IsStage table.now (stage_of part) }
     ensures value { option_map (λ r. r.0) result ≡ first_over table.now (without parts.now part.job ++ part ∷ []) }
     ensures within { IfSome result (λ r. r.0 < length table.now.resources) }
 {
+    let present = part_of(parts, part.job);
     for number in 0..table.cell().resources.len() {
         let r = ResId(number as u16);
-        if u64::from(table.cell().capacity_of(r)) < count_with(table, parts, part, r) {
+        if is_over_with(table, parts, present, part, r) {
             return Some(r);
         }
     }

@@ -1,7 +1,8 @@
 //! Replies to requests.
-ghost use Rattle.std.specs.Prelude.{◌≡◌, ◌≤◌, ◌++◌, ◌∷◌, [], length, All, List, Some};
+ghost use Rattle.std.specs.Prelude.{◌≡◌, ◌≤◌, ◌++◌, ◌∷◌, [], length, List, Some};
 ghost use Rattle.cell_base.specs.declared.limits.TheConstants.{MAX_UNITS};
 ghost use Rattle.cell_base.specs.declared.requests.Part.{Part};
+ghost use Rattle.cell_base.specs.Policy.{IsAdmitted};
 ghost use Rattle.cell_base.specs.Stages.{IsStage, stage_of};
 ghost use Rattle.cell_base.specs.Outcomes.{without, admit, outcome_of_entry, outcome_of_move, outcome_of_unload, reply_to};
 ghost use Rattle.cell_base.specs.Fits.{RequestFits};
@@ -14,7 +15,7 @@ use cell_base::{Part, Refusal, Reply, Request};
 /// The reply to a request.
 pub fn reply_to(table: &LeadTable<'_>, parts: &[Part], request: &Request) -> Reply
     requires few { length parts.now ≤ MAX_UNITS }
-    requires standing { All (λ part. IsStage table.now (stage_of part)) parts.now }
+    requires admitted { IsAdmitted table.now parts.now }
     requires request { RequestFits table.now request.now }
     ensures { result ≡ reply_to table.now parts.now request.now }
 {
@@ -56,7 +57,7 @@ pub fn reply_to(table: &LeadTable<'_>, parts: &[Part], request: &Request) -> Rep
 /// The reply to a part that comes new into the cell.
 fn reply_to_entry(table: &LeadTable<'_>, parts: &[Part], part: Part) -> Reply
     requires few { length parts.now ≤ MAX_UNITS }
-    requires standing { All (λ part. IsStage table.now (stage_of part)) parts.now }
+    requires admitted { IsAdmitted table.now parts.now }
     requires stage { IsStage table.now (stage_of part) }
     ensures { result ≡ (outcome_of_entry table.now parts.now part).0 }
 {
@@ -70,7 +71,7 @@ fn reply_to_entry(table: &LeadTable<'_>, parts: &[Part], part: Part) -> Reply
 /// The reply to the move of a part.
 fn reply_to_move(table: &LeadTable<'_>, parts: &[Part], part: Part, branch: u16) -> Reply
     requires few { length parts.now ≤ MAX_UNITS }
-    requires standing { All (λ part. IsStage table.now (stage_of part)) parts.now }
+    requires admitted { IsAdmitted table.now parts.now }
     requires stage { IsStage table.now (stage_of part) }
     ensures { result ≡ (outcome_of_move table.now parts.now (Some part) branch).0 }
 {
@@ -107,7 +108,7 @@ fn reply_to_unload(table: &LeadTable<'_>, part: Part) -> Reply
 /// The reply where the part would come in the place of its job's present one.
 fn reply_to_arrival(table: &LeadTable<'_>, parts: &[Part], part: Part) -> Reply
     requires few { length parts.now ≤ MAX_UNITS }
-    requires standing { All (λ part. IsStage table.now (stage_of part)) parts.now }
+    requires admitted { IsAdmitted table.now parts.now }
     requires stage { IsStage table.now (stage_of part) }
     ensures { result ≡ (admit table.now parts.now (without parts.now part.job ++ part ∷ [])).0 }
 {
