@@ -9,7 +9,7 @@ use Rattle.std.proofs.lemmas.Slice.Eq.{bytes_eq-Decides}
 use Rattle.std.proofs.Math.Seq.{get_or-append_seam}
 use Rattle.toml.specs.Data.{Data}
 use Rattle.toml.specs.View.{items_of}
-use Rattle.toml_bounds.specs.Widths.{item_count}
+use Rattle.toml_walk.specs.Widths.{item_count}
 use Rattle.toml_walk.specs.Documents.{each}
 use Rattle.cell_file.specs.declared.faults.CellFault.{CellFault}
 

@@ -6,7 +6,7 @@ use Rattle.cell_base.specs.declared.limits.TheConstants.{MAX_BRANCHES}
 use Rattle.cell_base.specs.declared.places.Place.{Place}
 use Rattle.cell_base.specs.declared.places.Field.TheVariants.{Next}
 use Rattle.toml.specs.Data.{Data, Items, as_integer}
-use Rattle.toml_bounds.specs.Widths.{item_count}
+use Rattle.toml_walk.specs.Widths.{item_count}
 use Rattle.toml_walk.specs.Documents.{all_items, each, array_of, number_of, at_most}
 use Rattle.cell_file.specs.declared.faults.CellFault.{CellFault}
 use Rattle.cell_file.specs.declared.faults.CellFault.TheVariants.{WrongKind, BadNumber}

@@ -5,7 +5,7 @@ use Rattle.std.specs.Cmp.Lexicographic.{slice_cmp}
 use Rattle.toml.specs.Data.{Data, string, integer, float, boolean, datetime, array, table, Items, Members, no_members, member, get_member, as_array, as_table}
 use Rattle.toml.specs.View.{view, items_view}
 use Rattle.toml.specs.declared.value.Value.{Value}
-use Rattle.toml_bounds.specs.Widths.{item_count, width, items_width, members_width}
+use Rattle.toml_walk.specs.Widths.{item_count, width, items_width, members_width}
 
 pub count_of_items : (vs : List Value) → item_count (items_view vs) ≡ length vs
 count_of_items [] = refl

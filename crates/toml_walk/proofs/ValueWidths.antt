@@ -8,10 +8,10 @@ use Rattle.toml_parser.specs.declared.scalar.Scalar.TheVariants.{Boolean, Intege
 use Rattle.toml.specs.Data.{Data, Items, no_items, Members, push_item}
 use Rattle.toml.specs.Tables.{Nodes, no_nodes, key_value}
 use Rattle.toml.specs.Parse.{after_byte, after_element, key_equals, keyval, items, members, scalar_data, atom, val}
-use Rattle.toml_bounds.specs.Widths.{item_count, width, items_width, members_width}
-use Rattle.toml_bounds.proofs.Steps.{Holds, nothing, something, and_then, mapped, either, weaker}
-use Rattle.toml_bounds.proofs.Rests.{Leaves, drop_le, skip_ws_le, skip_from_le, quoted_leaves, unquoted_leaves, key_leaves}
-use Rattle.toml_bounds.proofs.Nodes.{AreBounded, count_push, width_push, close_width, along_dots_keeps, at_key_keeps}
+use Rattle.toml_walk.specs.Widths.{item_count, width, items_width, members_width}
+use Rattle.toml_walk.proofs.Steps.{Holds, nothing, something, and_then, mapped, either, weaker}
+use Rattle.toml_walk.proofs.Rests.{Leaves, drop_le, skip_ws_le, skip_from_le, quoted_leaves, unquoted_leaves, key_leaves}
+use Rattle.toml_walk.proofs.Nodes.{AreBounded, count_push, width_push, close_width, along_dots_keeps, at_key_keeps}
 
 -- ---- between the parts
 

@@ -5,7 +5,7 @@ use Rattle.std.specs.List.{prefix_len}
 use Rattle.toml_parser.specs.Lexical.{Read, first, line_feed, starts_newline, skip_ws, skip_from, skip_turn}
 use Rattle.toml_parser.specs.Strings.{hex_escape, escape_char, escape, at_delims, special, after_piece, body, trim_newline, one_line, quoted, simple_key, key_after, key}
 use Rattle.toml_parser.specs.Numbers.{unquoted}
-use Rattle.toml_bounds.proofs.Steps.{Holds, nothing, something, and_then, mapped, mapped_any, either, either_le, weaker}
+use Rattle.toml_walk.proofs.Steps.{Holds, nothing, something, and_then, mapped, mapped_any, either, either_le, weaker}
 
 -- ---- between the tokens
 

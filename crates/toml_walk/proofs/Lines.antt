@@ -5,11 +5,11 @@ use Rattle.toml_parser.specs.Lexical.{Read, first, right_bracket, skip_ws, skip_
 use Rattle.toml_parser.specs.Strings.{Key, key}
 use Rattle.toml.specs.Tables.{no_nodes, Definition, Expression, key_value, std_table, array_table, Document, at_key, put, define_as, define}
 use Rattle.toml.specs.Parse.{val, header_key, expression, line, lines, skip_bom, parse_document}
-use Rattle.toml_bounds.specs.Widths.{width, members_width}
-use Rattle.toml_bounds.proofs.Steps.{Holds, nothing, something, and_then, mapped, either, either_le}
-use Rattle.toml_bounds.proofs.Rests.{Leaves, drop_le, skip_ws_le, skip_from_le, key_leaves}
-use Rattle.toml_bounds.proofs.Nodes.{AreBounded, all_more, close_width, along_header_keeps, along_dots_keeps, at_key_keeps}
-use Rattle.toml_bounds.proofs.Values.{after_byte_leaves, keyval_reads, val_reads}
+use Rattle.toml_walk.specs.Widths.{width, members_width}
+use Rattle.toml_walk.proofs.Steps.{Holds, nothing, something, and_then, mapped, either, either_le}
+use Rattle.toml_walk.proofs.Rests.{Leaves, drop_le, skip_ws_le, skip_from_le, key_leaves}
+use Rattle.toml_walk.proofs.Nodes.{AreBounded, all_more, close_width, along_header_keeps, along_dots_keeps, at_key_keeps}
+use Rattle.toml_walk.proofs.ValueWidths.{after_byte_leaves, keyval_reads, val_reads}
 
 -- ---- expressions
 

@@ -1,5 +1,0 @@
-pub mod Steps
-pub mod Rests
-pub mod Nodes
-pub mod Values
-pub mod Lines
