@@ -1,0 +1,17 @@
+-- The bytes are refused.
+use Rattle.std.proofs.Common.{◌≡◌, List, ℕ, Err, subst}
+use Rattle.std.specs.Prelude.{IfSome}
+use Rattle.durable_cell.specs.Replayed.{opened_as}
+use Rattle.durable_cell.specs.declared.replays.TheConstants.{MAX_ROOM}
+use Rattle.cell_walks.specs.Allowed.{OpeningRefused}
+use Rattle.cell_texts.proofs.Disks.{only_read}
+use Rattle.look_commands.proofs.grants.find_grants.Goals as goal
+
+pub returns-in-Refused-clause-ended : goal.returns-in-Refused-clause-ended
+returns-in-Refused-clause-ended g c =
+    OpeningRefused c.in-Refused.why
+    (subst (λ (text : List ℕ). IfSome (g.D.Disk.reads_as c.args.disk)
+    (λ file. opened_as c.args.held.cell file text MAX_ROOM ≡ Err c.in-Refused.why)) c.deref.ensures.value c.in-Refused.ensures.exact)
+    (only_read g.D.Disk.reads_as g.D.Disk.may_leave g.D.Disk.moment g.D.Disk.left_since g.D.Disk.faults c.args.disk c.in-Refused.disk
+    c.in-Refused.ensures.reads)
+    c.at_journal_fault.ensures
