@@ -17,16 +17,17 @@ use Rattle.cell_walks.specs.Walks.{Opens}
 use Rattle.cell_walks.specs.declared.early_end.EarlyEnd.{EarlyEnd}
 use Rattle.cell_walks.proofs.Steps.{ended_at, ended_at_opening}
 use Rattle.cell_texts.specs.Blocks.{block_of as lines_of_block, planned_block}
+use Rattle.cell_texts.specs.JournalReads.{IsFound}
+use Rattle.cell_texts.specs.declared.readers.Found.{Found}
 use Rattle.cell_texts.specs.Tests.{KnownCell, cell_file, cell_reads, to_read}
 use Rattle.cell_texts.proofs.BlockTexts.{planned_text}
 use Rattle.cell_texts.proofs.Fitting.{replay_admitted}
-use Rattle.look_commands.specs.Grants.{IsFoundIn, IsListed, grants, grants_outcome, history_of, listed}
-use Rattle.look_commands.specs.declared.grants.Found.{Found}
+use Rattle.look_commands.specs.Grants.{IsListed, grants, grants_outcome, history_of, listed}
 use Rattle.look_commands.proofs.Right.{after_is, grants_right, none_halts}
 
 -- the block of the grants is that of their record
 is_listed : (disk : DiskTold) (held : KnownCell) (found : Found) → CellFits held.cell
-    → (is : IsFoundIn disk (to_read held) found) → IsListed held.cell found.grants (grants_outcome (Ok found))
+    → (is : IsFound disk (to_read held) found) → IsListed held.cell found.grants (grants_outcome (Ok found))
 is_listed disk held found fits is =
     let left : List Part = replay held.cell found.grants in
     let plan : List Request = plan_of held.cell left in
@@ -51,7 +52,7 @@ module _ (seen : Observed) (name : List ℕ) where
 
   -- it was; and the journal was read, or the command ends there
   pub grants_made : (held : KnownCell) → ShowsFile seen.files name (λ bytes. cell_reads bytes (Ok held)) → CellFits held.cell
-      → IsOnlyRead seen.disk → (made : Result Found EarlyEnd) → IfOk made (IsFoundIn seen.disk (to_read held))
+      → IsOnlyRead seen.disk → (made : Result Found EarlyEnd) → IfOk made (IsFound seen.disk (to_read held))
       → IfErr made (IsNotOpened seen.disk (to_read held)) → IsAllowed seen (grants name) (grants_outcome made)
   grants_made held shows fits only (Ok found) is ended =
       Passed held shows (JournalOpened found.grants is.opened (is_listed seen.disk held found fits is, only))

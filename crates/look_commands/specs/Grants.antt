@@ -1,26 +1,23 @@
 -- `grants CELL JOURNAL`: the grants of the journal as one record of shift 0, with the plan that empties the cell after them.
 use Rattle.std.specs.Prelude.{◌≡◌, ℕ, List, [], ◌∷◌, length, map, Result, Ok, Err}
-use Rattle.std.specs.List.{All, concat}
+use Rattle.std.specs.List.{concat}
 use Rattle.cell_base.specs.declared.cells.Cell.{Cell}
 use Rattle.cell_base.specs.declared.requests.Reply.TheVariants.{Granted}
 use Rattle.cell_base.specs.declared.requests.Told.TheVariants.{Answered}
 use Rattle.cell_base.specs.declared.shifts.Entry.{Entry}
 use Rattle.cell_base.specs.declared.shifts.Grant.{Grant}
-use Rattle.cell_base.specs.Fits.{RequestFits}
 use Rattle.cell_base.specs.Histories.{replay}
 use Rattle.cell_base.specs.Plans.{Drains, plan_of}
 use Rattle.record_text.specs.Records.{block_of, text_of_block}
 use Rattle.record_text.specs.declared.blocks.Block.{Block}
 use Rattle.shift_checker.specs.Judging.{judge}
 use Rattle.shift_checker.specs.declared.verdict.Verdict.TheVariants.{Yes}
-use Rattle.cell_walks.specs.Allowed.{IsOpenedAs}
-use Rattle.cell_walks.specs.DiskTold.{DiskTold}
 use Rattle.cell_walks.specs.Outcomes.{Outcome, done, early}
-use Rattle.cell_walks.specs.Walks.{Journal, Walk, Tests, Opens, Answers}
+use Rattle.cell_walks.specs.Walks.{Walk, Tests, Opens, Answers}
 use Rattle.cell_walks.specs.declared.early_end.EarlyEnd.{EarlyEnd}
 use Rattle.cell_texts.specs.Blocks.{Lines, block_of as lines_of_block, entry_line, planned_block}
 use Rattle.cell_texts.specs.Tests.{KnownCell, cell_file, to_read}
-use Rattle.look_commands.specs.declared.grants.Found.{Found}
+use Rattle.cell_texts.specs.declared.readers.Found.{Found}
 
 -- ---- grants as a record
 
@@ -69,12 +66,3 @@ found_lines found = lines_of_block found.core 0 0 (history_of found.grants)
 abbrev pub grants_outcome : Result Found EarlyEnd → Outcome
 grants_outcome (Ok found) = done (found_lines found)
 grants_outcome (Err end) = early end
-
--- each grant fits the cell
-abbrev pub GrantsFit : Cell → List Grant → Type 0
-GrantsFit cell opening = All (λ (grant : Grant). RequestFits cell grant.request) opening
-
--- the grants of a journal that was opened, and the core in the state after them
-pub record IsFoundIn (disk : DiskTold) (journal : Journal) (found : Found) : Type 0 where
-  pub opened : IsOpenedAs disk journal found.grants
-  pub core : found.core ≡ record { cell = journal.cell; parts = replay journal.cell found.grants }

@@ -1,21 +1,19 @@
 //! The record of a journal's grants on its way to the sink, each line one `put`.
 ghost use Rattle.std.specs.Prelude.{◌≡◌, map, OnOk, OnErr};
-ghost use Rattle.cell_base.specs.Plans.{plan_of};
+ghost use Rattle.std.specs.List.{All};
 ghost use Rattle.cell_walks.specs.Clauses.{HasCause, TookAll, TookSome, sink_told};
-ghost use Rattle.cell_texts.specs.Clauses.{RequestFits};
-ghost use Rattle.cell_texts.specs.Blocks.{history_lines, plan_lines, step_line};
-ghost use Rattle.look_commands.specs.Grants.{GrantsFit, found_lines, grant_line, history_of};
+ghost use Rattle.cell_texts.specs.Clauses.{GrantsFit, RequestFits};
+ghost use Rattle.cell_texts.specs.Blocks.{history_lines};
+ghost use Rattle.look_commands.specs.Grants.{found_lines, grant_line, history_of};
 
-use crate::grants::Found;
 use cell_base::{Cell, Entry, Grant, Reply, Told};
-use cell_texts::print_line;
-use drain_planner::Drainer;
+use cell_texts::{Found, print_left, print_line};
 use outside_io::{Failed, Sink};
-use record_text::{Line, head_line, left_line, plan_line, write_entry, write_step};
+use record_text::{Line, head_line, write_entry};
 
 /// Puts the record of what was found, up to the first line that the sink doesn't take. It takes no memory.
 pub fn print_found<K: Sink>(out: &mut K, found: Found) -> Result<(), Failed>
-    requires { GrantsFit found.core.cell found.grants }
+    requires { GrantsFit found }
     ensures whole { OnOk result (TookAll (sink_told K.taken K.was_put K.faults out.old out.new) (found_lines found)) }
     ensures part { OnErr result (TookSome (sink_told K.taken K.was_put K.faults out.old out.new) (found_lines found)) }
     ensures cause { HasCause (K.faults out.old) (K.faults out.new) result }
@@ -24,15 +22,12 @@ pub fn print_found<K: Sink>(out: &mut K, found: Found) -> Result<(), Failed>
     if let Err(failed) = print_history(out, core.cell(), grants.as_slice()) {
         return Err(failed);
     }
-    if let Err(failed) = print_line(out, &left_line(core.parts_left())) {
-        return Err(failed);
-    }
-    print_plan(out, &mut Drainer::new(core))
+    print_left(out, core)
 }
 
 // Puts the head of the record, and the line of each grant.
 fn print_history<K: Sink>(out: &mut K, cell: &Cell, grants: &[Grant]) -> Result<(), Failed>
-    requires { GrantsFit cell.now grants.now }
+    requires { All (λ grant. RequestFits cell.now grant.request) grants.now }
     ensures whole { OnOk result
         (TookAll (sink_told K.taken K.was_put K.faults out.old out.new) (history_lines cell.now 0 0 (history_of grants.now))) }
     ensures part { OnErr result
@@ -47,7 +42,7 @@ fn print_history<K: Sink>(out: &mut K, cell: &Cell, grants: &[Grant]) -> Result<
 
 // Puts the line of each grant.
 fn print_grants<K: Sink>(out: &mut K, cell: &Cell, grants: &[Grant]) -> Result<(), Failed>
-    requires { GrantsFit cell.now grants.now }
+    requires { All (λ grant. RequestFits cell.now grant.request) grants.now }
     ensures whole { OnOk result
         (TookAll (sink_told K.taken K.was_put K.faults out.old out.new) (map (grant_line cell.now) grants.now)) }
     ensures part { OnErr result
@@ -75,40 +70,4 @@ fn write_grant(line: &mut Line, cell: &Cell, grant: &Grant)
         told: Told::Answered(Reply::Granted),
     };
     write_entry(line, cell, &entry);
-}
-
-// Puts how many steps the plan has, and the line of each.
-fn print_plan<K: Sink>(out: &mut K, drainer: &mut Drainer) -> Result<(), Failed>
-    ensures whole { OnOk result
-        (TookAll (sink_told K.taken K.was_put K.faults out.old out.new)
-        (plan_lines drainer.old.cell (plan_of drainer.old.cell drainer.old.parts))) }
-    ensures part { OnErr result
-        (TookSome (sink_told K.taken K.was_put K.faults out.old out.new)
-        (plan_lines drainer.old.cell (plan_of drainer.old.cell drainer.old.parts))) }
-    ensures cause { HasCause (K.faults out.old) (K.faults out.new) result }
-{
-    if let Err(failed) = print_line(out, &plan_line(drainer.length())) {
-        return Err(failed);
-    }
-    print_steps(out, drainer)
-}
-
-// Puts the line of each step.
-fn print_steps<K: Sink>(out: &mut K, drainer: &mut Drainer) -> Result<(), Failed>
-    ensures whole { OnOk result
-        (TookAll (sink_told K.taken K.was_put K.faults out.old out.new)
-        (map (step_line drainer.old.cell) (plan_of drainer.old.cell drainer.old.parts))) }
-    ensures part { OnErr result
-        (TookSome (sink_told K.taken K.was_put K.faults out.old out.new)
-        (map (step_line drainer.old.cell) (plan_of drainer.old.cell drainer.old.parts))) }
-    ensures cause { HasCause (K.faults out.old) (K.faults out.new) result }
-{
-    let mut line = Line::new();
-    while let Some(step) = drainer.next() {
-        write_step(&mut line, drainer.cell(), &step);
-        if let Err(failed) = print_line(out, &line) {
-            return Err(failed);
-        }
-    }
-    Ok(())
 }
