@@ -6,12 +6,11 @@ use Rattle.outside_io.specs.PutLaws.{took_none, took_more, failed_before, failed
 use Rattle.cell_base.specs.declared.cells.Cell.{Cell}
 use Rattle.cell_base.specs.declared.requests.Request.{Request}
 use Rattle.cell_base.specs.declared.shifts.Entry.{Entry}
-use Rattle.record_text.specs.Lines.{line_of, left_words}
 use Rattle.refusal_reason.specs.Shown.{IsLine}
 use Rattle.std.specs.List.{All, concat}
 use Rattle.std.proofs.lemmas.List.Elements.{All-head, All-tail}
 use Rattle.std.proofs.lemmas.List.{length-append, map-id}
-use Rattle.cell_texts.specs.Blocks.{Lines, history_lines, plan_lines, planned_block}
+use Rattle.cell_texts.specs.Blocks.{Lines, history_lines, left_lines, planned_block}
 
 -- of these items the first ones have their lines taken, and the rest not yet
 pub record Underway {X : Type 0} (told : SinkTold) (line_for : X → List ℕ) (every rest : List X) : Type 0 where
@@ -136,35 +135,22 @@ module _ {K : Type 0} (taken : K → Option (List ℕ)) (was_put : K → List �
 
   -- ---- a block with a plan
 
-  module _ (cell : Cell) (shift grants : ℕ) (history : List Entry) (parts : ℕ) (plan : List Request) (left : List ℕ)
-      (left_is : left ≡ line_of (left_words parts)) where
+  module _ (cell : Cell) (shift grants : ℕ) (history : List Entry) (parts : ℕ) (plan : List Request) where
     abbrev block : List (List ℕ)
     block = planned_block cell shift grants history parts plan
 
-    abbrev rest : List (List ℕ)
-    rest = left ∷ plan_lines cell plan
-
-    block_is : history_lines cell shift grants history ++ rest ≡ block
+    block_is : history_lines cell shift grants history ++ left_lines cell parts plan ≡ block
     unfolding planned_block
-    block_is = ap (λ (l : List ℕ). history_lines cell shift grants history ++ l ∷ plan_lines cell plan) left_is
+    block_is = refl
 
     module _ (a b : K) where
       pub part_of_history : TookSome (told a b) (history_lines cell shift grants history) → TookSome (told a b) block
-      part_of_history part = failed_first (history_lines cell shift grants history) rest block block_is a b part
+      part_of_history part = failed_first (history_lines cell shift grants history) (left_lines cell parts plan) block block_is a b part
 
       module _ (c : K) (first : TookAll (told a b) (history_lines cell shift grants history)) where
-        pub part_of_left : TookSome (told b c) (left ∷ []) → TookSome (told a c) block
+        pub part_of_left : TookSome (told b c) (left_lines cell parts plan) → TookSome (told a c) block
         part_of_left part =
-            failed_then (history_lines cell shift grants history) rest block block_is a b c first
-            (failed_first (left ∷ []) (plan_lines cell plan) rest refl b c part)
+            failed_then (history_lines cell shift grants history) (left_lines cell parts plan) block block_is a b c first part
 
-        module _ (d : K) (next : TookAll (told b c) (left ∷ [])) where
-          pub part_of_plan : TookSome (told c d) (plan_lines cell plan) → TookSome (told a d) block
-          part_of_plan part =
-              failed_then (history_lines cell shift grants history) rest block block_is a b d first
-              (failed_then (left ∷ []) (plan_lines cell plan) rest refl b c d next part)
-
-          pub whole_block : TookAll (told c d) (plan_lines cell plan) → TookAll (told a d) block
-          whole_block last =
-              took_both (history_lines cell shift grants history) rest block block_is a b d first
-              (took_both (left ∷ []) (plan_lines cell plan) rest refl b c d next last)
+        pub whole_block : TookAll (told b c) (left_lines cell parts plan) → TookAll (told a c) block
+        whole_block last = took_both (history_lines cell shift grants history) (left_lines cell parts plan) block block_is a b c first last

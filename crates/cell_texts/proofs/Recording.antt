@@ -24,11 +24,11 @@ use Rattle.cell_walks.specs.DiskTold.{DiskTold}
 use Rattle.cell_walks.specs.Outcomes.{Outcome}
 use Rattle.cell_walks.specs.declared.status.Status.TheVariants.{Done, DeviceFault}
 use Rattle.cell_texts.specs.Recorded.{IsAskedUnder, IsHaltedIn, IsUnhaltedIn, recorded_outcome}
-use Rattle.cell_texts.specs.Records.{IsAsked, IsHalted, IsRecorded, IsRecordedOrHalted}
+use Rattle.cell_texts.specs.Records.{IsAsked, IsHalted, IsRecordedOrHalted}
 use Rattle.cell_texts.specs.declared.recorded.Asked.{Asked}
 use Rattle.cell_texts.specs.declared.recorded.Recorded.TheVariants.{Whole, Halted}
 use Rattle.cell_texts.proofs.Fitting.{admitted_after, entries_fit, replay_admitted}
-use Rattle.cell_texts.proofs.HaltedHistories.{ends_in_halt, halts, none_halted, unhalted}
+use Rattle.cell_texts.proofs.HaltedHistories.{ends_in_halt, none_halted, unhalted}
 
 module _ {D : Type 0} (number : ℕ) (durable : DurableState D) (kept : KeepsHistory durable) (under : IsAskedUnder number durable)
     (core : CoreState) (after : ℕ) (history : List Entry) (core_is : core ≡ record { cell = durable.cell; parts = parts durable })

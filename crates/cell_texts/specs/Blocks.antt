@@ -28,11 +28,18 @@ history_lines cell shift grants history = line_of (head_words shift grants) ∷ 
 abbrev pub plan_lines : Cell → List Request → Lines
 plan_lines cell plan = line_of (plan_words (length plan)) ∷ map (step_line cell) plan
 
+-- the number of parts that are left, and the plan for these
+abbrev pub left_lines : Cell → ℕ → List Request → Lines
+left_lines cell left plan = line_of (left_words left) ∷ plan_lines cell plan
+
 -- a block with a plan: the history, the number of parts that it leaves, and the plan for these
 unfoldable pub planned_block : Cell → ℕ → ℕ → List Entry → ℕ → List Request → Lines
-planned_block cell shift grants history left plan =
-    history_lines cell shift grants history ++ line_of (left_words left) ∷ plan_lines cell plan
+planned_block cell shift grants history left plan = history_lines cell shift grants history ++ left_lines cell left plan
 
--- the same of the parts that a core holds, and of their plan
+-- the number of the parts that a core holds, and their plan
+abbrev pub left_of : CoreState → Lines
+left_of core = left_lines core.cell (length core.parts) (plan_of core.cell core.parts)
+
+-- a block of the parts that a core holds, and of their plan
 abbrev pub block_of : CoreState → ℕ → ℕ → List Entry → Lines
 block_of core shift grants history = planned_block core.cell shift grants history (length core.parts) (plan_of core.cell core.parts)

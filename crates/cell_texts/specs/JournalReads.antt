@@ -1,11 +1,14 @@
--- A journal that was read: the state after its grants.
+-- A journal that was read: its grants, and the state after them.
 use Rattle.std.specs.Prelude.{◌≡◌, List, length}
+use Rattle.std.specs.List.{All}
 use Rattle.cell_base.specs.declared.shifts.Grant.{Grant}
+use Rattle.cell_base.specs.Fits.{RequestFits}
 use Rattle.cell_base.specs.Histories.{replay}
 use Rattle.cell_walks.specs.Allowed.{IsOpenedAs}
 use Rattle.cell_walks.specs.DiskTold.{DiskTold}
 use Rattle.cell_walks.specs.Walks.{Journal}
 use Rattle.cell_texts.specs.declared.readers.AfterGrants.{AfterGrants}
+use Rattle.cell_texts.specs.declared.readers.Found.{Found}
 
 -- the state after the grants of a journal that was opened, and how many they are
 pub record IsAfterGrants (disk : DiskTold) (journal : Journal) (after : AfterGrants) : Type 0 where
@@ -13,3 +16,12 @@ pub record IsAfterGrants (disk : DiskTold) (journal : Journal) (after : AfterGra
   pub opened : IsOpenedAs disk journal grants
   pub core : after.core ≡ record { cell = journal.cell; parts = replay journal.cell grants }
   pub count : after.grants ≡ length grants
+
+-- the grants of a journal that was opened, and the state after them
+pub record IsFound (disk : DiskTold) (journal : Journal) (found : Found) : Type 0 where
+  pub opened : IsOpenedAs disk journal found.grants
+  pub core : found.core ≡ record { cell = journal.cell; parts = replay journal.cell found.grants }
+
+-- each of the grants fits the cell
+abbrev pub GrantsFit : Found → Type 0
+GrantsFit found = All (λ (grant : Grant). RequestFits found.core.cell grant.request) found.grants

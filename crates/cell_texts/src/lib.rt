@@ -22,9 +22,10 @@ mod refusals;
 pub use findings::Finding;
 pub use lines::{job_line, verdict_line};
 pub use opening::{Unopened, open_journal};
-pub use printing::{print_block, print_history, print_line, print_text};
+pub use printing::{print_block, print_history, print_left, print_line, print_text};
 pub use readers::{
-    AfterGrants, CellFile, CommandEnd, Made, read_cell, read_journal, read_record, read_shift,
+    AfterGrants, CellFile, CommandEnd, Found, Made, find_grants, read_cell, read_journal,
+    read_record, read_shift,
 };
 pub use recorded::{Asked, Closed, Recorded, print_recorded, record_of};
 pub use refusals::{at_journal_fault, at_other_shift, at_step_fault};

@@ -3,11 +3,11 @@ ghost use Rattle.std.specs.Prelude.{◌≡◌, ◌≤◌, ◌⊎◌, length, IfO
 ghost use Rattle.outside_io.specs.Files.{IsReadOf};
 ghost use Rattle.cell_walks.specs.Clauses.{File, IsEndedAt, IsNotOpened, IsOnlyRead, IsUnread, ShowsFile, disk_told, files_told};
 ghost use Rattle.cell_walks.specs.declared.early_end.EarlyEnd.TheVariants.{WantOfMemory};
-ghost use Rattle.cell_texts.specs.Clauses.{AreWellFormed, CellFits, IsAfterGrants, MAX_CELL_BYTES, ShiftFits, cell_file, cell_reads, known, record_file, record_reads, shift_file, shift_of, to_read};
+ghost use Rattle.cell_texts.specs.Clauses.{AreWellFormed, CellFits, GrantsFit, IsAfterGrants, IsFound, MAX_CELL_BYTES, ShiftFits, cell_file, cell_reads, known, record_file, record_reads, shift_file, shift_of, to_read};
 
 use crate::refusals::{at_cell_fault, at_journal_fault, at_record_fault, at_shift_fault};
 use admission_core::Core;
-use cell_base::{Cell, List, Shift};
+use cell_base::{Cell, Grant, List, Shift};
 use cell_file::MAX_CELL_BYTES;
 use cell_walks::{EarlyEnd, Status};
 use durable_cell::{MAX_ROOM, Restored, restore};
@@ -42,6 +42,13 @@ pub struct CellFile {
 pub struct AfterGrants {
     pub core: Core,
     pub grants: u64,
+}
+
+/// The grants of a journal, and a core in the state after them.
+#[derive(Drop)]
+pub struct Found {
+    pub core: Core,
+    pub grants: List<Grant>,
 }
 
 // Reads a file, cut after one byte more than the limit.
@@ -143,6 +150,28 @@ pub fn read_journal<D: Disk>(alloc: Global, held: CellFile, disk: D) -> Made<Aft
         (disk_told D.reads_as D.may_leave D.moment D.left_since D.faults disk result.disk) (to_read (known held))) }
     ensures only_read { IsOnlyRead (disk_told D.reads_as D.may_leave D.moment D.left_since D.faults disk result.disk) }
 {
+    let Made { made, disk } = find_grants(alloc, held, disk);
+    let made = match made {
+        Ok(found) => Ok(AfterGrants {
+            core: found.core,
+            grants: found.grants.len(),
+        }),
+        Err(end) => Err(end),
+    };
+    Made { made, disk }
+}
+
+/// The grants of the cell that stand on a disk, with the state after them, or the end in their place. It only reads.
+pub fn find_grants<D: Disk>(alloc: Global, held: CellFile, disk: D) -> Made<Found, D>
+    requires fits { CellFits held.cell }
+    requires short { length held.text.items ≤ MAX_CELL_BYTES }
+    ensures found { IfOk result.made (IsFound
+        (disk_told D.reads_as D.may_leave D.moment D.left_since D.faults disk result.disk) (to_read (known held))) }
+    ensures fit { IfOk result.made GrantsFit }
+    ensures ended { IfErr result.made (IsNotOpened
+        (disk_told D.reads_as D.may_leave D.moment D.left_since D.faults disk result.disk) (to_read (known held))) }
+    ensures only_read { IsOnlyRead (disk_told D.reads_as D.may_leave D.moment D.left_since D.faults disk result.disk) }
+{
     let CellFile { cell, text } = held;
     match restore(alloc, cell, &text, disk, MAX_ROOM) {
         Restored::Open {
@@ -150,10 +179,7 @@ pub fn read_journal<D: Disk>(alloc: Global, held: CellFile, disk: D) -> Made<Aft
             stored,
             grants,
         } => Made {
-            made: Ok(AfterGrants {
-                core,
-                grants: grants.len(),
-            }),
+            made: Ok(Found { core, grants }),
             disk: stored.into_disk(),
         },
         Restored::Refused { disk, why } => Made {

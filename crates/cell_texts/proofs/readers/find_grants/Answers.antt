@@ -5,7 +5,7 @@ use Rattle.durable_cell.specs.Replayed.{opened_as}
 use Rattle.durable_cell.specs.declared.replays.TheConstants.{MAX_ROOM}
 use Rattle.cell_walks.specs.Allowed.{OpeningRefused}
 use Rattle.cell_texts.proofs.Disks.{only_read}
-use Rattle.cell_texts.proofs.readers.read_journal.Goals as goal
+use Rattle.cell_texts.proofs.readers.find_grants.Goals as goal
 
 pub returns-in-Refused-clause-ended : goal.returns-in-Refused-clause-ended
 returns-in-Refused-clause-ended g c =
