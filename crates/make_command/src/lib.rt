@@ -15,7 +15,6 @@ mod printing;
 mod summary;
 
 pub use make::run_make;
-pub use printing::print_usage;
 pub use summary::Summary;
 
 #[cfg(test)]

@@ -3,9 +3,9 @@ ghost use Rattle.std.specs.Prelude.{◌≡◌};
 ghost use Rattle.cell_walks.specs.Clauses.{Ends, disk_told, files_told, no_disk, observed, sink_told};
 ghost use Rattle.make_command.specs.Clauses.{make};
 
-use crate::printing::{print_summary, print_usage};
+use crate::printing::print_summary;
 use crate::summary::summary_of;
-use cell_texts::CommandEnd;
+use cell_texts::{CommandEnd, print_usage};
 use cell_walks::{EarlyEnd, Status, finish_early};
 use outside_io::{Disk, Files, Sink};
 use std::alloc::Global;

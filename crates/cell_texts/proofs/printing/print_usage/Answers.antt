@@ -2,7 +2,7 @@
 use Rattle.std.proofs.Common.{refl}
 use Rattle.outside_io.specs.PutLaws.{failed_at}
 use Rattle.cell_walks.specs.Outcomes.{Cut}
-use Rattle.make_command.proofs.printing.print_usage.Goals as goal
+use Rattle.cell_texts.proofs.printing.print_usage.Goals as goal
 
 pub returns-in-Err : goal.returns-in-Err
 returns-in-Err g c =

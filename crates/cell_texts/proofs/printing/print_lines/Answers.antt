@@ -3,7 +3,7 @@ use Rattle.std.proofs.Common.{ℕ, List, arith, subst, ◌∙◌}
 use Rattle.std.proofs.lemmas.List.{drop_all, map-id}
 use Rattle.outside_io.specs.Puts.{SinkTold, TookAll, TookSome, sink_told}
 use Rattle.cell_texts.proofs.Delivered.{Underway, breaks_off, ends, goes_on, rest_at}
-use Rattle.make_command.proofs.printing.print_lines.Goals as goal
+use Rattle.cell_texts.proofs.printing.print_lines.Goals as goal
 
 abbrev line_itself : List ℕ → List ℕ
 line_itself line = line

@@ -2,7 +2,7 @@
 use Rattle.std.proofs.Common.{◌≡◌, ℕ, List, drop}
 use Rattle.outside_io.specs.Puts.{sink_told}
 use Rattle.cell_texts.proofs.Delivered.{Underway}
-use Rattle.make_command.proofs.printing.print_lines.Given as goal
+use Rattle.cell_texts.proofs.printing.print_lines.Given as goal
 
 abbrev pub invariant-loop-line : goal.invariant-loop-line
 invariant-loop-line g l = record {
