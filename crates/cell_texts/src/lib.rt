@@ -22,7 +22,9 @@ mod refusals;
 pub use findings::Finding;
 pub use lines::{job_line, verdict_line};
 pub use opening::{Unopened, open_journal};
-pub use printing::{print_block, print_history, print_left, print_line, print_text};
+pub use printing::{
+    print_block, print_history, print_left, print_line, print_lines, print_text, print_usage,
+};
 pub use readers::{
     AfterGrants, CellFile, CommandEnd, Found, Made, find_grants, read_cell, read_journal,
     read_record, read_shift,

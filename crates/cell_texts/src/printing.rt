@@ -6,10 +6,13 @@ ghost use Rattle.outside_io.specs.Puts.{TookAll, TookSome, sink_told};
 ghost use Rattle.cell_base.specs.Plans.{plan_of};
 ghost use Rattle.refusal_reason.specs.Shown.{IsLine};
 ghost use Rattle.record_text.specs.Fitting.{EntryFits};
+ghost use Rattle.cell_walks.specs.Clauses.{IsDelivered, printed};
+ghost use Rattle.cell_walks.specs.declared.status.Status.TheVariants.{NoCommand};
 ghost use Rattle.cell_texts.specs.Blocks.{Lines, block_of, entry_line, left_of, step_line, history_lines, plan_lines};
 
 use admission_core::Core;
 use cell_base::{Cell, Entry};
+use cell_walks::Status;
 use drain_planner::Drainer;
 use outside_io::{Failed, Sink};
 use record_text::{Line, head_line, left_line, plan_line, write_entry, write_step};
@@ -22,6 +25,20 @@ pub fn print_line<K: Sink>(out: &mut K, line: &Line) -> Result<(), Failed>
     ensures cause { HasCause (K.faults out.old) (K.faults out.new) result }
 {
     out.put(line.bytes())
+}
+
+/// Puts each of these lines, up to the first that the sink doesn't take.
+pub fn print_lines<K: Sink>(out: &mut K, lines: &[Line]) -> Result<(), Failed>
+    ensures whole { OnOk result (TookAll (sink_told K.taken K.was_put K.faults out.old out.new) lines.now) }
+    ensures part { OnErr result (TookSome (sink_told K.taken K.was_put K.faults out.old out.new) lines.now) }
+    ensures cause { HasCause (K.faults out.old) (K.faults out.new) result }
+{
+    for line in lines {
+        if let Err(failed) = print_line(out, line) {
+            return Err(failed);
+        }
+    }
+    Ok(())
 }
 
 /// Puts each line of a text, up to the first that the sink doesn't take.
@@ -150,4 +167,14 @@ fn print_steps<K: Sink>(out: &mut K, drainer: &mut Drainer) -> Result<(), Failed
         }
     }
     Ok(())
+}
+
+/// Puts the commands with their words, which are one line, and answers the status of words that are no command.
+pub fn print_usage<K: Sink>(out: &mut K, usage: &[u8]) -> Status
+    ensures { IsDelivered (sink_told K.taken K.was_put K.faults out.old out.new) (printed NoCommand (usage.now ∷ [])) result }
+{
+    match out.put(usage) {
+        Ok(()) => Status::NoCommand,
+        Err(_) => Status::SinkFault,
+    }
 }

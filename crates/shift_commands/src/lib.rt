@@ -9,5 +9,6 @@ mod running;
 mod sessions;
 mod solo;
 
+pub use counts::steps_of;
 pub use running::run_on_journal;
-pub use solo::run_solo;
+pub use solo::{SoloRun, run_rounds, run_solo};

@@ -65,8 +65,8 @@ fn solo_of_files<F: Files>(
     }
 }
 
-// Runs a shift on the empty cell.
-fn run_rounds(alloc: Global, cell: Cell, shift: &Shift) -> Result<SoloRun, NoMemory>
+/// Runs a shift on the empty cell, its sessions in rounds. All memory is taken before the first one asks.
+pub fn run_rounds(alloc: Global, cell: Cell, shift: &Shift) -> Result<SoloRun, NoMemory>
     requires cell { CellFits cell }
     requires shift { ShiftFits cell shift.now }
     ensures run { IfOk result (IsSoloRun cell shift.now) }

@@ -1,0 +1,4 @@
+-- Lemmas, grouped by subject.
+pub mod Making
+pub mod Rows
+pub mod Sizes

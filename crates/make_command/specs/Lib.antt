@@ -1,0 +1,4 @@
+pub mod Clauses
+pub mod Make
+pub mod Numbers
+pub mod Summaries
