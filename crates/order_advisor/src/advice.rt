@@ -66,8 +66,8 @@ pub fn arrange(alloc: Global, cell: &Cell) -> Result<Advice, AdviceFault>
     best_within(alloc, cell, ARRANGED)
 }
 
-/// The same for a limit.
-fn best_within(alloc: Global, cell: &Cell, limit: u16) -> Result<Advice, AdviceFault>
+/// The same for a limit, which is at most `ARRANGED`.
+pub fn best_within(alloc: Global, cell: &Cell, limit: u16) -> Result<Advice, AdviceFault>
     requires fits { CellFits cell.now }
     requires limit { limit ≤ ARRANGED }
     ensures few { OnOk result (length cell.now.resources ≤ limit) }

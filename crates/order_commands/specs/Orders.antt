@@ -1,0 +1,67 @@
+-- `advise CELL` and `arrange CELL`: the orders of a cell's resources with the fewest memberships in neighborhoods.
+use Rattle.std.specs.Prelude.{◌≡◌, ℕ, List, length, nat_lt, if◌then◌else◌, Option, Some, None, Result, Ok, Err, ⊤}
+use Rattle.cell_base.specs.declared.cells.Cell.{Cell}
+use Rattle.order_advisor.specs.Advices.{IsBest}
+use Rattle.order_advisor.specs.declared.advice.Advice.{Advice}
+use Rattle.order_advisor.specs.declared.advice.AdviceFault.{AdviceFault}
+use Rattle.order_advisor.specs.declared.advice.AdviceFault.TheVariants.{TooManyResources, Memory}
+use Rattle.order_advisor.specs.declared.advice.TheConstants.{ADVISED, ARRANGED}
+use Rattle.cell_walks.specs.Observed.{Known}
+use Rattle.cell_walks.specs.Outcomes.{Outcome, done, early}
+use Rattle.cell_walks.specs.Walks.{Test, Walk, Tests, Answers}
+use Rattle.cell_walks.specs.declared.early_end.EarlyEnd.{EarlyEnd}
+use Rattle.cell_walks.specs.declared.early_end.Subject.TheVariants.{Cell as OfCell}
+use Rattle.cell_texts.specs.OneWay.{reads_by, once}
+use Rattle.cell_texts.specs.Tests.{KnownCell, cell_file}
+use Rattle.order_commands.specs.Lines.{advice_lines, too_many_line}
+use Rattle.order_commands.specs.declared.orders.Advised.{Advised}
+
+-- whether a cell has no more resources than the limit; else how many it has
+abbrev pub few_enough : ℕ → Cell → List ℕ → Result ⊤ ℕ
+few_enough limit cell bytes = if nat_lt limit (length cell.resources) then Err (length cell.resources) else Ok tt
+
+-- a cell with no more resources than the limit, status 4
+abbrev pub few_resources : ℕ → Cell → Test
+few_resources limit cell = record {
+  Value = ⊤;
+  Fault = ℕ;
+  source = Known;
+  subject = OfCell;
+  reads = reads_by (few_enough limit cell);
+  one_way = once (few_enough limit cell);
+  line = λ count. Some (too_many_line count);
+}
+
+-- The best orders of the cell are printed: they weigh least, and of those that do so they come first.
+pub record IsAdvised (cell : Cell) (outcome : Outcome) : Type 0 where
+  pub advice : Advice
+  pub best : IsBest cell advice
+  pub is : outcome ≡ done (advice_lines cell advice)
+
+-- what is answered for a cell
+abbrev pub advised : KnownCell → Walk
+advised held = Answers λ input outcome. IsAdvised held.cell outcome
+
+-- the same for a file of a cell with no more resources than the limit
+abbrev pub orders_within : ℕ → List ℕ → Walk
+orders_within limit cell =
+    Tests (cell_file cell) λ held.
+    Tests (few_resources limit held.cell) λ few. advised held
+
+-- `advise CELL`
+abbrev pub advise : List ℕ → Walk
+advise = orders_within ADVISED
+
+-- `arrange CELL`
+abbrev pub arrange : List ℕ → Walk
+arrange = orders_within ARRANGED
+
+-- the line where there is no advice; want of memory has none
+abbrev pub fault_line : AdviceFault → Option (List ℕ)
+fault_line (TooManyResources count) = Some (too_many_line count)
+fault_line Memory = None
+
+-- the advice, or the early end
+abbrev pub advised_outcome : Result Advised EarlyEnd → Outcome
+advised_outcome (Ok advised) = done (advice_lines advised.cell advised.advice)
+advised_outcome (Err end) = early end
