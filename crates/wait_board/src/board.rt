@@ -170,6 +170,13 @@ impl Board {
         &self.core
     }
 
+    /// The core, behind the history; nobody waits any longer.
+    pub fn into_core(self) -> Core
+        ensures { result ≡ record { cell = self.cell; parts = self.on.parts } }
+    {
+        self.core
+    }
+
     /// How many entries more the history takes.
     pub fn spare(&self) -> u64
         ensures { result ≡ self.now.spare }

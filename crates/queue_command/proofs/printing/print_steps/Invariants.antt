@@ -1,0 +1,19 @@
+-- The lines of the steps so far were taken, and no call has failed.
+use Rattle.std.proofs.Common.{◌≡◌}
+use Rattle.outside_io.specs.Puts.{sink_told}
+use Rattle.cell_base.specs.Plans.{plan_of, work}
+use Rattle.cell_texts.specs.Blocks.{step_line}
+use Rattle.cell_texts.proofs.Delivered.{Underway}
+use Rattle.queue_command.proofs.printing.print_steps.Given as goal
+
+abbrev pub invariant-loop-step : goal.invariant-loop-step
+invariant-loop-step g l = record {
+  same : l.drainer.cell ≡ l.initial.drainer.cell;
+  printed : Underway (sink_told g.K.Sink.taken g.K.Sink.was_put g.K.Sink.faults l.initial.out l.out)
+      (step_line l.initial.drainer.cell)
+      (plan_of l.initial.drainer.cell l.initial.drainer.parts) (plan_of l.drainer.cell l.drainer.parts);
+  still : g.K.Sink.faults l.out ≡ g.K.Sink.faults l.initial.out;
+}
+
+abbrev pub decreases-loop-step : goal.decreases-loop-step
+decreases-loop-step g l = work l.drainer.cell l.drainer.parts
