@@ -1,0 +1,110 @@
+-- How the outcomes of `begin` come about.
+use Rattle.std.specs.Prelude.{IfSome}
+use Rattle.std.proofs.Common.{◌≡◌, ℕ, List, [], Option, Some, None, Result, Ok, Err, refl, ap, subst}
+use Rattle.outside_io.specs.Files.{Names}
+use Rattle.cell_base.specs.declared.requests.Request.{Request}
+use Rattle.cell_base.specs.declared.shifts.Grant.{Grant}
+use Rattle.durable_cell.specs.DurableState.{DurableState}
+use Rattle.durable_cell.specs.Openings.{fresh}
+use Rattle.durable_cell.specs.Replayed.{AreDue, opened_as}
+use Rattle.durable_cell.specs.declared.replays.TheConstants.{MAX_ROOM}
+use Rattle.start_file.specs.StartFiles.{start_reads}
+use Rattle.cell_walks.specs.Allowed.{AllowsFrom, ByMemory, ByRefusal, IsAllowed, IsEndedAt, JournalOpened, NotOpened, Opened, Passed, Stopped, Unasked}
+use Rattle.cell_walks.specs.DiskTold.{DiskTold, IsUntouched, disk_told}
+use Rattle.cell_walks.specs.Observed.{File, FilesTold, Observed, Shows, files_told, observed}
+use Rattle.cell_walks.specs.Outcomes.{early}
+use Rattle.cell_walks.specs.Walks.{Opens, Tests, Walk}
+use Rattle.cell_walks.specs.declared.early_end.EarlyEnd.{EarlyEnd}
+use Rattle.cell_walks.proofs.Steps.{ended_after, ended_at, shown_before}
+use Rattle.cell_texts.specs.Recorded.{recorded_or_early}
+use Rattle.cell_texts.specs.Tests.{KnownCell, cell_file, cell_reads, to_add}
+use Rattle.cell_texts.specs.declared.recorded.Recorded.{Recorded}
+use Rattle.carry_commands.specs.Begin.{begin, goes_on}
+use Rattle.carry_commands.specs.Beginning.{EndsAtStart, HasBegun, IsBegunOnJournal, IsGrantedStart, StartRefused, StartStarved}
+use Rattle.carry_commands.specs.Refusals.{other_start, start_refused}
+use Rattle.carry_commands.specs.Starts.{begun, grants_start, start_file}
+
+-- what was begun in a durable cell that was opened
+pub begun_opened : {D : Type 0} (reads_as : D → Option (List ℕ)) (may_leave : D → List ℕ → Type 0) (moment : D → ℕ)
+    (left_since : D → ℕ → List ℕ → Type 0) (faults : D → ℕ) (held : KnownCell) (requests : List Request) (disk new : D)
+    (durable : DurableState D) (limit : ℕ) (made : Result Recorded EarlyEnd)
+    → durable ≡ fresh held.cell held.text disk durable.found durable.disk durable.opening limit
+    → IfSome (reads_as disk) (λ file. opened_as held.cell file held.text MAX_ROOM ≡ Ok durable.opening)
+    → AreDue durable.cell durable.opening
+    → HasBegun (disk_told reads_as may_leave moment left_since faults durable.entry new) durable.cell durable.text requests durable.opening
+    made
+    → IsBegunOnJournal (disk_told reads_as may_leave moment left_since faults disk new) held requests made
+begun_opened {D} reads_as may_leave moment left_since faults held requests disk new durable limit made is exact due begun =
+    JournalOpened durable.opening (subst (λ (d : DurableState D). AreDue d.cell durable.opening) is due, exact)
+    (subst (λ (d : DurableState D). HasBegun (disk_told reads_as may_leave moment left_since faults d.entry new) d.cell d.text requests
+    durable.opening made) is begun)
+
+-- ---- the walk
+
+module _ (seen : Observed) (held : KnownCell) (requests : List Request) where
+  from_grants : (opening : List Grant) (made : Result Recorded EarlyEnd) → HasBegun seen.disk held.cell held.text requests opening made
+      → AllowsFrom seen (recorded_or_early made) (Opened held.text opening) (goes_on held requests opening)
+  from_grants opening (Ok recorded) has = Passed tt has.0 (has.1, has.2)
+  from_grants opening (Err end) (other, stands) =
+      Stopped end (ByRefusal other.0 other.1 (other_start other.0) refl other.2) (refl, stands)
+
+  from_journal : (made : Result Recorded EarlyEnd) → IsBegunOnJournal seen.disk held requests made
+      → AllowsFrom seen (recorded_or_early made) Unasked (Opens (to_add held MAX_ROOM) (goes_on held requests))
+  from_journal made (NotOpened end ended is) = NotOpened end ended (ap recorded_or_early is)
+  from_journal made (JournalOpened opening opened has) = JournalOpened opening opened (from_grants opening made has)
+
+  at_start : (end : EarlyEnd) → EndsAtStart held.cell requests end → IsEndedAt seen.files (grants_start held.cell requests) end
+  at_start end (StartRefused fault is ends) = ByRefusal fault is (start_refused held.cell fault) refl ends
+  at_start end (StartStarved is) = ByMemory is
+
+-- what comes after the start file, and after the cell
+abbrev tried : KnownCell → List Request → Walk
+tried held requests = Tests (grants_start held.cell requests) λ granted. Opens (to_add held MAX_ROOM) (goes_on held requests)
+
+abbrev read : List ℕ → KnownCell → Walk
+read start held = Tests (start_file held.cell start) (tried held)
+
+module _ {F : Type 0} (holds : F → Option Names) (is_sound : F → Type 0) (faults : F → ℕ) (disk : DiskTold) (cell start : List ℕ) where
+  -- the cell was not read
+  pub begin_unread : (old new : F) (end : EarlyEnd) → IsUntouched disk
+      → IsEndedAt (files_told holds is_sound faults old new) (cell_file cell) end
+      → IsAllowed (observed (files_told holds is_sound faults old new) disk) (begin cell start) (early end)
+  begin_unread old new end still ended =
+      ended_at (observed (files_told holds is_sound faults old new) disk) Unasked (cell_file cell) (read start) end ended still
+
+  module _ (old mid new : F) (held : KnownCell)
+      (shows : Shows (files_told holds is_sound faults old mid) (File cell) (λ bytes. cell_reads bytes (Ok held)))
+      (same : holds mid ≡ holds old) where
+    abbrev seen : Observed
+    seen = observed (files_told holds is_sound faults old new) disk
+
+    -- the start was not
+    pub begin_without_start : (end : EarlyEnd) → IsUntouched disk → faults mid ≡ faults old → (is_sound old → is_sound mid)
+        → IsEndedAt (files_told holds is_sound faults mid new) (start_file held.cell start) end
+        → IsAllowed seen (begin cell start) (early end)
+    begin_without_start end still kept stays ended =
+        Passed held shows
+        (ended_at seen Unasked (start_file held.cell start) (tried held) end
+        (ended_after holds is_sound faults old mid new same kept stays (start_file held.cell start) end ended) still)
+
+    module _ (requests : List Request)
+        (start_shows : Shows (files_told holds is_sound faults mid new) (File start) (λ bytes. start_reads held.cell bytes (Ok requests)))
+      where
+        of_start : Shows (files_told holds is_sound faults old new) (File start) (λ bytes. start_reads held.cell bytes (Ok requests))
+        of_start =
+            shown_before holds is_sound faults old mid new same (File start) (λ bytes. start_reads held.cell bytes (Ok requests)) start_shows
+
+        -- a request of it is not granted
+        pub begin_refused : (end : EarlyEnd) → IsUntouched disk → EndsAtStart held.cell requests end
+            → IsAllowed seen (begin cell start) (early end)
+        begin_refused end still ended =
+            Passed held shows
+            (Passed requests of_start
+            (ended_at seen Unasked (grants_start held.cell requests) (λ granted. Opens (to_add held MAX_ROOM) (goes_on held requests)) end
+            (at_start seen held requests end ended) still))
+
+        -- each is; and the journal was begun, or the command ended there
+        pub begin_on_disk : (made : Result Recorded EarlyEnd) → IsGrantedStart held.cell requests → IsBegunOnJournal disk held requests made
+            → IsAllowed seen (begin cell start) (recorded_or_early made)
+        begin_on_disk made granted has =
+            Passed held shows (Passed requests of_start (Passed tt granted (from_journal seen held requests made has)))

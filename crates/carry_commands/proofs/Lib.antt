@@ -1,0 +1,7 @@
+-- Lemmas, grouped by subject.
+pub mod Asked
+pub mod Askings
+pub mod Began
+pub mod Firsts
+pub mod Granting
+pub mod StartCuts

@@ -1,0 +1,50 @@
+-- `carry CELL1 JOURNAL CELL2`: the start file of the parts after the grants of the journal, carried to the second cell.
+use Rattle.std.specs.Prelude.{◌≡◌, ℕ, List, Ok, Some, map}
+use Rattle.std.specs.List.{concat}
+use Rattle.cell_base.specs.declared.cells.Cell.{Cell}
+use Rattle.cell_base.specs.declared.requests.Part.{Part}
+use Rattle.cell_base.specs.declared.requests.Request.{Request}
+use Rattle.cell_base.specs.declared.shifts.Grant.{Grant}
+use Rattle.cell_base.specs.Histories.{replay}
+use Rattle.start_file.specs.StartFiles.{place_line, start_reads}
+use Rattle.cell_walks.specs.Observed.{Known}
+use Rattle.cell_walks.specs.Outcomes.{Outcome, done}
+use Rattle.cell_walks.specs.Walks.{Test, Walk, Tests, Opens, Answers}
+use Rattle.cell_walks.specs.declared.early_end.Subject.TheVariants.{Command}
+use Rattle.cell_texts.specs.OneWay.{once, reads_by}
+use Rattle.cell_texts.specs.Tests.{KnownCell, cell_file, to_read}
+use Rattle.carry_commands.specs.Carried.{carried}
+use Rattle.carry_commands.specs.Refusals.{carry_refused}
+use Rattle.carry_commands.specs.Starts.{granted_start}
+use Rattle.carry_commands.specs.declared.refusals.CarryFault.{CarryFault}
+
+-- each part can be carried to the other cell, status 10
+abbrev pub carries : Cell → Cell → List Part → Test
+carries old new parts = record {
+  Value = List Request;
+  Fault = CarryFault;
+  source = Known;
+  subject = Command;
+  reads = reads_by (λ bytes. carried old new parts);
+  one_way = once (λ bytes. carried old new parts);
+  line = λ fault. Some (carry_refused new fault);
+}
+
+-- The line of each request is printed. The text is a start file of the second cell, and each of its requests is granted in its turn: no test
+-- of `begin` refuses it.
+pub record IsCarried (new : Cell) (requests : List Request) (outcome : Outcome) : Type 0 where
+  pub is : outcome ≡ done (map (place_line new) requests)
+  pub start : start_reads new (concat outcome.pieces) (Ok requests)
+  pub granted : granted_start new requests ≡ Ok tt
+
+-- what is answered after the grants of a journal
+abbrev pub carried_over : KnownCell → KnownCell → List Grant → Walk
+carried_over held new grants =
+    Tests (carries held.cell new.cell (replay held.cell grants)) λ requests.
+    Answers λ input outcome. IsCarried new.cell requests outcome
+
+abbrev pub carry : List ℕ → List ℕ → Walk
+carry cell other =
+    Tests (cell_file cell) λ held.
+    Tests (cell_file other) λ new.
+    Opens (to_read held) (carried_over held new)

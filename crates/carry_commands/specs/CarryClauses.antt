@@ -1,0 +1,2 @@
+-- What the clauses of `carry` name.
+pub use Rattle.carry_commands.specs.Carry.{carry}

@@ -1,0 +1,93 @@
+//! The requests of a start, asked of a durable cell.
+ghost use Rattle.std.specs.Prelude.{◌≡◌, ◌≤◌, [], None, Err, length, true, IfOk};
+ghost use Rattle.std.specs.List.{All};
+ghost use Rattle.cell_walks.specs.Clauses.{disk_told};
+ghost use Rattle.cell_texts.specs.Clauses.{EntriesFit, IsFresh, recorded_outcome};
+ghost use Rattle.carry_commands.specs.BeginClauses.{AreAsked, AreDue, HasBegun, IsAskedIn, IsGrantedStart, IsPlacing, KeepsHistory, MAX_START_LINES, StandsForAdded, all_granted, first_parts};
+
+use crate::refusals::at_other_start;
+use crate::starts::first_other;
+use cell_base::Request;
+use cell_texts::{Closed, Made, Recorded, record_of};
+use cell_walks::EarlyEnd;
+use durable_cell::{Durable, Finished};
+use outside_io::Disk;
+
+/// Asks the requests that the journal does not hold yet; or gives the disk back with the early end, where the journal holds other grants.
+pub fn begin_opened<D: Disk>(durable: Durable<D>, requests: &[Request]) -> Made<Recorded, D>
+    requires fresh { IsFresh durable }
+    requires limit { durable.limit ≡ MAX_START_LINES }
+    requires placing { All (IsPlacing durable.cell) requests.now }
+    requires few { length requests.now ≤ MAX_START_LINES }
+    requires granted { IsGrantedStart durable.cell requests.now }
+    ensures begun { HasBegun (disk_told D.reads_as D.may_leave D.moment D.left_since D.faults durable.entry result.disk)
+        durable.cell durable.text requests.now durable.opening result.made }
+    ensures due { AreDue durable.cell durable.opening }
+    ensures fits { IfOk result.made EntriesFit }
+{
+    let _kept = durable.core();
+    match first_other(requests, durable.opening()) {
+        None => {
+            let held = durable.opening().len();
+            let Closed { recorded, disk } = ask_all(durable, &requests[held..]);
+            Made {
+                made: Ok(recorded),
+                disk,
+            }
+        }
+        Some(at) => give_back(durable, at_other_start(at)),
+    }
+}
+
+// Hands the disk back, before anything is asked.
+fn give_back<D: Disk>(durable: Durable<D>, end: EarlyEnd) -> Made<Recorded, D>
+    requires fresh { IsFresh durable }
+    ensures made { result.made ≡ Err end }
+    ensures stands { StandsForAdded (disk_told D.reads_as D.may_leave D.moment D.left_since D.faults durable.entry result.disk)
+        durable.text durable.opening [] None }
+{
+    let Finished {
+        disk,
+        core: _,
+        history: _,
+        after: _,
+    } = durable.finish();
+    Made {
+        made: Err(end),
+        disk,
+    }
+}
+
+// Asks these requests, and takes the durable cell apart.
+fn ask_all<D: Disk>(mut durable: Durable<D>, requests: &[Request]) -> Closed<D>
+    requires fresh { IsFresh durable }
+    requires limit { length requests.now ≤ durable.limit }
+    requires placing { All (IsPlacing durable.cell) requests.now }
+    requires granted { all_granted durable.cell (first_parts durable) requests.now ≡ true }
+    ensures begun { AreAsked durable.cell durable.opening requests.now (recorded_outcome result.recorded) }
+    ensures stands { let outcome = recorded_outcome result.recorded in
+        StandsForAdded (disk_told D.reads_as D.may_leave D.moment D.left_since D.faults durable.entry result.disk)
+        durable.text durable.opening outcome.added outcome.unsure }
+    ensures fits { EntriesFit result.recorded }
+{
+    ask_each(&mut durable, requests);
+    record_of(durable, 0)
+}
+
+// Asks each request as session 0 of shift 0, up to the first whose writing fails.
+fn ask_each<D: Disk>(durable: &mut Durable<D>, requests: &[Request])
+    requires fresh { IsFresh durable.old }
+    requires limit { length requests.now ≤ durable.old.limit }
+    requires placing { All (IsPlacing durable.old.cell) requests.now }
+    requires granted { all_granted durable.old.cell (first_parts durable.old) requests.now ≡ true }
+    ensures asked { IsAskedIn requests.now durable.old durable.new }
+    ensures kept { KeepsHistory durable.old }
+{
+    let _kept = durable.core();
+    for request in requests {
+        match durable.ask(0, 0, request) {
+            Ok(_) => {}
+            Err(_) => return,
+        }
+    }
+}

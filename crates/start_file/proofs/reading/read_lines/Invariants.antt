@@ -1,0 +1,15 @@
+-- What has been read of the bytes so far.
+use Rattle.std.proofs.Common.{◌≡◌, ◌≤◌, [], length}
+use Rattle.record_text.specs.BadLines.{pieces}
+use Rattle.start_file.specs.Reading.{read_from}
+use Rattle.start_file.specs.declared.reading.TheConstants.{MAX_START_LINES}
+use Rattle.start_file.proofs.reading.read_lines.Given as goal
+
+abbrev pub invariant-loop-more : goal.invariant-loop-more
+invariant-loop-more l = record {
+  few : length l.found ≤ MAX_START_LINES;
+  read : read_from l.cell l.found (pieces l.rest) ≡ read_from l.cell [] (pieces l.bytes);
+}
+
+abbrev pub decreases-loop-more : goal.decreases-loop-more
+decreases-loop-more l = length l.rest

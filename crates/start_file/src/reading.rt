@@ -1,0 +1,88 @@
+//! A start file, read line by line.
+ghost use Rattle.std.specs.Prelude.{◌≡◌, ◌<◌, ◌≤◌, ◌⊎◌, ◌∷◌, [], length, position, IfSome, IfOk, IfErr, List as Items};
+ghost use Rattle.std.specs.Option.{option_map_or, option_copied};
+ghost use Rattle.cell_base.specs.Fits.{CellFits};
+ghost use Rattle.cell_base.specs.declared.requests.Request.{Request};
+ghost use Rattle.record_text.specs.BadLines.{is_newline, pieces};
+ghost use Rattle.start_file.specs.Reading.{Gives, next_of, read_from};
+ghost use Rattle.start_file.specs.declared.reading.TheConstants.{MAX_START_LINES};
+ghost use Rattle.start_file.specs.StartFiles.{IsStartOf, RefusedAt};
+
+use crate::place::read_place;
+use cell_base::{Cell, List, Request};
+use record_text::RecordFault;
+use std::alloc::Global;
+
+/// The most bytes of a start file.
+pub const MAX_START_BYTES: u64 = 262_144;
+
+/// The most lines of a start file: as many as a cell may have units.
+pub const MAX_START_LINES: u64 = 4_096;
+
+/// The requests whose lines the bytes are. The bytes are read once, and no copy of them is made.
+pub fn read_start(alloc: Global, cell: &Cell, bytes: &[u8]) -> Result<List<Request>, RecordFault>
+    requires { CellFits cell.now }
+    ensures found { IfOk result (IsStartOf cell.now bytes.now) }
+    ensures complete { (requests : Items Request) → IsStartOf cell.now bytes.now requests
+        → (result ≡ Ok requests) ⊎ (result ≡ Err RecordFault.Memory) }
+    ensures refused { IfErr result (RefusedAt cell.now bytes.now) }
+{
+    if bytes.len() as u64 > MAX_START_BYTES {
+        return Err(RecordFault::Bad { line: 0 });
+    }
+    read_lines(alloc, cell, bytes)
+}
+
+// The requests of all lines.
+fn read_lines(alloc: Global, cell: &Cell, bytes: &[u8]) -> Result<List<Request>, RecordFault>
+    requires cell { CellFits cell.now }
+    ensures { Gives result (read_from cell.now [] (pieces bytes.now)) }
+{
+    let mut found: List<Request> = List::new(alloc);
+    let mut rest = bytes;
+    loop {
+        let number = found.len() as u32 + 1;
+        let (line, more) = cut_line(rest);
+        let more = match more {
+            Some(more) => more,
+            None if line.is_empty() => return Ok(found),
+            None => return Err(RecordFault::Bad { line: number }),
+        };
+        match next_of(cell, &found, line) {
+            Some(request) => found.try_push(request)?,
+            None => return Err(RecordFault::Bad { line: number }),
+        }
+        rest = more;
+    }
+}
+
+// The request of a line behind those that were found.
+fn next_of(cell: &Cell, found: &List<Request>, line: &[u8]) -> Option<Request>
+    requires { CellFits cell.now }
+    ensures request { result ≡ next_of cell.now found.now line.now }
+    ensures room { IfSome result (λ request. length found.now < MAX_START_LINES) }
+{
+    if found.len() >= MAX_START_LINES {
+        return None;
+    }
+    read_place(cell, line)
+}
+
+// The first line, and what stands behind its newline.
+#[tactic(auto, using(record_text::proofs::Pieces::cut_at, record_text::proofs::Pieces::cut_nowhere))]
+fn cut_line(bytes: &[u8]) -> (&[u8], Option<&[u8]>)
+    ensures pieces { pieces bytes.now ≡ result.0.now ∷ option_map_or pieces (option_copied result.1) [] }
+    ensures shorter { IfSome result.1 (λ rest. length rest.now < length bytes.now) }
+{
+    match first_newline(bytes) {
+        Some(at) => (&bytes[..at], Some(&bytes[at + 1..])),
+        None => (bytes, None),
+    }
+}
+
+// Where the first newline stands.
+fn first_newline(bytes: &[u8]) -> Option<usize>
+    ensures { result ≡ position is_newline bytes.now }
+{
+    bytes.iter().position(|byte| *byte == b'\n')
+}
