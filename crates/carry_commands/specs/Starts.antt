@@ -1,5 +1,5 @@
 -- Whether the requests of a start are granted in turn, and whether the grants of a journal are first ones of them.
-use Rattle.std.proofs.Common.{inl, inr, ◌<◌, ◌≡◌, ℕ, ◌+◌, List, [], ◌∷◌, ◌++◌, length, map, take, Option, Some, Result, Ok, Err, refl, sym, ap, ◌∙◌, subst, arith, append_assoc, length-append, take-take}
+use Rattle.std.proofs.Common.{inl, inr, ◌<◌, ◌≡◌, ℕ, ◌+◌, List, [], ◌∷◌, ◌++◌, length, map, take, Some, Result, Ok, Err, refl, sym, ap, ◌∙◌, subst, arith, append_assoc, length-append, take-take}
 use Rattle.std.specs.Prelude.{⊤}
 use Rattle.std.proofs.lemmas.Bool.{cases_lt}
 use Rattle.std.proofs.lemmas.List.{take_at}
