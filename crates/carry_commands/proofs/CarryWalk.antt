@@ -9,7 +9,7 @@ use Rattle.cell_base.specs.declared.requests.Request.{Request}
 use Rattle.cell_base.specs.declared.shifts.Grant.{Grant}
 use Rattle.cell_base.specs.Fits.{CellFits}
 use Rattle.cell_base.specs.Histories.{replay}
-use Rattle.start_file.specs.StartFiles.{place_line, start_reads, start_text}
+use Rattle.start_file.specs.StartFiles.{IsStartOf, place_line, start_text}
 use Rattle.start_file.proofs.Lengths.{is_start}
 use Rattle.cell_walks.specs.Allowed.{AllowsFrom, ByMemory, ByRefusal, IsAllowed, IsEndedAt, JournalOpened, NotOpened, Passed, Stopped, Unasked}
 use Rattle.cell_walks.specs.DiskTold.{DiskTold, IsOnlyRead, IsUntouched}
@@ -57,13 +57,16 @@ is_carried old new fits made has =
     ap (λ (cell : Cell). done (map (place_line cell) made.requests)) has.cell in
     record {
       is = lines;
-      start = (
-        fits,
-        subst (λ (text : List ℕ). Rattle.start_file.specs.StartFiles.IsStartOf new text made.requests)
-            (sym (ap (λ (outcome : Outcome). concat outcome.pieces) lines ∙ lines_text new made.requests))
-            (is_start new fits made.requests has.carried.placing has.carried.few),
-      );
-      granted = granted_carried old.cell new [] 1 old.parts made.requests has.carried.is;
+      taken = record {
+        read = (
+          fits,
+          subst (λ (text : List ℕ). IsStartOf new text made.requests)
+              (sym (ap (λ (outcome : Outcome). concat outcome.pieces) lines ∙ lines_text new made.requests))
+              (is_start new fits made.requests has.carried.placing has.carried.few),
+        );
+        granted = granted_carried old.cell new [] 1 old.parts made.requests has.carried.is;
+        first = refl;
+      };
     }
 
 -- ---- the walk
