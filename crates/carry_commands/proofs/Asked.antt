@@ -1,7 +1,7 @@
 -- A start that was asked to its end or to a halt: its record is that of the requests.
 use Rattle.std.specs.Prelude.{Some}
 use Rattle.std.specs.Option.{option_map}
-use Rattle.std.proofs.Common.{◌≡◌, inl, inr, List, map, All, Option, sym, ap, ◌∙◌, subst}
+use Rattle.std.proofs.Common.{inl, inr, List, map, All, Option, sym, ap, ◌∙◌, subst}
 use Rattle.std.proofs.lemmas.Bool.{true≢false}
 use Rattle.cell_base.specs.declared.requests.Request.{Request}
 use Rattle.cell_base.specs.declared.shifts.Entry.{Entry}

@@ -1,5 +1,5 @@
 -- The requests of a start, asked in turn in a durable cell: so far each was granted.
-use Rattle.std.proofs.Common.{◌≡◌, ℕ, ◌<◌, ◌≤◌, true, List, [], ◌∷◌, ◌++◌, length, map, Some, None, Ok, Err, refl, sym, ap, ◌∙◌, subst, arith, append-nil}
+use Rattle.std.proofs.Common.{◌≡◌, ◌≤◌, true, List, [], ◌∷◌, ◌++◌, length, map, Some, None, Ok, Err, refl, sym, ap, ◌∙◌, subst, arith, append-nil}
 use Rattle.std.proofs.lemmas.List.{length-append, length-map, map-append}
 use Rattle.cell_base.specs.declared.cells.Cell.{Cell}
 use Rattle.cell_base.specs.declared.requests.Part.{Part}
@@ -7,7 +7,6 @@ use Rattle.cell_base.specs.declared.requests.Reply.{Reply}
 use Rattle.cell_base.specs.declared.requests.Reply.TheVariants.{Granted}
 use Rattle.cell_base.specs.declared.requests.Request.{Request}
 use Rattle.cell_base.specs.declared.requests.Told.TheVariants.{Answered, Halted}
-use Rattle.cell_base.specs.declared.shifts.Entry.{Entry}
 use Rattle.cell_base.specs.Histories.{after, after_requests, all_granted}
 use Rattle.cell_base.specs.Outcomes.{reply_to, state_after}
 use Rattle.durable_cell.specs.Asked.{Answers, entry, halted_at, with_entry}
@@ -20,7 +19,7 @@ use Rattle.cell_texts.proofs.HaltedHistories.{none_halted}
 use Rattle.cell_commands.specs.Drain.{drained, drained_to, step_entry}
 use Rattle.cell_commands.specs.Draining.{after_steps, step_grant}
 use Rattle.cell_commands.proofs.PlanSteps.{drained_unhalted}
-use Rattle.carry_commands.specs.Beginning.{HaltsIn, IsAskedIn}
+use Rattle.carry_commands.specs.Beginning.{HaltsIn}
 use Rattle.carry_commands.proofs.Granting.{granted_at}
 
 -- the state after requests that were granted

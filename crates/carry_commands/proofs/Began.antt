@@ -1,6 +1,6 @@
 -- How the outcomes of `begin` come about.
 use Rattle.std.specs.Prelude.{IfSome}
-use Rattle.std.proofs.Common.{◌≡◌, ℕ, List, [], Option, Some, None, Result, Ok, Err, refl, ap, subst}
+use Rattle.std.proofs.Common.{◌≡◌, ℕ, List, Option, Result, Ok, Err, refl, ap, subst}
 use Rattle.outside_io.specs.Files.{Names}
 use Rattle.cell_base.specs.declared.requests.Request.{Request}
 use Rattle.cell_base.specs.declared.shifts.Grant.{Grant}
@@ -11,7 +11,7 @@ use Rattle.durable_cell.specs.declared.replays.TheConstants.{MAX_ROOM}
 use Rattle.start_file.specs.StartFiles.{start_reads}
 use Rattle.cell_walks.specs.Allowed.{AllowsFrom, ByMemory, ByRefusal, IsAllowed, IsEndedAt, JournalOpened, NotOpened, Opened, Passed, Stopped, Unasked}
 use Rattle.cell_walks.specs.DiskTold.{DiskTold, IsUntouched, disk_told}
-use Rattle.cell_walks.specs.Observed.{File, FilesTold, Observed, Shows, files_told, observed}
+use Rattle.cell_walks.specs.Observed.{File, Observed, Shows, files_told, observed}
 use Rattle.cell_walks.specs.Outcomes.{early}
 use Rattle.cell_walks.specs.Walks.{Opens, Tests, Walk}
 use Rattle.cell_walks.specs.declared.early_end.EarlyEnd.{EarlyEnd}

@@ -1,6 +1,6 @@
 -- The grants of a journal beside those of a start.
-use Rattle.std.proofs.Common.{◌≡◌, ℕ, ◌+◌, ◌<◌, ◌≤◌, List, [], ◌∷◌, ◌++◌, length, map, take, drop, get_or, refl, sym, ap, ◌∙◌, subst, arith, append_assoc, append-nil, length-append, length-take, true, Ok}
-use Rattle.std.proofs.lemmas.List.{drop-map, drop_all, drop_more, length-map, take-append-drop, take-map, take_all, take_at, take_more}
+use Rattle.std.proofs.Common.{◌≡◌, ℕ, ◌+◌, ◌<◌, ◌≤◌, List, [], ◌∷◌, ◌++◌, length, map, take, drop, get_or, refl, sym, ap, ◌∙◌, subst, arith, append_assoc, length-append, length-take, true, Ok}
+use Rattle.std.proofs.lemmas.List.{drop-map, drop_more, length-map, take-append-drop, take-map, take_at, take_more}
 use Rattle.cell_base.specs.declared.cells.Cell.{Cell}
 use Rattle.cell_base.specs.declared.requests.Part.{Part}
 use Rattle.cell_base.specs.declared.requests.Request.{Request}

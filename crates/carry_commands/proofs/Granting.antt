@@ -1,7 +1,6 @@
 -- The requests of a start, tried in turn.
-use Rattle.std.proofs.Common.{◌≡◌, ℕ, ◌+◌, Bool, true, false, cond, List, [], ◌∷◌, ◌++◌, Option, Some, None, Result, Ok, Err, refl, sym, ap, ◌∙◌, subst}
-use Rattle.std.specs.Prelude.{◌&&◌, ⊤}
-use Rattle.std.specs.List.{All}
+use Rattle.std.proofs.Common.{◌≡◌, ℕ, ◌+◌, Bool, true, false, cond, List, [], ◌∷◌, ◌++◌, Option, Some, None, Ok, Err, refl, sym, ap, subst}
+use Rattle.std.specs.Prelude.{◌&&◌}
 use Rattle.std.specs.Option.{option_map_or}
 use Rattle.std.proofs.lemmas.Bool.{true≢false}
 use Rattle.cell_base.specs.declared.cells.Cell.{Cell}
@@ -15,13 +14,12 @@ use Rattle.cell_base.specs.declared.requests.Request.TheVariants.{Load, Process,
 use Rattle.cell_base.specs.Fits.{RequestFits}
 use Rattle.cell_base.specs.Histories.{after_requests, all_granted, is_granted}
 use Rattle.cell_base.specs.Neighborhoods.{count}
-use Rattle.cell_base.specs.Outcomes.{admit, outcome_of_entry, refuse, reply_to, state_after}
+use Rattle.cell_base.specs.Outcomes.{admit, refuse, reply_to, state_after}
 use Rattle.cell_base.specs.Policy.{first_over, is_loaded}
 use Rattle.cell_base.specs.Stages.{capacity_of}
 use Rattle.start_file.specs.StartFiles.{IsPlacing}
 use Rattle.carry_commands.specs.Refusals.{IsOfPlace}
 use Rattle.carry_commands.specs.Starts.{granted_from, unless_refused}
-use Rattle.carry_commands.specs.declared.refusals.StartFault.{StartFault}
 
 -- such a request fits
 pub placing_fits : (cell : Cell) (request : Request) → IsPlacing cell request → RequestFits cell request

@@ -2,6 +2,8 @@
 pub mod Asked
 pub mod Askings
 pub mod Began
+pub mod CarriedParts
+pub mod CarryWalk
 pub mod Firsts
 pub mod Granting
 pub mod StartCuts

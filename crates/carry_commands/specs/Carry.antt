@@ -1,12 +1,12 @@
 -- `carry CELL1 JOURNAL CELL2`: the start file of the parts after the grants of the journal, carried to the second cell.
-use Rattle.std.specs.Prelude.{◌≡◌, ℕ, List, Ok, Some, map}
+use Rattle.std.specs.Prelude.{◌≡◌, ℕ, List, Some, map}
 use Rattle.std.specs.List.{concat}
 use Rattle.cell_base.specs.declared.cells.Cell.{Cell}
 use Rattle.cell_base.specs.declared.requests.Part.{Part}
 use Rattle.cell_base.specs.declared.requests.Request.{Request}
 use Rattle.cell_base.specs.declared.shifts.Grant.{Grant}
 use Rattle.cell_base.specs.Histories.{replay}
-use Rattle.start_file.specs.StartFiles.{place_line, start_reads}
+use Rattle.start_file.specs.StartFiles.{place_line}
 use Rattle.cell_walks.specs.Observed.{Known}
 use Rattle.cell_walks.specs.Outcomes.{Outcome, done}
 use Rattle.cell_walks.specs.Walks.{Test, Walk, Tests, Opens, Answers}
@@ -15,7 +15,7 @@ use Rattle.cell_texts.specs.OneWay.{once, reads_by}
 use Rattle.cell_texts.specs.Tests.{KnownCell, cell_file, to_read}
 use Rattle.carry_commands.specs.Carried.{carried}
 use Rattle.carry_commands.specs.Refusals.{carry_refused}
-use Rattle.carry_commands.specs.Starts.{granted_start}
+use Rattle.carry_commands.specs.Starts.{IsTaken}
 use Rattle.carry_commands.specs.declared.refusals.CarryFault.{CarryFault}
 
 -- each part can be carried to the other cell, status 10
@@ -30,12 +30,10 @@ carries old new parts = record {
   line = λ fault. Some (carry_refused new fault);
 }
 
--- The line of each request is printed. The text is a start file of the second cell, and each of its requests is granted in its turn: no test
--- of `begin` refuses it.
+-- The line of each request is printed, and the text is a start that `begin` of the second cell takes whole.
 pub record IsCarried (new : Cell) (requests : List Request) (outcome : Outcome) : Type 0 where
   pub is : outcome ≡ done (map (place_line new) requests)
-  pub start : start_reads new (concat outcome.pieces) (Ok requests)
-  pub granted : granted_start new requests ≡ Ok tt
+  pub taken : IsTaken new (concat outcome.pieces) requests
 
 -- what is answered after the grants of a journal
 abbrev pub carried_over : KnownCell → KnownCell → List Grant → Walk

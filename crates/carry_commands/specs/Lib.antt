@@ -4,5 +4,6 @@ pub mod Beginning
 pub mod Carried
 pub mod Carry
 pub mod CarryClauses
+pub mod Carrying
 pub mod Refusals
 pub mod Starts

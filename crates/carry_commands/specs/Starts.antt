@@ -1,5 +1,5 @@
 -- Whether the requests of a start are granted in turn, and whether the grants of a journal are first ones of them.
-use Rattle.std.proofs.Common.{inl, inr, ◌<◌, ◌≡◌, ℕ, ◌+◌, List, [], ◌∷◌, ◌++◌, length, map, take, Option, Some, Result, Ok, Err, refl, sym, ap, ◌∙◌, subst, arith, append_assoc, length-append, take-take}
+use Rattle.std.proofs.Common.{inl, inr, ◌<◌, ◌≡◌, ℕ, ◌+◌, List, [], ◌∷◌, ◌++◌, length, map, take, Some, Result, Ok, Err, refl, sym, ap, ◌∙◌, subst, arith, append_assoc, length-append, take-take}
 use Rattle.std.specs.Prelude.{⊤}
 use Rattle.std.proofs.lemmas.Bool.{cases_lt}
 use Rattle.std.proofs.lemmas.List.{take_at}
@@ -137,3 +137,12 @@ begun requests opening = record {
   one_way = begun_once requests opening;
   line = λ at. Some (other_start at);
 }
+
+-- ---- a start that is taken whole
+
+-- No test of `begin` refuses these bytes as a start, where the journal is blank: they are read as these requests, each is granted in its
+-- turn, and none is held yet.
+pub record IsTaken (cell : Cell) (bytes : List ℕ) (requests : List Request) : Type 0 where
+  pub read : start_reads cell bytes (Ok requests)
+  pub granted : granted_start cell requests ≡ Ok tt
+  pub first : AreFirst requests []

@@ -9,8 +9,15 @@
 
 mod asking;
 mod begin;
+mod carry;
+mod carrying;
+mod placing;
 mod refusals;
 mod starts;
 
 pub use begin::run_begin;
+pub use carry::run_carry;
 pub use refusals::{CarryFault, StartFault, Uncarried};
+
+#[cfg(test)]
+mod tests;

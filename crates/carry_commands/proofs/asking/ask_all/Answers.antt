@@ -1,5 +1,4 @@
 -- Every request is asked under number 0, and the record is that of what was asked.
-use Rattle.std.proofs.Common.{List}
 use Rattle.std.proofs.lemmas.List.Elements.{All-weaker}
 use Rattle.cell_base.specs.Fits.{RequestFits}
 use Rattle.durable_cell.specs.DurableState.{DurableState}

@@ -1,5 +1,5 @@
 -- The requests behind the grants of the journal are asked.
-use Rattle.std.proofs.Common.{List, subst, rules}
+use Rattle.std.proofs.Common.{List, subst}
 use Rattle.std.proofs.lemmas.List.{take_rest}
 use Rattle.cell_base.specs.declared.shifts.Grant.{Grant}
 use Rattle.carry_commands.specs.Starts.{AreFirst}

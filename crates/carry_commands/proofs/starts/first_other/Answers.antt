@@ -1,5 +1,5 @@
 -- One grant more is a first one of the start, or it is another.
-use Rattle.std.proofs.Common.{arith, ◌≡◌, ◌<◌, ◌≤◌, length, sym, ◌∙◌}
+use Rattle.std.proofs.Common.{arith, ◌<◌, ◌≤◌, length, sym, ◌∙◌}
 use Rattle.std.proofs.lemmas.Bool.{true≢false}
 use Rattle.carry_commands.proofs.Firsts.{another, one_more, too_many}
 use Rattle.cell_base.specs.declared.requests.Request.TheVariants.{Process}

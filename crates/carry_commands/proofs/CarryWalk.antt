@@ -1,0 +1,125 @@
+-- How the outcomes of `carry` come about.
+use Rattle.std.specs.Prelude.{IfErr, IfOk}
+use Rattle.std.specs.List.{concat}
+use Rattle.std.proofs.Common.{◌≡◌, ℕ, List, [], ◌∷◌, ◌++◌, map, Option, Some, Result, Ok, Err, refl, sym, ap, ◌∙◌, subst}
+use Rattle.admission_core.specs.CoreState.{CoreState}
+use Rattle.outside_io.specs.Files.{Names}
+use Rattle.cell_base.specs.declared.cells.Cell.{Cell}
+use Rattle.cell_base.specs.declared.requests.Request.{Request}
+use Rattle.cell_base.specs.declared.shifts.Grant.{Grant}
+use Rattle.cell_base.specs.Fits.{CellFits}
+use Rattle.cell_base.specs.Histories.{replay}
+use Rattle.start_file.specs.StartFiles.{IsStartOf, place_line, start_text}
+use Rattle.start_file.proofs.Lengths.{is_start}
+use Rattle.cell_walks.specs.Allowed.{AllowsFrom, ByMemory, ByRefusal, IsAllowed, IsEndedAt, JournalOpened, NotOpened, Passed, Stopped, Unasked}
+use Rattle.cell_walks.specs.DiskTold.{DiskTold, IsOnlyRead, IsUntouched}
+use Rattle.cell_walks.specs.Observed.{File, Observed, Shows, files_told, observed}
+use Rattle.cell_walks.specs.Outcomes.{Outcome, done, early}
+use Rattle.cell_walks.specs.Walks.{Journal, Opens, Tests, Walk, end_with}
+use Rattle.cell_walks.specs.declared.early_end.Subject.TheVariants.{Command}
+use Rattle.cell_base.specs.declared.requests.Part.{Part}
+use Rattle.carry_commands.specs.Carried.{carried}
+use Rattle.carry_commands.specs.declared.refusals.CarryFault.{CarryFault}
+use Rattle.cell_walks.specs.declared.early_end.EarlyEnd.{EarlyEnd}
+use Rattle.cell_walks.proofs.Steps.{ended_after, ended_at, shown_before}
+use Rattle.cell_texts.specs.JournalReads.{IsAfterGrants}
+use Rattle.cell_texts.specs.Tests.{KnownCell, cell_file, cell_reads, to_read}
+use Rattle.cell_texts.specs.declared.readers.AfterGrants.{AfterGrants}
+use Rattle.carry_commands.specs.Carry.{IsCarried, carried_over, carries, carry}
+use Rattle.carry_commands.specs.Carrying.{CarryRefused, CarryStarved, EndsAfter, EndsAtCarry, HasCarried, HasCarriedAfter, NotCarried, Unopened, carry_outcome}
+use Rattle.carry_commands.specs.Refusals.{carry_refused}
+use Rattle.carry_commands.specs.declared.carrying.Carried.{Carried}
+use Rattle.carry_commands.proofs.CarriedParts.{granted_carried}
+
+-- where the parts after the grants of a journal are not carried, the command ends there
+pub ends_after : (disk : DiskTold) (journal : Journal) (new : Cell) (after : AfterGrants) → IsAfterGrants disk journal after
+    → (made : Result Carried EarlyEnd) → IfErr made (EndsAtCarry after.core.cell new after.core.parts) → IfErr made (EndsAfter disk journal new)
+ends_after disk journal new after is (Ok made) ended = tt
+ends_after disk journal new after is (Err end) ended =
+    NotCarried is.grants is.opened (subst (λ (core : CoreState). EndsAtCarry core.cell new core.parts end) is.core ended)
+
+-- a part can't be carried, as its line says
+pub refused_at : (old shown new : Cell) (parts : List Part) (fault : CarryFault) (end : EarlyEnd) → carried old new parts ≡ Err fault
+    → end ≡ end_with Command (Some (carry_refused shown fault)) → shown ≡ new → EndsAtCarry old new parts end
+refused_at old shown new parts fault end is ends same =
+    CarryRefused fault is (ends ∙ ap (λ (cell : Cell). end_with Command (Some (carry_refused cell fault))) same)
+
+-- ---- the text
+
+lines_text : (cell : Cell) (requests : List Request) → concat (map (place_line cell) requests) ≡ start_text cell requests
+lines_text cell [] = refl
+lines_text cell (request ∷ requests) = ap (λ (text : List ℕ). place_line cell request ++ text) (lines_text cell requests)
+
+is_carried : (old : CoreState) (new : Cell) → CellFits new → (made : Carried) → HasCarried old new made
+    → IsCarried new made.requests (carry_outcome (Ok made))
+is_carried old new fits made has =
+    let lines : carry_outcome (Ok made) ≡ done (map (place_line new) made.requests) =
+    ap (λ (cell : Cell). done (map (place_line cell) made.requests)) has.cell in
+    record {
+      is = lines;
+      taken = record {
+        read = (
+          fits,
+          subst (λ (text : List ℕ). IsStartOf new text made.requests)
+              (sym (ap (λ (outcome : Outcome). concat outcome.pieces) lines ∙ lines_text new made.requests))
+              (is_start new fits made.requests has.carried.placing has.carried.few),
+        );
+        granted = granted_carried old.cell new [] 1 old.parts made.requests has.carried.is;
+        first = refl;
+      };
+    }
+
+-- ---- the walk
+
+module _ (seen : Observed) (held new : KnownCell) where
+  at_carry : (grants : List Grant) (end : EarlyEnd) → EndsAtCarry held.cell new.cell (replay held.cell grants) end
+      → IsEndedAt seen.files (carries held.cell new.cell (replay held.cell grants)) end
+  at_carry grants end (CarryRefused fault is ends) = ByRefusal fault is (carry_refused new.cell fault) refl ends
+  at_carry grants end (CarryStarved is) = ByMemory is
+
+  from_journal : CellFits new.cell → IsOnlyRead seen.disk → (made : Result Carried EarlyEnd)
+      → IfOk made (HasCarriedAfter seen.disk (to_read held) new.cell) → IfErr made (EndsAfter seen.disk (to_read held) new.cell)
+      → AllowsFrom seen (carry_outcome made) Unasked (Opens (to_read held) (carried_over held new))
+  from_journal fits only (Ok made) has ended =
+      let old : CoreState = record { cell = held.cell; parts = replay held.cell has.grants } in
+      JournalOpened has.grants has.opened (Passed made.requests has.has.carried.is (is_carried old new.cell fits made has.has, only))
+  from_journal fits only (Err end) has (Unopened unopened) = NotOpened end unopened refl
+  from_journal fits only (Err end) has (NotCarried grants opened ends) =
+      JournalOpened grants opened (Stopped end (at_carry grants end ends) (refl, only))
+
+-- what comes after the first cell
+abbrev second : List ℕ → KnownCell → Walk
+second other held = Tests (cell_file other) λ new. Opens (to_read held) (carried_over held new)
+
+module _ {F : Type 0} (holds : F → Option Names) (is_sound : F → Type 0) (faults : F → ℕ) (disk : DiskTold) (cell other : List ℕ) where
+  -- the first cell was not read
+  pub carry_unread : (old new : F) (end : EarlyEnd) → IsUntouched disk
+      → IsEndedAt (files_told holds is_sound faults old new) (cell_file cell) end
+      → IsAllowed (observed (files_told holds is_sound faults old new) disk) (carry cell other) (early end)
+  carry_unread old new end still ended =
+      ended_at (observed (files_told holds is_sound faults old new) disk) Unasked (cell_file cell) (second other) end ended still
+
+  module _ (old mid new : F) (held : KnownCell)
+      (shows : Shows (files_told holds is_sound faults old mid) (File cell) (λ bytes. cell_reads bytes (Ok held)))
+      (same : holds mid ≡ holds old) where
+    abbrev seen : Observed
+    seen = observed (files_told holds is_sound faults old new) disk
+
+    -- the second was not
+    pub carry_without_other : (end : EarlyEnd) → IsUntouched disk → faults mid ≡ faults old → (is_sound old → is_sound mid)
+        → IsEndedAt (files_told holds is_sound faults mid new) (cell_file other) end
+        → IsAllowed seen (carry cell other) (early end)
+    carry_without_other end still kept stays ended =
+        Passed held shows
+        (ended_at seen Unasked (cell_file other) (λ second. Opens (to_read held) (carried_over held second)) end
+        (ended_after holds is_sound faults old mid new same kept stays (cell_file other) end ended) still)
+
+    -- both were; and the parts were carried, or the command ended there
+    pub carry_made : (second : KnownCell)
+        → Shows (files_told holds is_sound faults mid new) (File other) (λ bytes. cell_reads bytes (Ok second)) → CellFits second.cell
+        → IsOnlyRead disk → (made : Result Carried EarlyEnd) → IfOk made (HasCarriedAfter disk (to_read held) second.cell)
+        → IfErr made (EndsAfter disk (to_read held) second.cell) → IsAllowed seen (carry cell other) (carry_outcome made)
+    carry_made second read fits only made has ended =
+        Passed held shows
+        (Passed second (shown_before holds is_sound faults old mid new same (File other) (λ bytes. cell_reads bytes (Ok second)) read)
+        (from_journal seen held second fits only made has ended))
