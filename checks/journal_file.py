@@ -3,6 +3,9 @@
 A journal is a gate 1, the name `RUNCELL1`, the length of the cell text, the text, and then for each grant a gate 1 and sixteen bytes,
 up to the first gate that isn't 1. Resources and types are numbered as the cell file has them.
 """
+import hashlib
+import os
+import pathlib
 import struct
 import tomllib
 
@@ -79,3 +82,13 @@ def granted(numbers, lines, shift):
         if words[-1] == "granted":
             found.append(entry(numbers, " ".join(words[1:-1]), int(words[0]), shift))
     return found
+
+
+def keep(file, cell):
+    """Copies a journal and its cell to the folder that KEEP names, each under what the journal holds, where there is such a folder."""
+    folder = os.environ.get("KEEP")
+    if folder and file.exists():
+        data = file.read_bytes()
+        kept = pathlib.Path(folder) / hashlib.sha256(data).hexdigest()[:16]
+        kept.with_suffix(".journal").write_bytes(data)
+        kept.with_suffix(".toml").write_bytes(cell.read_bytes())

@@ -1,4 +1,6 @@
 -- Lemmas, grouped by subject.
 pub mod Finding
 pub mod Standing
+pub mod Ranges
 pub mod Right
+pub mod Written

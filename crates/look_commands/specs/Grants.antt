@@ -1,5 +1,5 @@
 -- `grants CELL JOURNAL`: the grants of the journal as one record of shift 0, with the plan that empties the cell after them.
-use Rattle.std.specs.Prelude.{◌≡◌, ℕ, List, [], ◌∷◌, length, map, Result, Ok, Err}
+use Rattle.std.specs.Prelude.{◌≡◌, ℕ, ◌<◌, ◌^◌, List, [], ◌∷◌, length, map, Result, Ok, Err}
 use Rattle.std.specs.List.{concat}
 use Rattle.cell_base.specs.declared.cells.Cell.{Cell}
 use Rattle.cell_base.specs.declared.requests.Reply.TheVariants.{Granted}
@@ -10,6 +10,7 @@ use Rattle.cell_base.specs.Histories.{replay}
 use Rattle.cell_base.specs.Plans.{Drains, plan_of}
 use Rattle.record_text.specs.Records.{block_of, text_of_block}
 use Rattle.record_text.specs.declared.blocks.Block.{Block}
+use Rattle.step_text.specs.Steps.{job_number}
 use Rattle.shift_checker.specs.Judging.{judge}
 use Rattle.shift_checker.specs.declared.verdict.Verdict.TheVariants.{Yes}
 use Rattle.cell_walks.specs.Outcomes.{Outcome, done, early}
@@ -32,6 +33,11 @@ history_of grants = map entry_of grants
 -- the only block of the record of these grants: shift 0 before any grant, and the plan for the parts that they leave
 abbrev pub block_of_grants : Cell → List Grant → Block
 block_of_grants cell grants = block_of cell [] 0 0 (history_of grants) (plan_of cell (replay cell grants))
+
+-- the numbers of its session and its job are those of their types
+pub record GrantInRange (grant : Grant) : Type 0 where
+  pub session : grant.session < 2 ^ 16
+  pub job : job_number grant.request < 2 ^ 32
 
 -- ---- the command
 

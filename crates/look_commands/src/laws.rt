@@ -1,10 +1,14 @@
 //! Facts about what `grants` prints, each the contract of a function that does nothing.
-ghost use Rattle.std.specs.Prelude.{◌≡◌, ◌∷◌, []};
+ghost use Rattle.std.specs.Prelude.{◌≡◌, ◌∷◌, ℕ, [], List as Items, Ok};
+ghost use Rattle.std.specs.List.{All};
+ghost use Rattle.record_text.specs.declared.blocks.Block.{Block};
+ghost use Rattle.record_text.specs.Blocks.{AreBlocks};
+ghost use Rattle.record_text.specs.Records.{text_of_block};
 ghost use Rattle.durable_cell.specs.Replayed.{AreDue};
-ghost use Rattle.cell_texts.specs.Clauses.{CellFits};
+ghost use Rattle.cell_texts.specs.Clauses.{CellFits, record_reads};
 ghost use Rattle.shift_checker.specs.declared.verdict.Verdict.TheVariants.{Yes};
 ghost use Rattle.shift_checker.specs.Judging.{judge};
-ghost use Rattle.look_commands.specs.Grants.{block_of_grants};
+ghost use Rattle.look_commands.specs.Grants.{GrantInRange, block_of_grants};
 
 use cell_base::{Cell, Grant};
 
@@ -13,4 +17,15 @@ pub fn record_of_grants_is_right(cell: &Cell, grants: &[Grant])
     requires cell { CellFits cell.now }
     requires due { AreDue cell.now grants.now }
     ensures { judge cell.now (block_of_grants cell.now grants.now ∷ []) ≡ Yes }
+{}
+
+/// It has a text, and whatever blocks that text is read as are right: so `check` says yes to what `grants` prints, or refuses it for its
+/// length alone.
+pub fn text_of_grants_is_right(cell: &Cell, grants: &[Grant])
+    requires cell { CellFits cell.now }
+    requires due { AreDue cell.now grants.now }
+    requires range { All GrantInRange grants.now }
+    ensures written { AreBlocks cell.now (block_of_grants cell.now grants.now ∷ []) }
+    ensures right { (text : Items ℕ) (blocks : Items Block) → text ≡ text_of_block cell.now (block_of_grants cell.now grants.now)
+        → record_reads cell.now text (Ok blocks) → judge cell.now blocks ≡ Yes }
 {}
