@@ -5,6 +5,7 @@ pub mod Digits
 pub mod Ties
 pub mod Rankings
 pub mod Best
+pub mod One
 pub mod Sweeps
 pub mod Costs
 pub mod Worked

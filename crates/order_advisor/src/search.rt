@@ -1,4 +1,5 @@
-//! The search over sets of resources.
+//! The search over sets of resources: dynamic programming over the subsets of what is put in order, in the manner of M. Held and
+//! R. M. Karp, "A Dynamic Programming Approach to Sequencing Problems" (1962).
 ghost use Rattle.std.specs.Prelude.{◌≡◌, ℕ, ◌+◌, ◌-◌, ◌*◌, ◌^◌, ◌<◌, ◌≤◌, true, length, slice_index, IfOk};
 ghost use Rattle.cell_base.specs.Masks.{has_bit};
 ghost use Rattle.cell_base.specs.Stages.{stages};

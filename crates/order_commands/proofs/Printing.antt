@@ -7,7 +7,8 @@ use Rattle.cell_base.specs.Stages.{resource_numbers}
 use Rattle.cell_texts.proofs.Delivered.{rest_at}
 
 -- the next one, and those behind it
-pub numbers_at : (cell : Cell) (r : ℕ) → r < length cell.resources → drop r (resource_numbers cell) ≡ r ∷ drop (r + 1) (resource_numbers cell)
+pub numbers_at : (cell : Cell) (r : ℕ) → r < length cell.resources
+    → drop r (resource_numbers cell) ≡ r ∷ drop (r + 1) (resource_numbers cell)
 numbers_at cell r within =
     let from_nought : 0 + r ≡ r = omega arith in
     rest_at (resource_numbers cell) r 0 (omega (arith, within, length-range_with_len 0 (length cell.resources)))

@@ -1,7 +1,8 @@
 //! `advise CELL` and `arrange CELL`: the orders of a cell's resources with the fewest memberships in neighborhoods.
 ghost use Rattle.std.specs.Prelude.{◌≡◌, ◌≤◌, length, IfOk, OnOk, OnErr};
 ghost use Rattle.order_advisor.specs.declared.advice.TheConstants.{ARRANGED};
-ghost use Rattle.cell_walks.specs.Clauses.{Ends, HasCause, IsAllowed, IsDelivered, TookAll, TookSome, disk_told, files_told, no_disk, observed, sink_told};
+ghost use Rattle.cell_walks.specs.Clauses.{Ends, HasCause, IsAllowed, IsDelivered, TookAll, TookSome};
+ghost use Rattle.cell_walks.specs.Clauses.{disk_told, files_told, no_disk, observed, sink_told};
 ghost use Rattle.cell_walks.specs.Walks.{end_with};
 ghost use Rattle.cell_walks.specs.declared.early_end.Subject.TheVariants.{Cell as OfCell};
 ghost use Rattle.cell_texts.specs.Clauses.{CellFits};

@@ -1,0 +1,6 @@
+-- Two best advices are the same.
+use Rattle.order_advisor.proofs.One.{one_advice}
+use Rattle.order_advisor.proofs.laws.one_best.Goals as goal
+
+pub returns : goal.returns
+returns c = one_advice c.args.cell.now
