@@ -97,11 +97,12 @@ module _ (shift : Shift) where
       λ k at. has-step-last shift history e k (progress-unanswered history e k refl) at in
       let asks : length (asks_of (history ++ e ∷ [])) ≡ length (asks_of history) + 1 = length-filter-last asked history e in
       let left = sum-same (left_in shift history) (left_in shift (history ++ e ∷ [])) (length shift.scripts) (λ k.
-      ap (λ (at : Progress). (length (script_of shift k) - at.step) * shift.patience - at.refusals) (progress-unanswered history e k refl)) in
+      ap (left_of shift.patience (script_of shift k)) (progress-unanswered history e k refl)) in
       let more = length-append waiters (new ∷ []) in
       record {
         apart = all_pairs_push IsOther waiters new going.apart (λ k d inside. others_wait waiters session free k d inside);
-        within = λ k bounds. subst (IsWithinScript (script_of shift k) shift.patience) (sym (progress-unanswered history e k refl)) (going.within k bounds);
+        within = λ k bounds. subst (IsWithinScript (script_of shift k) shift.patience) (sym (progress-unanswered history e k refl))
+            (going.within k bounds);
         waiting = All-append (Waits (history ++ e ∷ [])) waiters (new ∷ [])
             (All-weaker (Waits history) (Waits (history ++ e ∷ [])) (λ w at. still w.session at) waiters going.waiting)
             (All-cons (Waits (history ++ e ∷ [])) new [] (still session has) (All-nil (Waits (history ++ e ∷ []))));
@@ -165,7 +166,8 @@ module _ (shift : Shift) where
             scan_going (length on.waiters) (record (noted on session request told.Granted) { parts = state_after cell on.parts request })
             (answered on.waiters on.history (entry session request told.Granted) Granted refl refl has free going)
         by_reply (Refused why) =
-            elim (is_saturation why) as (λ b. Going (cond b (joined on session request why) (noted on session request (told.Refused why)))) [
+            elim (is_saturation why) as (λ b.
+            Going (cond b (joined on session request why) (noted on session request (told.Refused why)))) [
               | true ↦ waits_from_now on.waiters on.history session request why has free going
               | false ↦ answered on.waiters on.history (entry session request (told.Refused why)) (Refused why) refl refl has free going
             ]
@@ -179,8 +181,11 @@ module _ (shift : Shift) where
       (pairs-map IsOther (λ (a b : ℕ). a ≢ b) number (λ a b other. other) on.waiters going.apart)
       (All-map (λ (x : ℕ). (1 ≤ x) × (x ≤ length shift.scripts) × (1 ≤ left_in shift on.history x)) number on.waiters (λ k d inside.
       let w : Waiter = get_or on.waiters k d in
-      let has : Waits on.history w = going.waiting k d inside in
-      (has.known.0, has.known.1, left_of-some (script_of shift w.session) shift.patience (progress_in on.history w.session) has.step has.patience))) in
+      let has : Waits on.history w = going.waiting k d inside in (
+        has.known.0,
+        has.known.1,
+        left_of-some (script_of shift w.session) shift.patience (progress_in on.history w.session) has.step has.patience,
+      ))) in
       omega (arith, many, length-map on.waiters number, going.few)
     where
       some_left : (n refusals patience : ℕ) → refusals < patience → 1 ≤ (n + 1) * patience - refusals

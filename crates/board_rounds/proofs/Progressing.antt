@@ -1,5 +1,5 @@
 -- Where a session stands behind one entry more.
-use Rattle.std.proofs.Common.{◌≡◌, ◌≢◌, ℕ, ◌+◌, ◌-◌, ◌*◌, ◌<◌, ◌≤◌, ◌==◌, Bool, true, false, cond, Some, None, List, [], ◌∷◌, ◌++◌, length, refl, sym, ◌∙◌, ap, subst, arith}
+use Rattle.std.proofs.Common.{◌≡◌, ◌≢◌, ℕ, ◌+◌, ◌<◌, ◌≤◌, ◌==◌, Bool, true, false, cond, Some, None, List, [], ◌∷◌, ◌++◌, length, refl, sym, ◌∙◌, ap, subst, arith}
 use Rattle.std.specs.List.{filter}
 use Rattle.std.specs.Option.{option_map_or}
 use Rattle.std.proofs.lemmas.Bool.{cond-true, cond-false, eq-eqb, eqb-true, ne_eqb}
@@ -12,7 +12,7 @@ use Rattle.cell_base.specs.declared.requests.Told.TheVariants.{Answered}
 use Rattle.cell_base.specs.declared.shifts.Shift.{Shift}
 use Rattle.cell_base.specs.Rounds.{IsSession}
 use Rattle.cell_base.specs.Scripts.{Progress, begin_at, progress_after, script_of}
-use Rattle.cell_sessions.specs.Underway.{IsWithinScript}
+use Rattle.cell_sessions.specs.Underway.{IsWithinScript, left_of}
 use Rattle.cell_sessions.proofs.Counting.{left_of-falls}
 use Rattle.wait_board.specs.declared.entries.BoardEntry.{BoardEntry}
 use Rattle.wait_board.specs.Boards.{end_of_wait, is_answer}
@@ -27,7 +27,8 @@ by_last : (at : Progress) (entries : List BoardEntry) (e : BoardEntry)
 by_last at [] e = refl
 by_last at (first ∷ entries) e = by_last (progress_told at first.told) entries e
 
-pub filter-last : {X : Type 0} (p : X → Bool) (xs : List X) (x : X) → filter p (xs ++ x ∷ []) ≡ cond (p x) (filter p xs ++ x ∷ []) (filter p xs)
+pub filter-last : {X : Type 0} (p : X → Bool) (xs : List X) (x : X)
+    → filter p (xs ++ x ∷ []) ≡ cond (p x) (filter p xs ++ x ∷ []) (filter p xs)
 filter-last p xs x =
     filter-append p xs (x ∷ [])
     ∙ elim (p x) as (λ b. filter p xs ++ cond b (x ∷ []) [] ≡ cond b (filter p xs ++ x ∷ []) (filter p xs)) [
@@ -101,13 +102,14 @@ module _ (shift : Shift) (history : List BoardEntry) (e : BoardEntry) (reply : R
       (progress_in history e.session)) is
 
   -- it takes one from what is left
-  pub left-falls : sum_to (left_in shift (history ++ e ∷ [])) (length shift.scripts) + 1 ≤ sum_to (left_in shift history) (length shift.scripts)
+  pub left-falls : sum_to (left_in shift (history ++ e ∷ [])) (length shift.scripts) + 1
+      ≤ sum_to (left_in shift history) (length shift.scripts)
   left-falls =
       let s : ℕ = e.session in
-      let fewer = left_of-falls (script_of shift s) shift.patience (progress_in history s) (progress_in (history ++ e ∷ []) s) reply has.step
-      has.patience goes in
+      let fewer = left_of-falls (script_of shift s) shift.patience (progress_in history s) (progress_in (history ++ e ∷ []) s) reply
+      has.step has.patience goes in
       let one = sum-one (left_in shift history) (left_in shift (history ++ e ∷ [])) s (λ k other.
-      ap (λ (at : Progress). (length (script_of shift k) - at.step) * shift.patience - at.refusals)
+      ap (left_of shift.patience (script_of shift k))
       (progress-other history e k (λ same. other (sym same)))) (length shift.scripts) has.known.0 has.known.1 in
       omega (arith, fewer, one)
 

@@ -42,7 +42,9 @@ progress_in history session = progress_by (begin_at 0) (filter (λ entry. entry.
 abbrev pub present_step : Shift → OnBoard → ℕ → Option Request
 present_step shift on session =
     let at = progress_in on.history session in
-    if nat_lt at.refusals shift.patience && is_none (waiter_of on.waiters session) then slice_get (script_of shift session) at.step else None
+    if nat_lt at.refusals shift.patience && is_none (waiter_of on.waiters session)
+    then slice_get (script_of shift session) at.step
+    else None
 
 -- a session has its turn: it asks its present step, if there is one
 abbrev pub turn : Cell → Shift → OnBoard → ℕ → OnBoard

@@ -58,7 +58,8 @@ module _ (cell : Cell) (fits : CellFits cell) where
 
   push_fits : (history : List BoardEntry) (e : BoardEntry) → All (EntryFits cell) history → EntryFits cell e
       → All (EntryFits cell) (history ++ e ∷ [])
-  push_fits history e all one = All-append (EntryFits cell) history (e ∷ []) all (All-cons (EntryFits cell) e [] one (All-nil (EntryFits cell)))
+  push_fits history e all one =
+      All-append (EntryFits cell) history (e ∷ []) all (All-cons (EntryFits cell) e [] one (All-nil (EntryFits cell)))
 
   after_admitted : (parts : List Part) (request : Request) → IsAdmitted cell parts → RequestFits cell request
       → IsAdmitted cell (state_after cell parts request)

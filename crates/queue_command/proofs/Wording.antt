@@ -25,7 +25,8 @@ spaced-joined word words = ap (λ bytes. 32 ∷ bytes) (sym (joined-append word 
 line_parted : (word : List ℕ) (words : List (List ℕ)) (next : List ℕ) (more : List (List ℕ))
     → line_of (word ∷ (words ++ next ∷ more)) ≡ joined (word ∷ words) ++ 32 ∷ line_of (next ∷ more)
 line_parted word words next more =
-    ap (λ bytes. bytes ++ 10 ∷ []) (joined-append word words (next ∷ more) ∙ ap (λ bytes. joined (word ∷ words) ++ bytes) (spaced-joined next more))
+    ap (λ bytes. bytes ++ 10 ∷ [])
+    (joined-append word words (next ∷ more) ∙ ap (λ bytes. joined (word ∷ words) ++ bytes) (spaced-joined next more))
     ∙ append_assoc (joined (word ∷ words)) (32 ∷ joined (next ∷ more)) (10 ∷ [])
 
 -- the first words
