@@ -4,7 +4,7 @@ use Rattle.std.proofs.Common.{◌≡◌, List, refl}
 use Rattle.cell_base.specs.declared.shifts.Grant.{Grant}
 use Rattle.cell_walks.specs.Promises.{OpensNone, OpensOnce}
 use Rattle.cell_walks.specs.Walks.{Answers, Opens, Purpose, Tests, Walk}
-use Rattle.cell_program.specs.Words.{Task, Solo, Run, Plan, Drain, Why, Check, Show, journal_of, walk_of}
+use Rattle.cell_program.specs.Words.{Task, Solo, Run, Plan, Drain, Why, Check, Show, Make, Carry, Begin, Queue, Advise, Arrange, Grants, Parts, journal_of, walk_of}
 
 -- each journal that it opens is opened for this
 abbrev OpensFor : Purpose → Walk → Type 0
@@ -20,6 +20,14 @@ as_told (Drain cell journal) = λ held. (refl, λ grants. tt)
 as_told (Why cell journal step) = λ held request. (refl, λ grants. tt)
 as_told (Check cell record_file) = λ held blocks. tt
 as_told (Show cell) = λ held. tt
+as_told (Make number) = λ drawn. tt
+as_told (Carry cell journal other) = λ held new. (refl, λ grants requests. tt)
+as_told (Begin cell start journal) = λ held requests granted. (refl, λ grants first. tt)
+as_told (Queue cell shift) = λ held s. tt
+as_told (Advise cell) = λ held few. tt
+as_told (Arrange cell) = λ held few. tt
+as_told (Grants cell journal) = λ held. (refl, λ grants. tt)
+as_told (Parts cell journal) = λ held. (refl, λ grants. tt)
 
 -- and it opens one at most
 pub one_journal : (task : Task) → OpensOnce (walk_of task)
@@ -30,3 +38,11 @@ one_journal (Drain cell journal) = λ held grants. tt
 one_journal (Why cell journal step) = λ held request grants. tt
 one_journal (Check cell record_file) = λ held blocks. tt
 one_journal (Show cell) = λ held. tt
+one_journal (Make number) = λ drawn. tt
+one_journal (Carry cell journal other) = λ held new grants requests. tt
+one_journal (Begin cell start journal) = λ held requests granted grants first. tt
+one_journal (Queue cell shift) = λ held s. tt
+one_journal (Advise cell) = λ held few. tt
+one_journal (Arrange cell) = λ held few. tt
+one_journal (Grants cell journal) = λ held grants. tt
+one_journal (Parts cell journal) = λ held grants. tt

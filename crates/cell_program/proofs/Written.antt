@@ -4,7 +4,7 @@ use Rattle.std.specs.Option.{option_map}
 use Rattle.std.specs.Str.{bytes_eq}
 use Rattle.std.proofs.Common.{◌≡◌, ℕ, List, [], ◌∷◌, Bool, true, false, Option, Some, None, codes, refl, sym, ap, ◌∙◌}
 use Rattle.std.proofs.lemmas.Slice.Eq.{bytes_eq-Decides}
-use Rattle.cell_program.specs.Words.{Task, Solo, Run, Plan, Drain, Why, Check, Show, words_of}
+use Rattle.cell_program.specs.Words.{Task, Solo, Run, Plan, Drain, Why, Check, Show, Make, Carry, Begin, Queue, Advise, Arrange, Grants, Parts, words_of}
 use Rattle.cell_program.specs.Deciding.{task_in, task_of}
 use Rattle.cell_program.specs.declared.words.Command.{Command}
 
@@ -17,6 +17,14 @@ decides (Drain cell journal) = refl
 decides (Why cell journal step) = refl
 decides (Check cell record_file) = refl
 decides (Show cell) = refl
+decides (Make number) = refl
+decides (Carry cell journal other) = refl
+decides (Begin cell start journal) = refl
+decides (Queue cell shift) = refl
+decides (Advise cell) = refl
+decides (Arrange cell) = refl
+decides (Grants cell journal) = refl
+decides (Parts cell journal) = refl
 
 verb_is : (verb word : List ℕ) → bytes_eq verb word ≡ true → verb ≡ word
 verb_is verb word is = (bytes_eq-Decides verb word).0 is
@@ -38,15 +46,23 @@ pub decided : (words : List (List ℕ)) (task : Task) → Some task ≡ task_of 
 decided [] task is = absurd (cc)
 decided (verb ∷ []) task is = absurd (cc)
 decided (verb ∷ a ∷ []) task is =
-    where_verb verb (codes "show") (a ∷ []) (Show a) None task refl (λ none. absurd (cc)) is
+    where_verb verb (codes "show") (a ∷ []) (Show a) _ task refl
+    (where_verb verb (codes "make") (a ∷ []) (Make a) _ task refl
+    (where_verb verb (codes "advise") (a ∷ []) (Advise a) _ task refl
+    (where_verb verb (codes "arrange") (a ∷ []) (Arrange a) None task refl (λ none. absurd (cc))))) is
 decided (verb ∷ a ∷ b ∷ []) task is =
     where_verb verb (codes "solo") (a ∷ b ∷ []) (Solo a b) _ task refl
     (where_verb verb (codes "plan") (a ∷ b ∷ []) (Plan a b) _ task refl
     (where_verb verb (codes "drain") (a ∷ b ∷ []) (Drain a b) _ task refl
-    (where_verb verb (codes "check") (a ∷ b ∷ []) (Check a b) None task refl (λ none. absurd (cc))))) is
+    (where_verb verb (codes "check") (a ∷ b ∷ []) (Check a b) _ task refl
+    (where_verb verb (codes "queue") (a ∷ b ∷ []) (Queue a b) _ task refl
+    (where_verb verb (codes "grants") (a ∷ b ∷ []) (Grants a b) _ task refl
+    (where_verb verb (codes "parts") (a ∷ b ∷ []) (Parts a b) None task refl (λ none. absurd (cc)))))))) is
 decided (verb ∷ a ∷ b ∷ c ∷ []) task is =
     where_verb verb (codes "run") (a ∷ b ∷ c ∷ []) (Run a b c) _ task refl
-    (where_verb verb (codes "why") (a ∷ b ∷ c ∷ []) (Why a b c) None task refl (λ none. absurd (cc))) is
+    (where_verb verb (codes "why") (a ∷ b ∷ c ∷ []) (Why a b c) _ task refl
+    (where_verb verb (codes "carry") (a ∷ b ∷ c ∷ []) (Carry a b c) _ task refl
+    (where_verb verb (codes "begin") (a ∷ b ∷ c ∷ []) (Begin a b c) None task refl (λ none. absurd (cc))))) is
 decided (verb ∷ a ∷ b ∷ c ∷ d ∷ rest) task is = absurd (cc)
 
 pub written : (result : Option Command) (words : List (List ℕ)) → option_map task_in result ≡ task_of words

@@ -1,7 +1,6 @@
 //! The top call.
 ghost use Rattle.std.specs.Prelude.{◌≡◌, ℕ, List, [], ◌∷◌, map, None};
-ghost use Rattle.cell_walks.specs.Clauses.{Ends, IsDelivered, disk_told, files_told, observed, printed, sink_told};
-ghost use Rattle.cell_walks.specs.declared.status.Status.TheVariants.{NoCommand};
+ghost use Rattle.cell_walks.specs.Clauses.{Ends, disk_told, files_told, observed, sink_told};
 ghost use Rattle.cell_program.specs.Words.{Run, Task, journal_of, no_command, usage_text, walk_for, walk_of, words_of};
 ghost use Rattle.cell_program.specs.Deciding.{option_and_then, string_bytes, task_of};
 ghost use Rattle.cell_program.specs.Headline.{Headline};
@@ -9,10 +8,15 @@ ghost use Rattle.cell_program.specs.Promised.{PromisesAt};
 
 use crate::disk_laws::{leaves_only_now, reads_an_image};
 use crate::words::{Command, command_of};
+use carry_commands::{run_begin, run_carry};
 use cell_commands::{run_check, run_drain, run_plan, run_show, run_why};
-use cell_texts::CommandEnd;
+use cell_texts::{CommandEnd, print_usage};
 use cell_walks::Status;
+use look_commands::{run_grants, run_parts};
+use make_command::run_make;
+use order_commands::{run_advise, run_arrange};
 use outside_io::{Disk, Files, Pace, Sink};
+use queue_command::run_queue;
 use shift_commands::{run_on_journal, run_solo};
 use std::alloc::Global;
 use std::sync::Wait;
@@ -84,7 +88,7 @@ fn run_command<R: Threads + Wait + Sync, F: Files, K: Sink, D: Disk + Send, P: P
     leaves_only_now(&disk);
     match command_of(words) {
         None => CommandEnd {
-            status: print_usage(out),
+            status: print_usage(out, usage()),
             disk,
         },
         Some(Command::Solo { cell, shift }) => run_solo(alloc, files, out, cell, shift, disk),
@@ -103,6 +107,14 @@ fn run_command<R: Threads + Wait + Sync, F: Files, K: Sink, D: Disk + Send, P: P
             disk,
         ),
         Some(Command::Show { cell }) => run_show(alloc, files, out, cell, disk),
+        Some(Command::Make { number }) => run_make(alloc, files, out, number, usage(), disk),
+        Some(Command::Carry { cell, other, .. }) => run_carry(alloc, files, out, cell, other, disk),
+        Some(Command::Begin { cell, start, .. }) => run_begin(alloc, files, out, cell, start, disk),
+        Some(Command::Queue { cell, shift }) => run_queue(alloc, files, out, cell, shift, disk),
+        Some(Command::Advise { cell }) => run_advise(alloc, files, out, cell, disk),
+        Some(Command::Arrange { cell }) => run_arrange(alloc, files, out, cell, disk),
+        Some(Command::Grants { cell, .. }) => run_grants(alloc, files, out, cell, disk),
+        Some(Command::Parts { cell, .. }) => run_parts(alloc, files, out, cell, disk),
     }
 }
 
@@ -111,15 +123,6 @@ fn usage() -> &'static [u8]
     ensures { result.now ≡ usage_text }
 {
     b"usage: solo CELL SHIFT, run CELL SHIFT JOURNAL, plan CELL JOURNAL, drain CELL JOURNAL, why CELL JOURNAL STEP, check CELL RECORD, \
-      show CELL\n"
-}
-
-// Prints the commands with their words.
-fn print_usage<K: Sink>(out: &mut K) -> Status
-    ensures { IsDelivered (sink_told K.taken K.was_put K.faults out.old out.new) (printed NoCommand (usage_text ∷ [])) result }
-{
-    match out.put(usage()) {
-        Ok(()) => Status::NoCommand,
-        Err(_) => Status::SinkFault,
-    }
+      show CELL, make NUMBER, carry CELL1 JOURNAL CELL2, begin CELL START JOURNAL, queue CELL SHIFT, advise CELL, arrange CELL, \
+      grants CELL JOURNAL, parts CELL JOURNAL\n"
 }

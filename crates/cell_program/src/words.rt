@@ -3,7 +3,7 @@ ghost use Rattle.std.specs.Prelude.{◌≡◌, map, IfSome, IfNone, List, None};
 ghost use Rattle.std.specs.String.{string_bytes};
 ghost use Rattle.std.specs.Option.{option_map};
 ghost use Rattle.cell_program.specs.Words.{Task, journal_of, words_of};
-ghost use Rattle.cell_program.specs.Deciding.{named, task_in, task_of};
+ghost use Rattle.cell_program.specs.Deciding.{named, task_in, task_of, task_of_one, task_of_three, task_of_two};
 
 /// A command with its words.
 #[derive(Drop)]
@@ -44,6 +44,45 @@ pub enum Command<'a> {
     Show {
         cell: &'a str,
     },
+    /// A shift on a cell, both drawn from a number.
+    Make {
+        number: &'a str,
+    },
+    /// The parts behind a journal's grants, as they are carried to another cell.
+    Carry {
+        cell: &'a str,
+        journal: &'a str,
+        other: &'a str,
+    },
+    /// A cell that begins with parts in it.
+    Begin {
+        cell: &'a str,
+        start: &'a str,
+        journal: &'a str,
+    },
+    /// A shift whose saturated requests wait on a board.
+    Queue {
+        cell: &'a str,
+        shift: &'a str,
+    },
+    /// The orders with the fewest memberships, of a small cell.
+    Advise {
+        cell: &'a str,
+    },
+    /// The same of a larger one.
+    Arrange {
+        cell: &'a str,
+    },
+    /// A journal's grants, as a record.
+    Grants {
+        cell: &'a str,
+        journal: &'a str,
+    },
+    /// Where the parts stand after these grants.
+    Parts {
+        cell: &'a str,
+        journal: &'a str,
+    },
 }
 
 /// The journal of a command by its name, and what it is opened for.
@@ -61,14 +100,110 @@ impl<'a> Command<'a> {
         ensures { option_map named result ≡ journal_of (task_in self.entry) }
     {
         match self {
-            Command::Run { journal, .. } | Command::Drain { journal, .. } => Some(Journal::Added(
-                journal,
-            )),
-            Command::Plan { journal, .. } | Command::Why { journal, .. } => Some(Journal::Read(
-                journal,
-            )),
-            Command::Solo { .. } | Command::Check { .. } | Command::Show { .. } => None,
+            Command::Run { journal, .. }
+            | Command::Drain { journal, .. }
+            | Command::Begin { journal, .. } => Some(Journal::Added(journal)),
+            Command::Plan { journal, .. }
+            | Command::Why { journal, .. }
+            | Command::Carry { journal, .. }
+            | Command::Grants { journal, .. }
+            | Command::Parts { journal, .. } => Some(Journal::Read(journal)),
+            Command::Solo { .. }
+            | Command::Check { .. }
+            | Command::Show { .. }
+            | Command::Make { .. }
+            | Command::Queue { .. }
+            | Command::Advise { .. }
+            | Command::Arrange { .. } => None,
         }
+    }
+}
+
+// The command of a verb and a word.
+fn decide_one<'a>(verb: &str, a: &'a str) -> Option<Command<'a>>
+    ensures { option_map task_in result ≡ task_of_one verb.now a.now }
+{
+    if verb == "show" {
+        Some(Command::Show { cell: a })
+    } else if verb == "make" {
+        Some(Command::Make { number: a })
+    } else if verb == "advise" {
+        Some(Command::Advise { cell: a })
+    } else if verb == "arrange" {
+        Some(Command::Arrange { cell: a })
+    } else {
+        None
+    }
+}
+
+// The command of a verb and two words.
+fn decide_two<'a>(verb: &str, a: &'a str, b: &'a str) -> Option<Command<'a>>
+    ensures { option_map task_in result ≡ task_of_two verb.now a.now b.now }
+{
+    if verb == "solo" {
+        Some(Command::Solo { cell: a, shift: b })
+    } else if verb == "plan" {
+        Some(Command::Plan {
+            cell: a,
+            journal: b,
+        })
+    } else if verb == "drain" {
+        Some(Command::Drain {
+            cell: a,
+            journal: b,
+        })
+    } else if verb == "check" {
+        Some(Command::Check {
+            cell: a,
+            record_file: b,
+        })
+    } else if verb == "queue" {
+        Some(Command::Queue { cell: a, shift: b })
+    } else if verb == "grants" {
+        Some(Command::Grants {
+            cell: a,
+            journal: b,
+        })
+    } else if verb == "parts" {
+        Some(Command::Parts {
+            cell: a,
+            journal: b,
+        })
+    } else {
+        None
+    }
+}
+
+// The command of a verb and three words.
+fn decide_three<'a>(verb: &str, a: &'a str, b: &'a str, c: &'a str) -> Option<Command<'a>>
+    ensures { option_map task_in result ≡ task_of_three verb.now a.now b.now c.now }
+{
+    if verb == "run" {
+        Some(Command::Run {
+            cell: a,
+            shift: b,
+            journal: c,
+        })
+    } else if verb == "why" {
+        Some(Command::Why {
+            cell: a,
+            journal: b,
+            step: c,
+        })
+    } else if verb == "carry" {
+        Some(Command::Carry {
+            cell: a,
+            journal: b,
+            other: c,
+        })
+    } else if verb == "begin" {
+        Some(Command::Begin {
+            cell: a,
+            start: b,
+            journal: c,
+        })
+    } else {
+        None
     }
 }
 
@@ -77,35 +212,9 @@ fn decide(words: &[String]) -> Option<Command<'_>>
     ensures { option_map task_in result ≡ task_of (map string_bytes words.now) }
 {
     match words {
-        [verb, cell, shift] if verb.as_str() == "solo" => Some(Command::Solo {
-            cell: cell.as_str(),
-            shift: shift.as_str(),
-        }),
-        [verb, cell, shift, journal] if verb.as_str() == "run" => Some(Command::Run {
-            cell: cell.as_str(),
-            shift: shift.as_str(),
-            journal: journal.as_str(),
-        }),
-        [verb, cell, journal] if verb.as_str() == "plan" => Some(Command::Plan {
-            cell: cell.as_str(),
-            journal: journal.as_str(),
-        }),
-        [verb, cell, journal] if verb.as_str() == "drain" => Some(Command::Drain {
-            cell: cell.as_str(),
-            journal: journal.as_str(),
-        }),
-        [verb, cell, journal, step] if verb.as_str() == "why" => Some(Command::Why {
-            cell: cell.as_str(),
-            journal: journal.as_str(),
-            step: step.as_str(),
-        }),
-        [verb, cell, record_file] if verb.as_str() == "check" => Some(Command::Check {
-            cell: cell.as_str(),
-            record_file: record_file.as_str(),
-        }),
-        [verb, cell] if verb.as_str() == "show" => Some(Command::Show {
-            cell: cell.as_str(),
-        }),
+        [verb, a] => decide_one(verb.as_str(), a.as_str()),
+        [verb, a, b] => decide_two(verb.as_str(), a.as_str(), b.as_str()),
+        [verb, a, b, c] => decide_three(verb.as_str(), a.as_str(), b.as_str(), c.as_str()),
         _ => None,
     }
 }

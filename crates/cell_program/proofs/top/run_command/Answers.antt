@@ -8,7 +8,7 @@ returns-in-None-clause-ends g c =
     ends_at_none _ _ c.print_usage.result _ c.in-None.ensures.none
     (untouched g.D.Disk.reads_as g.D.Disk.may_leave g.D.Disk.moment g.D.Disk.left_since g.D.Disk.faults c.args.disk
     c.leaves_only_now.ensures)
-    c.print_usage.ensures
+    (rw c.usage.ensures at c.print_usage.ensures)
 
 pub returns-in-Some-Solo-clause-ends : goal.returns-in-Some-Solo-clause-ends
 returns-in-Some-Solo-clause-ends g c =
@@ -43,3 +43,43 @@ pub returns-in-Some-Show-clause-ends : goal.returns-in-Some-Show-clause-ends
 returns-in-Some-Show-clause-ends g c =
     ends_as _ _ c.run_show.result.status _ c.in-Some-Show.field-0 _ c.in-Some-Show.ensures.written c.in-Some-Show.field-0-is
     c.run_show.ensures.ends
+
+pub returns-in-Some-Make-clause-ends : goal.returns-in-Some-Make-clause-ends
+returns-in-Some-Make-clause-ends g c =
+    ends_as _ _ c.run_make.result.status _ c.in-Some-Make.field-0 _ c.in-Some-Make.ensures.written c.in-Some-Make.field-0-is
+    (rw c.usage-in-Some-Make.ensures at c.run_make.ensures.ends)
+
+pub returns-in-Some-Carry-clause-ends : goal.returns-in-Some-Carry-clause-ends
+returns-in-Some-Carry-clause-ends g c =
+    ends_as _ _ c.run_carry.result.status _ c.in-Some-Carry.field-0 _ c.in-Some-Carry.ensures.written c.in-Some-Carry.field-0-is
+    c.run_carry.ensures
+
+pub returns-in-Some-Begin-clause-ends : goal.returns-in-Some-Begin-clause-ends
+returns-in-Some-Begin-clause-ends g c =
+    ends_as _ _ c.run_begin.result.status _ c.in-Some-Begin.field-0 _ c.in-Some-Begin.ensures.written c.in-Some-Begin.field-0-is
+    c.run_begin.ensures
+
+pub returns-in-Some-Queue-clause-ends : goal.returns-in-Some-Queue-clause-ends
+returns-in-Some-Queue-clause-ends g c =
+    ends_as _ _ c.run_queue.result.status _ c.in-Some-Queue.field-0 _ c.in-Some-Queue.ensures.written c.in-Some-Queue.field-0-is
+    c.run_queue.ensures.ends
+
+pub returns-in-Some-Advise-clause-ends : goal.returns-in-Some-Advise-clause-ends
+returns-in-Some-Advise-clause-ends g c =
+    ends_as _ _ c.run_advise.result.status _ c.in-Some-Advise.field-0 _ c.in-Some-Advise.ensures.written c.in-Some-Advise.field-0-is
+    c.run_advise.ensures.ends
+
+pub returns-in-Some-Arrange-clause-ends : goal.returns-in-Some-Arrange-clause-ends
+returns-in-Some-Arrange-clause-ends g c =
+    ends_as _ _ c.run_arrange.result.status _ c.in-Some-Arrange.field-0 _ c.in-Some-Arrange.ensures.written c.in-Some-Arrange.field-0-is
+    c.run_arrange.ensures.ends
+
+pub returns-in-Some-Grants-clause-ends : goal.returns-in-Some-Grants-clause-ends
+returns-in-Some-Grants-clause-ends g c =
+    ends_as _ _ c.run_grants.result.status _ c.in-Some-Grants.field-0 _ c.in-Some-Grants.ensures.written c.in-Some-Grants.field-0-is
+    c.run_grants.ensures
+
+pub returns-in-Some-Parts-clause-ends : goal.returns-in-Some-Parts-clause-ends
+returns-in-Some-Parts-clause-ends g c =
+    ends_as _ _ c.run_parts.result.status _ c.in-Some-Parts.field-0 _ c.in-Some-Parts.ensures.written c.in-Some-Parts.field-0-is
+    c.run_parts.ensures
