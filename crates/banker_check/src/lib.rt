@@ -1,0 +1,40 @@
+//! The Banker's test beside the neighborhoods: a cell that grants whatever leaves it in a state that the policy admits, or
+//! in one whose parts can run to their ends in some order.
+//!
+//! The parts of a state are **ordered** where no resource holds more of them than it has units, and they can be listed so that each one
+//! finds a unit left on every resource of its way while those behind it stay where they are: the Banker's test of Dijkstra (1965), over
+//! the first-branch ways of the parts. `Hybrid` grants a load or a move where the policy admits the next state or its parts are ordered.
+//! It finds that by greed: a part that is not held up is taken out, again and again, and what is left at last is the largest set of parts
+//! that are stuck. That greed loses nothing is one of the `laws`.
+//!
+//! ```text
+//! let mut hybrid = Hybrid::open(alloc, cell)?;
+//! match hybrid.ask(&request) {
+//!     HybridReply::Granted => ..,                                       // and done
+//!     HybridReply::Refused(why) => ..,                                  // never for a full neighborhood
+//!     HybridReply::Blocked { at, count, capacity, stuck } => ..,        // `stuck` parts could never go on
+//! }
+//! let order = hybrid.order(alloc)?;                                     // whose part may run to its end first, second, ..
+//! ```
+//!
+//! A decision looks at each part and its way, for each round of greed. Only `open` and `order` take memory.
+#![tactic(auto)]
+
+mod changes;
+mod counts;
+mod deciding;
+mod held;
+mod hybrid;
+pub mod laws;
+mod lead_table;
+mod ordering;
+mod parts;
+mod planning;
+mod replies;
+mod rounds;
+
+pub use hybrid::Hybrid;
+pub use replies::HybridReply;
+
+#[cfg(test)]
+mod tests;

@@ -1,0 +1,4 @@
+pub mod Clauses
+pub mod Hybrid
+pub mod HybridRuns
+pub mod Lines

@@ -1,0 +1,17 @@
+//! The command `hybrid`: a shift in rounds, as `solo` runs it, under the hybrid policy.
+//!
+//! A load or a move is granted where the policy admits the next state, or where the parts could run to their ends in some order. A refusal
+//! in the place of a saturation has the reason `blocked`. The command is a walk in `specs/Hybrid`, and a function that goes it: its clause
+//! `Ends` says that what was put is an outcome that the walk allows.
+//!
+//! ```text
+//! let CommandEnd { status, disk } = run_hybrid(alloc, &mut files, &mut out, "cell.toml", "shift.toml", disk);
+//! ```
+#![tactic(auto)]
+
+mod command;
+mod lines;
+mod planning;
+mod printing;
+
+pub use command::{HybridRun, run_hybrid};
