@@ -4,7 +4,7 @@ use Rattle.std.proofs.Common.{◌≡◌, List, refl}
 use Rattle.cell_base.specs.declared.shifts.Grant.{Grant}
 use Rattle.cell_walks.specs.Promises.{OpensNone, OpensOnce}
 use Rattle.cell_walks.specs.Walks.{Answers, Opens, Purpose, Tests, Walk}
-use Rattle.cell_program.specs.Words.{Task, Solo, Run, Plan, Drain, Why, Check, Show, Make, Carry, Begin, Queue, Advise, Arrange, Grants, Parts, journal_of, walk_of}
+use Rattle.cell_program.specs.Words.{Task, Solo, Run, Plan, Drain, Why, Check, Show, Make, Carry, Begin, Hybrid, Queue, Advise, Arrange, Grants, Parts, journal_of, walk_of}
 
 -- each journal that it opens is opened for this
 abbrev OpensFor : Purpose → Walk → Type 0
@@ -23,6 +23,7 @@ as_told (Show cell) = λ held. tt
 as_told (Make number) = λ drawn. tt
 as_told (Carry cell journal other) = λ held new. (refl, λ grants requests. tt)
 as_told (Begin cell start journal) = λ held requests granted. (refl, λ grants first. tt)
+as_told (Hybrid cell shift) = λ held s. tt
 as_told (Queue cell shift) = λ held s. tt
 as_told (Advise cell) = λ held few. tt
 as_told (Arrange cell) = λ held few. tt
@@ -41,6 +42,7 @@ one_journal (Show cell) = λ held. tt
 one_journal (Make number) = λ drawn. tt
 one_journal (Carry cell journal other) = λ held new grants requests. tt
 one_journal (Begin cell start journal) = λ held requests granted grants first. tt
+one_journal (Hybrid cell shift) = λ held s. tt
 one_journal (Queue cell shift) = λ held s. tt
 one_journal (Advise cell) = λ held few. tt
 one_journal (Arrange cell) = λ held few. tt

@@ -18,7 +18,7 @@ use Rattle.cell_walks.specs.declared.early_end.Subject.TheVariants.{Words, Cell,
 use Rattle.cell_walks.specs.declared.status.Status.{Status}
 use Rattle.cell_walks.specs.declared.status.Status.TheVariants.{Done, Denied, DeviceFault, ReadFault, SinkFault}
 use Rattle.cell_commands.specs.Check.{verdict_status}
-use Rattle.cell_program.specs.Words.{Task, Solo, Run, Plan, Drain, Why, Check, Show, Make, Carry, Begin, Queue, Advise, Arrange, Grants, Parts, walk_of}
+use Rattle.cell_program.specs.Words.{Task, Solo, Run, Plan, Drain, Why, Check, Show, Make, Carry, Begin, Hybrid, Queue, Advise, Arrange, Grants, Parts, walk_of}
 
 -- a status that an answer has
 abbrev IsAnswers : Status → Type 0
@@ -65,6 +65,7 @@ answers_of (Make number) = λ drawn input outcome is. so outcome _ is.2 tt
 answers_of (Carry cell journal other) = λ held new grants requests input outcome is. so outcome _ is.is tt
 answers_of (Begin cell start journal) = λ held requests granted grants first input outcome is.
     elim is [ inl whole ↦ so outcome _ whole.is tt | inr halted ↦ so outcome _ halted.is tt ]
+answers_of (Hybrid cell shift) = λ held s input outcome is. so outcome _ is.2 tt
 answers_of (Queue cell shift) = λ held s input outcome is. so outcome _ is.printed tt
 answers_of (Advise cell) = λ held few input outcome is. so outcome _ is.is tt
 answers_of (Arrange cell) = λ held few input outcome is. so outcome _ is.is tt

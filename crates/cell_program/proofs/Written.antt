@@ -4,7 +4,7 @@ use Rattle.std.specs.Option.{option_map}
 use Rattle.std.specs.Str.{bytes_eq}
 use Rattle.std.proofs.Common.{◌≡◌, ℕ, List, [], ◌∷◌, Bool, true, false, Option, Some, None, codes, refl, sym, ap, ◌∙◌}
 use Rattle.std.proofs.lemmas.Slice.Eq.{bytes_eq-Decides}
-use Rattle.cell_program.specs.Words.{Task, Solo, Run, Plan, Drain, Why, Check, Show, Make, Carry, Begin, Queue, Advise, Arrange, Grants, Parts, words_of}
+use Rattle.cell_program.specs.Words.{Task, Solo, Run, Plan, Drain, Why, Check, Show, Make, Carry, Begin, Hybrid, Queue, Advise, Arrange, Grants, Parts, words_of}
 use Rattle.cell_program.specs.Deciding.{task_in, task_of}
 use Rattle.cell_program.specs.declared.words.Command.{Command}
 
@@ -20,6 +20,7 @@ decides (Show cell) = refl
 decides (Make number) = refl
 decides (Carry cell journal other) = refl
 decides (Begin cell start journal) = refl
+decides (Hybrid cell shift) = refl
 decides (Queue cell shift) = refl
 decides (Advise cell) = refl
 decides (Arrange cell) = refl
@@ -55,9 +56,10 @@ decided (verb ∷ a ∷ b ∷ []) task is =
     (where_verb verb (codes "plan") (a ∷ b ∷ []) (Plan a b) _ task refl
     (where_verb verb (codes "drain") (a ∷ b ∷ []) (Drain a b) _ task refl
     (where_verb verb (codes "check") (a ∷ b ∷ []) (Check a b) _ task refl
+    (where_verb verb (codes "hybrid") (a ∷ b ∷ []) (Hybrid a b) _ task refl
     (where_verb verb (codes "queue") (a ∷ b ∷ []) (Queue a b) _ task refl
     (where_verb verb (codes "grants") (a ∷ b ∷ []) (Grants a b) _ task refl
-    (where_verb verb (codes "parts") (a ∷ b ∷ []) (Parts a b) None task refl (λ none. absurd (cc)))))))) is
+    (where_verb verb (codes "parts") (a ∷ b ∷ []) (Parts a b) None task refl (λ none. absurd (cc))))))))) is
 decided (verb ∷ a ∷ b ∷ c ∷ []) task is =
     where_verb verb (codes "run") (a ∷ b ∷ c ∷ []) (Run a b c) _ task refl
     (where_verb verb (codes "why") (a ∷ b ∷ c ∷ []) (Why a b c) _ task refl

@@ -4,9 +4,9 @@ use Rattle.std.specs.Str.{bytes_eq}
 pub use Rattle.std.specs.Option.{option_and_then, option_map}
 pub use Rattle.std.specs.String.{string_bytes}
 use Rattle.cell_walks.specs.Walks.{ToAdd, ToRead}
-use Rattle.cell_program.specs.Words.{NamedJournal, Task, Solo as SoloTask, Run as RunTask, Plan as PlanTask, Drain as DrainTask, Why as WhyTask, Check as CheckTask, Show as ShowTask, Make as MakeTask, Carry as CarryTask, Begin as BeginTask, Queue as QueueTask, Advise as AdviseTask, Arrange as ArrangeTask, Grants as GrantsTask, Parts as PartsTask}
+use Rattle.cell_program.specs.Words.{NamedJournal, Task, Solo as SoloTask, Run as RunTask, Plan as PlanTask, Drain as DrainTask, Why as WhyTask, Check as CheckTask, Show as ShowTask, Make as MakeTask, Carry as CarryTask, Begin as BeginTask, Hybrid as HybridTask, Queue as QueueTask, Advise as AdviseTask, Arrange as ArrangeTask, Grants as GrantsTask, Parts as PartsTask}
 use Rattle.cell_program.specs.declared.words.Command.{Command}
-use Rattle.cell_program.specs.declared.words.Command.TheVariants.{Solo, Run, Plan, Drain, Why, Check, Show, Make, Carry, Begin, Queue, Advise, Arrange, Grants, Parts}
+use Rattle.cell_program.specs.declared.words.Command.TheVariants.{Solo, Run, Plan, Drain, Why, Check, Show, Make, Carry, Begin, Hybrid, Queue, Advise, Arrange, Grants, Parts}
 use Rattle.cell_program.specs.declared.words.Journal.{Journal}
 use Rattle.cell_program.specs.declared.words.Journal.TheVariants.{Read, Added}
 
@@ -22,6 +22,7 @@ task_in (Show cell) = ShowTask cell.now
 task_in (Make number) = MakeTask number.now
 task_in (Carry cell journal other) = CarryTask cell.now journal.now other.now
 task_in (Begin cell start journal) = BeginTask cell.now start.now journal.now
+task_in (Hybrid cell shift) = HybridTask cell.now shift.now
 task_in (Queue cell shift) = QueueTask cell.now shift.now
 task_in (Advise cell) = AdviseTask cell.now
 task_in (Arrange cell) = ArrangeTask cell.now
@@ -49,10 +50,11 @@ task_of_two verb a b =
     else (if bytes_eq verb (codes "plan") then Some (PlanTask a b)
     else (if bytes_eq verb (codes "drain") then Some (DrainTask a b)
     else (if bytes_eq verb (codes "check") then Some (CheckTask a b)
+    else (if bytes_eq verb (codes "hybrid") then Some (HybridTask a b)
     else (if bytes_eq verb (codes "queue") then Some (QueueTask a b)
     else (if bytes_eq verb (codes "grants") then Some (GrantsTask a b)
     else (if bytes_eq verb (codes "parts") then Some (PartsTask a b)
-    else None))))))
+    else None)))))))
 
 -- of a verb and three words
 abbrev pub task_of_three : List ℕ → List ℕ → List ℕ → List ℕ → Option Task

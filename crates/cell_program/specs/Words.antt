@@ -14,6 +14,7 @@ use Rattle.shift_commands.specs.Solo.{solo}
 use Rattle.make_command.specs.Make.{make}
 use Rattle.carry_commands.specs.Begin.{begin}
 use Rattle.carry_commands.specs.Carry.{carry}
+use Rattle.hybrid_command.specs.Hybrid.{hybrid}
 use Rattle.queue_command.specs.Queue.{queue}
 use Rattle.order_commands.specs.Orders.{advise, arrange}
 use Rattle.look_commands.specs.Grants.{grants}
@@ -31,6 +32,7 @@ pub data Task : Type 0 where
   Make : (number : List ℕ) → Task
   Carry : (cell journal other : List ℕ) → Task
   Begin : (cell start journal : List ℕ) → Task
+  Hybrid : (cell shift : List ℕ) → Task
   Queue : (cell shift : List ℕ) → Task
   Advise : (cell : List ℕ) → Task
   Arrange : (cell : List ℕ) → Task
@@ -49,6 +51,7 @@ words_of (Show cell) = codes "show" ∷ cell ∷ []
 words_of (Make number) = codes "make" ∷ number ∷ []
 words_of (Carry cell journal other) = codes "carry" ∷ cell ∷ journal ∷ other ∷ []
 words_of (Begin cell start journal) = codes "begin" ∷ cell ∷ start ∷ journal ∷ []
+words_of (Hybrid cell shift) = codes "hybrid" ∷ cell ∷ shift ∷ []
 words_of (Queue cell shift) = codes "queue" ∷ cell ∷ shift ∷ []
 words_of (Advise cell) = codes "advise" ∷ cell ∷ []
 words_of (Arrange cell) = codes "arrange" ∷ cell ∷ []
@@ -72,6 +75,7 @@ journal_of (Show cell) = None
 journal_of (Make number) = None
 journal_of (Carry cell journal other) = Some (record { name = journal; purpose = ToRead })
 journal_of (Begin cell start journal) = Some (record { name = journal; purpose = ToAdd })
+journal_of (Hybrid cell shift) = None
 journal_of (Queue cell shift) = None
 journal_of (Advise cell) = None
 journal_of (Arrange cell) = None
@@ -84,7 +88,7 @@ every_form =
     Solo (codes "CELL") (codes "SHIFT") ∷ Run (codes "CELL") (codes "SHIFT") (codes "JOURNAL") ∷ Plan (codes "CELL") (codes "JOURNAL")
     ∷ Drain (codes "CELL") (codes "JOURNAL") ∷ Why (codes "CELL") (codes "JOURNAL") (codes "STEP") ∷ Check (codes "CELL") (codes "RECORD")
     ∷ Show (codes "CELL") ∷ Make (codes "NUMBER") ∷ Carry (codes "CELL1") (codes "JOURNAL") (codes "CELL2")
-    ∷ Begin (codes "CELL") (codes "START") (codes "JOURNAL") ∷ Queue (codes "CELL") (codes "SHIFT") ∷ Advise (codes "CELL")
+    ∷ Begin (codes "CELL") (codes "START") (codes "JOURNAL") ∷ Hybrid (codes "CELL") (codes "SHIFT") ∷ Queue (codes "CELL") (codes "SHIFT") ∷ Advise (codes "CELL")
     ∷ Arrange (codes "CELL") ∷ Grants (codes "CELL") (codes "JOURNAL") ∷ Parts (codes "CELL") (codes "JOURNAL") ∷ []
 
 -- with a comma and a space between them
@@ -109,6 +113,7 @@ walk_of (Show cell) = show cell
 walk_of (Make number) = make usage_text number
 walk_of (Carry cell journal other) = carry cell other
 walk_of (Begin cell start journal) = begin cell start
+walk_of (Hybrid cell shift) = hybrid cell shift
 walk_of (Queue cell shift) = queue cell shift
 walk_of (Advise cell) = advise cell
 walk_of (Arrange cell) = arrange cell

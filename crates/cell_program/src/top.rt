@@ -12,6 +12,7 @@ use carry_commands::{run_begin, run_carry};
 use cell_commands::{run_check, run_drain, run_plan, run_show, run_why};
 use cell_texts::{CommandEnd, print_usage};
 use cell_walks::Status;
+use hybrid_command::run_hybrid;
 use look_commands::{run_grants, run_parts};
 use make_command::run_make;
 use order_commands::{run_advise, run_arrange};
@@ -110,6 +111,7 @@ fn run_command<R: Threads + Wait + Sync, F: Files, K: Sink, D: Disk + Send, P: P
         Some(Command::Make { number }) => run_make(alloc, files, out, number, usage(), disk),
         Some(Command::Carry { cell, other, .. }) => run_carry(alloc, files, out, cell, other, disk),
         Some(Command::Begin { cell, start, .. }) => run_begin(alloc, files, out, cell, start, disk),
+        Some(Command::Hybrid { cell, shift }) => run_hybrid(alloc, files, out, cell, shift, disk),
         Some(Command::Queue { cell, shift }) => run_queue(alloc, files, out, cell, shift, disk),
         Some(Command::Advise { cell }) => run_advise(alloc, files, out, cell, disk),
         Some(Command::Arrange { cell }) => run_arrange(alloc, files, out, cell, disk),
@@ -123,6 +125,6 @@ fn usage() -> &'static [u8]
     ensures { result.now ≡ usage_text }
 {
     b"usage: solo CELL SHIFT, run CELL SHIFT JOURNAL, plan CELL JOURNAL, drain CELL JOURNAL, why CELL JOURNAL STEP, check CELL RECORD, \
-      show CELL, make NUMBER, carry CELL1 JOURNAL CELL2, begin CELL START JOURNAL, queue CELL SHIFT, advise CELL, arrange CELL, \
-      grants CELL JOURNAL, parts CELL JOURNAL\n"
+      show CELL, make NUMBER, carry CELL1 JOURNAL CELL2, begin CELL START JOURNAL, hybrid CELL SHIFT, queue CELL SHIFT, \
+      advise CELL, arrange CELL, grants CELL JOURNAL, parts CELL JOURNAL\n"
 }

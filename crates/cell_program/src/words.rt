@@ -60,6 +60,11 @@ pub enum Command<'a> {
         start: &'a str,
         journal: &'a str,
     },
+    /// A shift under the policy and the Banker's test together.
+    Hybrid {
+        cell: &'a str,
+        shift: &'a str,
+    },
     /// A shift whose saturated requests wait on a board.
     Queue {
         cell: &'a str,
@@ -112,6 +117,7 @@ impl<'a> Command<'a> {
             | Command::Check { .. }
             | Command::Show { .. }
             | Command::Make { .. }
+            | Command::Hybrid { .. }
             | Command::Queue { .. }
             | Command::Advise { .. }
             | Command::Arrange { .. } => None,
@@ -157,6 +163,8 @@ fn decide_two<'a>(verb: &str, a: &'a str, b: &'a str) -> Option<Command<'a>>
             cell: a,
             record_file: b,
         })
+    } else if verb == "hybrid" {
+        Some(Command::Hybrid { cell: a, shift: b })
     } else if verb == "queue" {
         Some(Command::Queue { cell: a, shift: b })
     } else if verb == "grants" {

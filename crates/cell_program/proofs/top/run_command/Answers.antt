@@ -59,6 +59,11 @@ returns-in-Some-Begin-clause-ends g c =
     ends_as _ _ c.run_begin.result.status _ c.in-Some-Begin.field-0 _ c.in-Some-Begin.ensures.written c.in-Some-Begin.field-0-is
     c.run_begin.ensures
 
+pub returns-in-Some-Hybrid-clause-ends : goal.returns-in-Some-Hybrid-clause-ends
+returns-in-Some-Hybrid-clause-ends g c =
+    ends_as _ _ c.run_hybrid.result.status _ c.in-Some-Hybrid.field-0 _ c.in-Some-Hybrid.ensures.written c.in-Some-Hybrid.field-0-is
+    c.run_hybrid.ensures.ends
+
 pub returns-in-Some-Queue-clause-ends : goal.returns-in-Some-Queue-clause-ends
 returns-in-Some-Queue-clause-ends g c =
     ends_as _ _ c.run_queue.result.status _ c.in-Some-Queue.field-0 _ c.in-Some-Queue.ensures.written c.in-Some-Queue.field-0-is
