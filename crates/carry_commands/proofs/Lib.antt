@@ -2,6 +2,7 @@
 pub mod Asked
 pub mod Askings
 pub mod Began
+pub mod BeginTold
 pub mod CarriedParts
 pub mod CarryWalk
 pub mod Firsts

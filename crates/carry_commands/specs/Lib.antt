@@ -1,5 +1,6 @@
 pub mod Begin
 pub mod BeginClauses
+pub mod BeginTold
 pub mod Beginning
 pub mod Carried
 pub mod Carry

@@ -1,0 +1,47 @@
+-- What a `begin` tells, each fact by itself: the start was taken whole, or the writing of a request halted.
+use Rattle.std.specs.Prelude.{◌≡◌, ◌⊎◌, ℕ, List, [], ◌∷◌, ◌++◌, length, take}
+use Rattle.std.specs.List.{concat}
+use Rattle.outside_io.specs.Causes.{Rose}
+use Rattle.cell_base.specs.declared.cells.Cell.{Cell}
+use Rattle.cell_base.specs.declared.requests.Request.{Request}
+use Rattle.cell_base.specs.declared.shifts.Grant.{Grant}
+use Rattle.cell_base.specs.Histories.{after, replay}
+use Rattle.cell_base.specs.Plans.{Drains, plan_of}
+use Rattle.move_journal.specs.Journals.{StandsFor}
+use Rattle.record_text.specs.Records.{text_of_record}
+use Rattle.cell_walks.specs.DiskTold.{DiskTold, IsAlways, IsNow}
+use Rattle.cell_walks.specs.Outcomes.{Outcome}
+use Rattle.cell_walks.specs.declared.status.Status.TheVariants.{Done, DeviceFault}
+use Rattle.cell_commands.specs.Drain.{drained, drained_to}
+use Rattle.carry_commands.specs.Begin.{left_of}
+use Rattle.carry_commands.specs.Starts.{start_grants}
+
+-- the file stands for first grants of the start
+abbrev pub StandsForFirstOf : List ℕ → List Request → List ℕ → Type 0
+StandsForFirstOf text requests file = (count : ℕ) × StandsFor file text (take count (start_grants requests))
+
+-- Each request that the journal didn't hold yet was granted: the record of these is printed, with the plan that drains the state after them,
+-- and the disk stands for all requests of the start.
+pub record IsBegunWhole (disk : DiskTold) (cell : Cell) (text : List ℕ) (requests : List Request) (opening : List Grant)
+    (outcome : Outcome) : Type 0 where
+  pub status : outcome.status ≡ Done
+  pub drains : let left = after cell (replay cell opening) (drained (left_of requests opening)) in Drains cell left (plan_of cell left)
+  pub written : let history = drained (left_of requests opening) in let state = replay cell opening in concat outcome.pieces
+      ≡ text_of_record cell state 0 (length opening) history (plan_of cell (after cell state history))
+  pub stands : IsNow disk (λ file. StandsFor file text (start_grants requests))
+  pub any_moment : IsAlways disk (λ file. disk.leaves file ⊎ StandsForFirstOf text requests file)
+
+-- The writing of a request halted after those that were granted: the block that ends there is printed, and the disk stands for the grants
+-- before it, or for these and it.
+pub record IsHaltedBegin (disk : DiskTold) (cell : Cell) (text : List ℕ) (requests : List Request) (opening : List Grant)
+    (outcome : Outcome) : Type 0 where
+  pub first : List Request
+  pub last : Request
+  pub rest : List Request
+  pub parted : left_of requests opening ≡ first ++ last ∷ rest
+  pub status : outcome.status ≡ DeviceFault
+  pub written : concat outcome.pieces ≡ text_of_record cell (replay cell opening) 0 (length opening) (drained_to first last) []
+  pub stands : IsNow disk (λ file. StandsFor file text (opening ++ start_grants first)
+      ⊎ StandsFor file text (opening ++ start_grants (first ++ last ∷ [])))
+  pub any_moment : IsAlways disk (λ file. disk.leaves file ⊎ StandsForFirstOf text requests file)
+  pub cause : Rose disk.faults disk.faults_after
