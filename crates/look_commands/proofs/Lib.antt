@@ -1,6 +1,7 @@
 -- Lemmas, grouped by subject.
 pub mod Finding
-pub mod Standing
 pub mod Ranges
 pub mod Right
+pub mod Rows
+pub mod Standing
 pub mod Written
