@@ -2,7 +2,6 @@
 use Rattle.std.proofs.Common.{◌≡◌, List, [], ◌∷◌, ◌++◌, refl, ap}
 use Rattle.cell_base.specs.declared.cells.Cell.{Cell}
 use Rattle.cell_base.specs.declared.requests.Part.{Part}
-use Rattle.cell_base.specs.declared.requests.Request.{Request}
 use Rattle.banker_check.specs.Hybrid.{reply_h, state_after_h}
 use Rattle.hybrid_rounds.specs.declared.entries.HybridEntry.{HybridEntry}
 use Rattle.hybrid_rounds.specs.Histories.{IsLegalHybrid, after_h, all_taken, taken}
