@@ -1,8 +1,6 @@
 -- What the clauses of the command name.
 pub use Rattle.cell_base.specs.Fits.{CellFits, ShiftFits}
-pub use Rattle.cell_base.specs.Plans.{plan_of}
 pub use Rattle.record_text.specs.declared.line.TheConstants.{LINE_BYTES}
-pub use Rattle.cell_texts.specs.Blocks.{plan_lines, step_line}
-pub use Rattle.queue_command.specs.Lines.{BoardFits, EntryFits, WaiterFits, asked_line, board_lines, entry_line, left_lines, reason_words, still_line, told_lines}
+pub use Rattle.queue_command.specs.Lines.{BoardFits, EntryFits, WaiterFits, asked_line, board_lines, entry_line, reason_words, still_line, told_lines}
 pub use Rattle.queue_command.specs.Queue.{queue}
 pub use Rattle.queue_command.specs.QueueRuns.{IsQueueRun, queue_outcome}

@@ -3,7 +3,6 @@ use Rattle.std.specs.Prelude.{codes, ℕ, List, [], ◌∷◌, ◌++◌, length,
 use Rattle.std.specs.Fmt.{decimal}
 use Rattle.std.specs.List.{All}
 use Rattle.cell_base.specs.declared.cells.Cell.{Cell}
-use Rattle.cell_base.specs.declared.requests.Part.{Part}
 use Rattle.cell_base.specs.declared.requests.Reply.{Reply}
 use Rattle.cell_base.specs.declared.requests.Reply.TheVariants.{Granted, Refused}
 use Rattle.cell_base.specs.declared.requests.Request.{Request}
@@ -11,13 +10,13 @@ use Rattle.cell_base.specs.Fits.{RequestFits}
 use Rattle.cell_base.specs.Plans.{plan_of}
 use Rattle.step_text.specs.Steps.{request_words}
 use Rattle.record_text.specs.Fitting.{RefusalFits}
-use Rattle.record_text.specs.Lines.{left_words, line_of, why_words}
+use Rattle.record_text.specs.Lines.{line_of, why_words}
 use Rattle.wait_board.specs.declared.entries.BoardEntry.{BoardEntry}
 use Rattle.wait_board.specs.declared.entries.BoardTold.{BoardTold}
 use Rattle.wait_board.specs.declared.entries.BoardTold.TheVariants as told
 use Rattle.wait_board.specs.declared.waiter.Waiter.{Waiter}
 use Rattle.wait_board.specs.Boards.{OnBoard}
-use Rattle.cell_texts.specs.Blocks.{Lines, plan_lines}
+use Rattle.cell_texts.specs.Blocks.{Lines, left_lines}
 
 -- the line of a session and a request, with words of what came of it
 abbrev pub asked_line : Cell → ℕ → Request → List (List ℕ) → List ℕ
@@ -44,17 +43,13 @@ entry_line cell entry = asked_line cell entry.session entry.request (told_words 
 abbrev pub still_line : Cell → Waiter → List ℕ
 still_line cell waiter = asked_line cell waiter.session waiter.request (codes "still" ∷ why_words cell waiter.refusal)
 
--- the number of the parts that are left, and the plan that takes them out
-abbrev pub left_lines : Cell → List Part → Lines
-left_lines cell parts = line_of (left_words (length parts)) ∷ plan_lines cell (plan_of cell parts)
-
 -- each entry, in their order, and then each session that waits, in the order in which they began to
 abbrev pub told_lines : Cell → OnBoard → Lines
 told_lines cell on = map (entry_line cell) on.history ++ map (still_line cell) on.waiters
 
 -- the lines of a board: what was told, what is left, and its plan
 unfoldable pub board_lines : Cell → OnBoard → Lines
-board_lines cell on = told_lines cell on ++ left_lines cell on.parts
+board_lines cell on = told_lines cell on ++ left_lines cell (length on.parts) (plan_of cell on.parts)
 
 -- ---- entries that have a line
 

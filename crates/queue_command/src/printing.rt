@@ -2,15 +2,13 @@
 ghost use Rattle.std.specs.Prelude.{◌≡◌, [], ◌∷◌, map, OnOk, OnErr};
 ghost use Rattle.std.specs.List.{All};
 ghost use Rattle.cell_walks.specs.Clauses.{HasCause, TookAll, TookSome, sink_told};
-ghost use Rattle.queue_command.specs.Clauses.{BoardFits, EntryFits, WaiterFits, board_lines, entry_line, left_lines, plan_lines, plan_of, still_line, step_line, told_lines};
+ghost use Rattle.queue_command.specs.Clauses.{BoardFits, EntryFits, WaiterFits, board_lines, entry_line, still_line, told_lines};
 
 use crate::lines::{write_entry, write_still};
-use admission_core::Core;
 use cell_base::Cell;
-use cell_texts::print_line;
-use drain_planner::Drainer;
+use cell_texts::{print_left, print_line};
 use outside_io::{Failed, Sink};
-use record_text::{Line, left_line, plan_line, write_step};
+use record_text::Line;
 use wait_board::{Board, BoardEntry, Waiter};
 
 /// Puts each entry, each session that waits, the number of the parts that are left, and their plan, up to the first line that the sink
@@ -74,54 +72,6 @@ fn print_waiters<K: Sink>(out: &mut K, cell: &Cell, waiters: &[Waiter]) -> Resul
     let mut line = Line::new();
     for waiter in waiters {
         write_still(&mut line, cell, waiter);
-        if let Err(failed) = print_line(out, &line) {
-            return Err(failed);
-        }
-    }
-    Ok(())
-}
-
-// Puts the number of the parts that are left, how many steps their plan has, and each step.
-fn print_left<K: Sink>(out: &mut K, core: Core) -> Result<(), Failed>
-    ensures whole { OnOk result (TookAll (sink_told K.taken K.was_put K.faults out.old out.new) (left_lines core.cell core.parts)) }
-    ensures part { OnErr result (TookSome (sink_told K.taken K.was_put K.faults out.old out.new) (left_lines core.cell core.parts)) }
-    ensures cause { HasCause (K.faults out.old) (K.faults out.new) result }
-{
-    if let Err(failed) = print_line(out, &left_line(core.parts_left())) {
-        return Err(failed);
-    }
-    print_plan(out, &mut Drainer::new(core))
-}
-
-// Puts how many steps the plan has, and the line of each.
-fn print_plan<K: Sink>(out: &mut K, drainer: &mut Drainer) -> Result<(), Failed>
-    ensures whole { OnOk result
-        (TookAll (sink_told K.taken K.was_put K.faults out.old out.new)
-        (plan_lines drainer.old.cell (plan_of drainer.old.cell drainer.old.parts))) }
-    ensures part { OnErr result
-        (TookSome (sink_told K.taken K.was_put K.faults out.old out.new)
-        (plan_lines drainer.old.cell (plan_of drainer.old.cell drainer.old.parts))) }
-    ensures cause { HasCause (K.faults out.old) (K.faults out.new) result }
-{
-    if let Err(failed) = print_line(out, &plan_line(drainer.length())) {
-        return Err(failed);
-    }
-    print_steps(out, drainer)
-}
-
-// Puts the line of each step.
-fn print_steps<K: Sink>(out: &mut K, drainer: &mut Drainer) -> Result<(), Failed>
-    ensures whole { OnOk result
-        (TookAll (sink_told K.taken K.was_put K.faults out.old out.new)
-        (map (step_line drainer.old.cell) (plan_of drainer.old.cell drainer.old.parts))) }
-    ensures part { OnErr result
-        (TookSome (sink_told K.taken K.was_put K.faults out.old out.new)
-        (map (step_line drainer.old.cell) (plan_of drainer.old.cell drainer.old.parts))) }
-    ensures cause { HasCause (K.faults out.old) (K.faults out.new) result }
-{
-    let mut line = Line::new();
-    while let Some(step) = drainer.next() {
-        write_step(&mut line, drainer.cell(), &step);
         if let Err(failed) = print_line(out, &line) {
             return Err(failed);
         }
