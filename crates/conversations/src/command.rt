@@ -13,7 +13,10 @@ pub fn journal_of(words: &[String]) -> &str {
 pub fn files_of(words: &[String]) -> u64 {
     if is_one_of(words, &["make"]) {
         0
-    } else if is_one_of(words, &["solo", "run", "check", "carry", "begin", "hybrid", "queue"]) {
+    } else if is_one_of(
+        words,
+        &["solo", "run", "check", "carry", "begin", "hybrid", "queue"],
+    ) {
         2
     } else {
         1
