@@ -10,7 +10,7 @@ import struct
 import tomllib
 
 NAME = b"RUNCELL1"
-KINDS = {"load": 1, "process": 2, "move": 3, "unload": 4}
+KINDS = {"load": 1, "process": 2, "move": 3, "unload": 4, "place": 5}
 
 
 class Numbers:
@@ -34,12 +34,14 @@ def entry(numbers, step, session, shift):
         argument = numbers.resources[words[1]]
     if words[0] == "move" and len(words) == 3:
         argument = int(words[2])
-    return struct.pack(">BBHIII", kind, 0, session, shift, job, argument)
+    if words[0] == "place":
+        argument = numbers.types[words[2]] << 16 | int(words[3])
+    return struct.pack(">BBHIII", kind, words[-1] == "done" and words[0] == "place", session, shift, job, argument)
 
 
 def step_in(numbers, data):
     """The session of an entry, and the words of its step."""
-    kind, _, session, _, job, argument = struct.unpack(">BBHIII", data)
+    kind, is_done, session, _, job, argument = struct.unpack(">BBHIII", data)
     verb = {number: word for word, number in KINDS.items()}[kind]
     words = [verb] if verb == "process" else [verb, str(job)]
     if verb == "load":
@@ -48,6 +50,8 @@ def step_in(numbers, data):
         words.append(list(numbers.resources)[argument])
     if verb == "move" and argument:
         words.append(str(argument))
+    if verb == "place":
+        words += [list(numbers.types)[argument >> 16], str(argument & 0xFFFF), "done" if is_done else "waiting"]
     return [str(session), *words]
 
 
