@@ -4,7 +4,8 @@
 // and 0 fails none. A call that fails answers the error ERROR, or else one of the device (EIO). With SHORT set a pwrite takes one byte
 // before it fails, the first part of a torn write, and a write takes one byte and answers so, and the next one fails. With SLOW set each
 // fdatasync takes so many microseconds more. At the end the number of calls of that kind goes into the file named COUNT, and what was done
-// to the device into the file named TRACE, a line for each pwrite, with its offset and length, fdatasync and fsync.
+// to the device into the file named TRACE, a line for each pwrite, with its offset and length, fdatasync and fsync; with WRITES set also
+// one for each write, with its length.
 //
 // Two outsides that are hard to come by are played: with TYPE set each regular file is told to be of that type (of st_mode, in octal)
 // and, as a device is, of no bytes; with READ_ONLY set no file is opened for writing, and locks and syncs aren't known, as on some
@@ -23,7 +24,7 @@
 #include <unistd.h>
 
 static unsigned long calls, failing, slow, type;
-static int error = EIO, is_short, is_read_only, next_fails;
+static int error = EIO, is_short, is_read_only, tells_writes, next_fails;
 static char kind[16], count_path[4096];
 static FILE *trace;
 
@@ -40,6 +41,7 @@ __attribute__((constructor)) static void start(void) {
   type = number_of("TYPE", 8, 0);
   is_short = getenv("SHORT") != NULL;
   is_read_only = getenv("READ_ONLY") != NULL;
+  tells_writes = getenv("WRITES") != NULL;
   trace = told ? fopen(told, "w") : NULL;
   if (of)
     strncpy(kind, of, sizeof kind - 1);
@@ -112,6 +114,8 @@ ssize_t pwrite(int file, const void *bytes, size_t size, off_t at) {
 ssize_t pwrite64(int file, const void *bytes, size_t size, off64_t at) { return pwrite(file, bytes, size, at); }
 
 ssize_t write(int file, const void *bytes, size_t size) {
+  if (trace && tells_writes)
+    fprintf(trace, "write %lu\n", (unsigned long)size);
   if (next_fails || (fails("write") && !is_short)) {
     next_fails = 0;
     errno = error;

@@ -78,14 +78,28 @@ def entries_in(data, text):
     return found if at < len(data) else None
 
 
+def frames(entries):
+    """The frames of these entries: the number of each, from 0, and its bytes."""
+    return [struct.pack(">Q", number) + one for number, one in enumerate(entries)]
+
+
 def granted(numbers, lines, shift):
-    """The entries of the lines of a record that say `granted`."""
+    """The entries of the lines of a record, or of a server, by which steps were granted."""
     found = []
     for line in lines:
         words = line.split(" ")
-        if words[-1] == "granted":
+        if words[-1] == "granted" and words[0] != "why":
             found.append(entry(numbers, " ".join(words[1:-1]), int(words[0]), shift))
     return found
+
+
+def halted_block(numbers, entries):
+    """The record of these grants, in whose last line the writing failed: after it the grants may go on with that one counted."""
+    if not entries:
+        return b""
+    lines = [" ".join(step_in(numbers, entry)) for entry in entries]
+    block = ["shift 1 after 0", *(f"{line} granted" for line in lines[:-1]), f"{lines[-1]} halted"]
+    return "\n".join(block).encode() + b"\n"
 
 
 def keep(file, cell):

@@ -4,17 +4,18 @@ _wishkabe() {
   local word=${COMP_WORDS[COMP_CWORD]} kinds
   COMPREPLY=()
   if [ "$COMP_CWORD" -eq 1 ]; then
-    mapfile -t COMPREPLY < <(compgen -W 'solo run plan drain why check show make carry begin hybrid queue advise arrange grants parts' -- "$word")
+    mapfile -t COMPREPLY < <(
+      compgen -W 'solo run plan drain why check show make carry begin hybrid queue advise arrange grants parts serve feed follow' -- "$word")
     return
   fi
   case ${COMP_WORDS[1]} in
     solo | hybrid | queue) kinds='toml toml' ;;
     run) kinds='toml toml file' ;;
-    plan | drain | check | grants | parts) kinds='toml file' ;;
-    why) kinds='toml file none' ;;
+    plan | drain | check | grants | parts | serve) kinds='toml file' ;;
+    why | feed) kinds='toml file none' ;;
     show | advise | arrange) kinds='toml' ;;
     carry) kinds='toml file toml' ;;
-    begin) kinds='toml file file' ;;
+    begin | follow) kinds='toml file file' ;;
     *) return ;;
   esac
   read -ra kinds <<<"$kinds"

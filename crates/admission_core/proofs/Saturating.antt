@@ -1,5 +1,6 @@
 -- The first full neighborhood of a mask is the first that would hold too many parts.
-use Rattle.std.proofs.Common.{◌≡◌, ℕ, ◌+◌, ◌<◌, ◌≤◌, ap₂, refl, Bool, true, false, cond, ◌&&◌, nat_lt, nat_le, max, List, [], ◌∷◌, ◌++◌, length, Contains, find, get_or, ap, sym, ◌∙◌, ⊎_elim, arith}
+use Rattle.std.proofs.Common.{◌≡◌, ℕ, ◌+◌, ◌<◌, ◌≤◌, ap₂, refl, Bool, true, false, cond, ◌&&◌, nat_lt, nat_le, max}
+use Rattle.std.proofs.Common.{List, [], ◌∷◌, ◌++◌, length, Contains, find, get_or, ap, sym, ◌∙◌, ⊎_elim, arith}
 use Rattle.std.specs.List.{range_with_len}
 use Rattle.std.specs.Int.{bit_at}
 use Rattle.std.proofs.lemmas.Bool.{cases_lt, lt-ltb, le-ltb, le-leb, lt-leb}
@@ -41,7 +42,8 @@ module _ (cell : Cell) (fits : CellFits cell) (held : Counted) (parts : List Par
       ∙ find_agree (λ r. has_bit mask r && nat_le (get_or held.capacities r 0) (get_or held.counts r 0))
       (λ r. nat_lt (capacity_of cell r) (count cell next r)) (range_with_len 0 (length cell.resources))
       (all_numbers (length cell.resources)
-      (λ r. (has_bit mask r && nat_le (get_or held.capacities r 0) (get_or held.counts r 0)) ≡ nat_lt (capacity_of cell r) (count cell next r))
+      (λ r. (has_bit mask r && nat_le (get_or held.capacities r 0) (get_or held.counts r 0))
+      ≡ nat_lt (capacity_of cell r) (count cell next r))
       (λ r h. ap (λ units. has_bit mask r && nat_le units (get_or held.counts r 0)) (are.capacities r h)
       ∙ ap (λ now. has_bit mask r && nat_le (capacity_of cell r) now) (are.each r h)
       ∙ over_by (has_bit mask r) (capacity_of cell r) (count cell parts r) (count cell next r) (within r h) (more r) (same r)))
@@ -91,7 +93,7 @@ module _ (cell : Cell) (fits : CellFits cell) (held : Counted) (parts : List Par
       mask_is_of t r (has_bit-of_one (mask_of cell t) r (bit_at-mask_of cell fits t r ∙ (only_one t s r e).0))
 
   module _ (part next : Part) (distinct : HaveDistinctJobs parts) (stands : Contains parts part) where
-    -- the count behind a move
+    -- the count after a move
     moved_count : (r : ℕ) → count cell (without parts part.job ++ next ∷ []) r + share cell r (stage_of part)
         ≡ count cell parts r + share cell r (stage_of next)
     moved_count r = omega (arith, count_push cell (without parts part.job) next r, count-without cell parts part r distinct stands)

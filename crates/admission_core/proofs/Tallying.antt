@@ -1,5 +1,6 @@
 -- The numbers that run along with the parts, after each change.
-use Rattle.std.proofs.Common.{◌≡◌, ℕ, ◌+◌, ◌*◌, ◌<◌, ◌≤◌, Bool, true, false, cond, List, [], ◌∷◌, ◌++◌, length, All, Contains, find, get_or, Some, ap, sym, ◌∙◌, arith}
+use Rattle.std.proofs.Common.{◌≡◌, ℕ, ◌+◌, ◌*◌, ◌<◌, ◌≤◌, Bool, true, false, cond, List, [], ◌∷◌}
+use Rattle.std.proofs.Common.{◌++◌, length, All, Contains, find, get_or, Some, ap, sym, ◌∙◌, arith}
 use Rattle.std.specs.Int.{bit_at}
 use Rattle.std.proofs.lemmas.List.Elements.{All-weaker}
 use Rattle.std.proofs.lemmas.List.Sums.{sum_by_push, sum_by-le}
@@ -35,7 +36,14 @@ module _ (cell : Cell) (fits : CellFits cell) (parts : List Part) where
     pub counts_entered : (part : Part) (mask : ℕ) → mask ≡ mask_of cell (stage_of part)
         → ((r : ℕ) → get_or next.counts r 0 ≡ get_or held.counts r 0 + bit_at mask r) → AreCounts cell (parts ++ part ∷ []) next
     counts_entered part mask is more = counts_with (parts ++ part ∷ []) (λ r h.
-        omega (arith, more r, are.each r h, ap (λ m. bit_at m r) is, bit_at-mask_of cell fits (stage_of part) r, count_push cell parts part r))
+        omega (
+          arith,
+          more r,
+          are.each r h,
+          ap (λ m. bit_at m r) is,
+          bit_at-mask_of cell fits (stage_of part) r,
+          count_push cell parts part r,
+        ))
 
     module _ (part : Part) (distinct : HaveDistinctJobs parts) (stands : Contains parts part) where
       pub counts_left : (mask : ℕ) → mask ≡ mask_of cell (stage_of part)

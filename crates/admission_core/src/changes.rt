@@ -1,11 +1,8 @@
 //! The changes of granted requests.
 ghost use Rattle.std.specs.Prelude.{◌≡◌, ◌++◌, ◌∷◌, [], Some, None};
-ghost use Rattle.cell_base.specs.declared.requests.Request.TheVariants.{Process};
-ghost use Rattle.cell_base.specs.declared.requests.Reply.TheVariants.{Granted};
-ghost use Rattle.cell_base.specs.Stages.{IsStage, stage_of};
 ghost use Rattle.cell_base.specs.Policy.{first_over};
-ghost use Rattle.cell_base.specs.Outcomes.{part_of, without, finish_first, is_waiting_on, outcome_of_entry, outcome_of_move, reply_to, state_after};
-ghost use Rattle.cell_base.specs.Fits.{RequestFits};
+ghost use Rattle.cell_base.specs.Outcomes.{finish_first, is_waiting_on, outcome_of_entry, outcome_of_move, without};
+ghost use Rattle.admission_core.specs.Clauses.{Granted, IsStage, Process, RequestFits, part_of, reply_to, stage_of, state_after};
 ghost use Rattle.admission_core.specs.CoreState.{IsSound, IsTallied};
 
 use crate::lead_table::LeadTable;

@@ -1,13 +1,7 @@
 //! What the policy never refuses, each the contract of a function that does nothing.
 ghost use Rattle.std.specs.Prelude.{◌≡◌, ◌≢◌, ℕ, ◌≤◌};
-ghost use Rattle.cell_base.specs.declared.cells.ResId.{ResId};
-ghost use Rattle.cell_base.specs.declared.requests.Part.{Part};
-ghost use Rattle.cell_base.specs.declared.requests.Request.TheVariants.{Move, Unload};
-ghost use Rattle.cell_base.specs.declared.requests.Refusal.TheVariants.{Saturated};
-ghost use Rattle.cell_base.specs.declared.requests.Reply.TheVariants.{Granted, Refused};
-ghost use Rattle.cell_base.specs.Stages.{Stage, stage_of, order_at};
-ghost use Rattle.cell_base.specs.Outcomes.{reply_to};
 ghost use Rattle.policy_laws.specs.Laws.{MayMove};
+ghost use Rattle.admission_core.specs.Clauses.{Granted, Move, Part, Refused, ResId, Saturated, Stage, Unload, order_at, reply_to, stage_of};
 
 use crate::Core;
 use cell_base::JobId;

@@ -1,11 +1,8 @@
 //! Replies to requests.
 ghost use Rattle.std.specs.Prelude.{◌≡◌, List, Some};
-ghost use Rattle.cell_base.specs.declared.requests.Part.{Part};
-ghost use Rattle.cell_base.specs.declared.requests.Request.TheVariants.{Process};
-ghost use Rattle.cell_base.specs.Stages.{IsStage, stage_of};
-ghost use Rattle.cell_base.specs.Outcomes.{part_of, outcome_of_process, outcome_of_entry, outcome_of_move, outcome_of_unload, reply_to};
-ghost use Rattle.cell_base.specs.Fits.{RequestFits};
+ghost use Rattle.cell_base.specs.Outcomes.{outcome_of_process, outcome_of_entry, outcome_of_move, outcome_of_unload};
 ghost use Rattle.neighborhood_counts.specs.Counts.{IsMaskOf, first_full};
+ghost use Rattle.admission_core.specs.Clauses.{IsStage, Part, Process, RequestFits, part_of, reply_to, stage_of};
 ghost use Rattle.admission_core.specs.CoreState.{IsSound};
 ghost use Rattle.admission_core.specs.Replies.{reply_at};
 

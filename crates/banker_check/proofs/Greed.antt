@@ -11,7 +11,7 @@ use Rattle.cell_base.specs.Stages.{capacity_of}
 use Rattle.cell_base.specs.Policy.{is_of_job, HaveDistinctJobs}
 use Rattle.cell_base.specs.Outcomes.{without}
 use Rattle.policy_laws.proofs.Lists.{Contains-head, Contains-tail, Contains-cases, list_any-found, list_any-Contains, list_all-Contains, All-from_Contains}
-use Rattle.policy_laws.proofs.Parts.{is_of_job-same, IsOther, distinct_behind, distinct-without, without-others}
+use Rattle.policy_laws.proofs.Parts.{is_of_job-same, IsOther, distinct_after, distinct-without, without-others}
 use Rattle.policy_laws.proofs.States.{IsState-without}
 use Rattle.banker_check.specs.Ways.{way, held, is_full, is_held_up, CanRun}
 use Rattle.banker_check.specs.StuckSets.{is_stuck, sublists, stuck}
@@ -71,7 +71,7 @@ module _ (cell : Cell) where
       (distinct-without (first ∷ behind) first.job distinct) left first
       (runs-free behind first turns.0) in
       let kept = stays (first ∷ behind) set first distinct apart stuck within (Contains-head first behind) free in
-      turns-loose behind set (distinct_behind first behind distinct) turns.1 apart stuck (λ part c. left part (kept part c))
+      turns-loose behind set (distinct_after first behind distinct) turns.1 apart stuck (λ part c. left part (kept part c))
 
   -- no set of the parts is stuck but the empty one
   abbrev pub IsLoose : List Part → Type 0

@@ -164,7 +164,7 @@ module _ (cell : Cell) (parts : List Part) where
       at None e f = inl (record { state = state; within = within-first_over cell next e })
       at (Some r) e f = tested (is_ordered cell next) r refl f
 
-  -- the state behind it is hybrid where the state before it is
+  -- the state after it is hybrid where the state before it is
   admit_h-hybrid : (next : List Part) → IsState cell next → IsHybrid cell parts → IsHybrid cell (admit_h cell parts next).1
   admit_h-hybrid next state hybrid = at (first_over cell next) refl
     where

@@ -15,7 +15,7 @@ use Rattle.banker_check.specs.declared.replies.HybridReply.TheVariants.{Granted}
 use Rattle.cell_base.specs.Stages.{Stage, IsStage, stage_of, is_last, successors, successor}
 use Rattle.cell_base.specs.Policy.{IsAdmitted, is_admitted}
 use Rattle.cell_base.specs.Outcomes.{arrival, without, is_waiting_on, finish_first, state_after}
-use Rattle.cell_base.specs.Plans.{place_of, step_of, plan_step, work_of, work}
+use Rattle.cell_base.specs.Plans.{resource_of_part, step_of, plan_step, work_of, work}
 use Rattle.cell_base.specs.Fits.{CellFits, RequestFits}
 use Rattle.cell_base.proofs.Admission.{admitted_by_test}
 use Rattle.policy_laws.specs.Laws.{Advances}
@@ -55,10 +55,10 @@ module _ (cell : Cell) (fits : CellFits cell) (parts : List Part) where
     standing : IsStage cell (stage_of part)
     standing = All-contains (λ part. IsStage cell (stage_of part)) parts part ordered.state.standing c
 
-    process_advances : part.done ≡ false → AdvancesHybrid cell parts (Process (record { 0 = place_of cell part }))
+    process_advances : part.done ≡ false → AdvancesHybrid cell parts (Process (record { 0 = resource_of_part cell part }))
     process_advances waiting =
-        let machine : ResId = record { 0 = place_of cell part } in
-        let test = is_waiting_on cell (place_of cell part) in
+        let machine : ResId = record { 0 = resource_of_part cell part } in
+        let test = is_waiting_on cell (resource_of_part cell part) in
         let passes : test part ≡ true = and_from _ _ (not_from_false part.done waiting) (eq-eqb _ _ refl) in
         let first = find_some test parts part c passes in
         let unfinished : first.0.done ≡ false = not-true _ (and_parts _ _ (find_passes test parts first.0 first.1)).0 in
@@ -101,7 +101,7 @@ module _ (cell : Cell) (fits : CellFits cell) (parts : List Part) where
     ordered_advances : goes_first cell parts part ≡ true → AdvancesHybrid cell parts (step_of cell part)
     ordered_advances goes =
         let onward : Request = if is_last cell (stage_of part) then Unload part.job else Move part.job 0 in
-        let work_there : Request = Process (record { 0 = place_of cell part }) in
+        let work_there : Request = Process (record { 0 = resource_of_part cell part }) in
         cond_both (not part.done) work_there onward (AdvancesHybrid cell parts) (λ e. process_advances (not-true _ e))
         (λ e. cond_both (is_last cell (stage_of part)) (Unload part.job) (Move part.job 0) (AdvancesHybrid cell parts)
         (unload_advances (not-false _ e)) (move_advances (not-true _ goes) (not-false _ e)))

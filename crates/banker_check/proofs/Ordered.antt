@@ -9,7 +9,7 @@ use Rattle.cell_base.specs.declared.requests.Part.{Part}
 use Rattle.cell_base.specs.Stages.{Stage, IsStage, stage_of, successors, successor, resource_at, resource_numbers, capacity_of, first_branch_path}
 use Rattle.cell_base.specs.Policy.{is_of_job, IsState, is_state}
 use Rattle.cell_base.specs.Outcomes.{without, arrival, finish_first}
-use Rattle.cell_base.specs.Plans.{place_of}
+use Rattle.cell_base.specs.Plans.{resource_of_part}
 use Rattle.cell_base.specs.Fits.{CellFits}
 use Rattle.cell_base.proofs.Admission.{state_by_test, all_numbers, each_number}
 use Rattle.policy_laws.proofs.Lists.{Contains-slice_get}
@@ -114,7 +114,7 @@ module _ (cell : Cell) (fits : CellFits cell) (parts : List Part) (part : Part) 
       left : IsOrdered cell others
       left = ordered-without cell parts part.job ordered
 
-      place : place_of cell arrived ≡ resource_at cell to
+      place : resource_of_part cell arrived ≡ resource_at cell to
       place = ap (resource_at cell) (arrival_stage cell fits part to next)
 
       room : All (λ r. held cell others r < capacity_of cell r) (resource_at cell to ∷ way cell arrived)

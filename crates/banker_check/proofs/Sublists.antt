@@ -7,7 +7,7 @@ use Rattle.cell_base.specs.declared.cells.Cell.{Cell}
 use Rattle.cell_base.specs.declared.requests.Part.{Part}
 use Rattle.cell_base.specs.Policy.{HaveDistinctJobs}
 use Rattle.policy_laws.proofs.Lists.{All-from_Contains, Contains-map, Contains-head, Contains-tail, Contains-none, Contains-cases}
-use Rattle.policy_laws.proofs.Parts.{IsOther, others_behind, distinct_behind}
+use Rattle.policy_laws.proofs.Parts.{IsOther, others_after, distinct_after}
 use Rattle.banker_check.specs.StuckSets.{is_stuck, sublists, largest, stuck}
 use Rattle.banker_check.proofs.Within.{Within, filter-kept, filter-keeps}
 
@@ -20,7 +20,7 @@ pub sublists-parts : (parts : List Part) → HaveDistinctJobs parts → All (IsP
 sublists-parts [] distinct =
     All-cons (IsPartOf []) [] [] (record { distinct = distinct; within = λ part c. c }) (All-nil (IsPartOf []))
 sublists-parts (first ∷ parts) distinct =
-    let later = sublists-parts parts (distinct_behind first parts distinct) in
+    let later = sublists-parts parts (distinct_after first parts distinct) in
     All-append (IsPartOf (first ∷ parts)) (map (λ set. first ∷ set) (sublists parts)) (sublists parts)
     (All-map (IsPartOf (first ∷ parts)) (λ set. first ∷ set) (sublists parts)
     (All-weaker (IsPartOf parts) (λ set. IsPartOf (first ∷ parts) (first ∷ set)) with_it (sublists parts) later))
@@ -31,7 +31,7 @@ sublists-parts (first ∷ parts) distinct =
     with_it set h = record {
       distinct = AllPairs-cons (λ a b. a.job ≢ b.job) first set
           (All-from_Contains (IsOther first.job) set (λ part c. All-contains (IsOther first.job) parts part
-          (others_behind first parts distinct) (h.within part c)))
+          (others_after first parts distinct) (h.within part c)))
           h.distinct;
       within = λ part c. ⊎_elim (λ same. subst (λ p. Contains (first ∷ parts) p) same (Contains-head first parts))
           (λ d. Contains-tail first part parts (h.within part d)) (Contains-cases first part set c);

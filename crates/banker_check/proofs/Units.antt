@@ -11,7 +11,8 @@ use Rattle.cell_base.specs.declared.cells.Cell.{Cell}
 use Rattle.cell_base.specs.declared.cells.Resource.{Resource}
 use Rattle.cell_base.specs.declared.requests.Part.{Part}
 use Rattle.cell_base.specs.Stages.{IsStage, stage_of, capacity_of}
-use Rattle.cell_base.specs.Plans.{place_of}
+use Rattle.cell_base.specs.Policy.{IsState}
+use Rattle.cell_base.specs.Plans.{resource_of_part}
 use Rattle.cell_base.specs.Fits.{CellFits, units_of}
 use Rattle.policy_laws.proofs.Stages.{resource_within}
 use Rattle.policy_laws.proofs.Units.{total, units_law}
@@ -51,9 +52,9 @@ module _ (cell : Cell) where
       let others = filter (stands_on cell r) parts in
       cond_both (stands_on cell r part) (part ∷ others) others (λ ys. held cell parts r ≤ length ys) (λ e. omega arith) (λ e. omega arith)
 
-  held-cons_own : (part : Part) (parts : List Part) → held cell parts (place_of cell part) + 1 ≤ held cell (part ∷ parts)
-      (place_of cell part)
-  held-cons_own part parts = rw (eq-eqb (place_of cell part) (place_of cell part) refl) (omega arith)
+  held-cons_own : (part : Part) (parts : List Part) → held cell parts (resource_of_part cell part) + 1 ≤ held cell (part ∷ parts)
+      (resource_of_part cell part)
+  held-cons_own part parts = rw (eq-eqb (resource_of_part cell part) (resource_of_part cell part) refl) (omega arith)
 
   module _ (fits : CellFits cell) where
     length-le-held : (parts : List Part) → All (λ part. IsStage cell (stage_of part)) parts
@@ -64,7 +65,7 @@ module _ (cell : Cell) where
         omega (
           arith,
           length-le-held parts (All-tail (λ other. IsStage cell (stage_of other)) part parts standing),
-          total-lt (held cell parts) (held cell (part ∷ parts)) (length cell.resources) (place_of cell part) (λ q h. held-cons part parts q)
+          total-lt (held cell parts) (held cell (part ∷ parts)) (length cell.resources) (resource_of_part cell part) (λ q h. held-cons part parts q)
               (resource_within cell fits (stage_of part) at) (held-cons_own part parts),
         )
 
@@ -84,3 +85,7 @@ module _ (cell : Cell) where
 
     pub hybrid-few : (parts : List Part) → IsHybrid cell parts → length parts ≤ MAX_UNITS
     hybrid-few parts hybrid = omega (arith, hybrid-units parts hybrid, fits.units)
+
+-- a hybrid state is a state
+pub hybrid-state : (cell : Cell) (parts : List Part) → IsHybrid cell parts → IsState cell parts
+hybrid-state cell parts hybrid = ⊎_elim (λ admitted. admitted.state) (λ ordered. ordered.state) hybrid

@@ -11,7 +11,7 @@ use Rattle.cell_base.specs.Stages.{capacity_of}
 use Rattle.cell_base.specs.Policy.{is_of_job, HaveDistinctJobs}
 use Rattle.cell_base.specs.Outcomes.{part_of, without}
 use Rattle.policy_laws.proofs.Lists.{Contains-none, Contains-head, Contains-tail, Contains-cases, list_any-found, list_any-Contains}
-use Rattle.policy_laws.proofs.Parts.{is_of_job-same, is_of_job-other, IsOther, others_behind, distinct_behind, part_of-job, part_of-found}
+use Rattle.policy_laws.proofs.Parts.{is_of_job-same, is_of_job-other, IsOther, others_after, distinct_after, part_of-job, part_of-found}
 use Rattle.banker_check.specs.Ways.{way, stands_on, held, is_full, is_held_up}
 
 module _ {X : Type 0} (test : X → Bool) where
@@ -80,22 +80,22 @@ Within-filter test parts others within part c =
 pub distinct-filter : (test : Part → Bool) (parts : List Part) → HaveDistinctJobs parts → HaveDistinctJobs (filter test parts)
 distinct-filter test parts distinct = AllPairs-filter (λ a b. a.job ≢ b.job) test parts distinct
 
--- a part behind the first one is of another job
-behind_other : (first : Part) (parts : List Part) → HaveDistinctJobs (first ∷ parts) → (part : Part) → Contains parts part
+-- a part after the first one is of another job
+other_job_after : (first : Part) (parts : List Part) → HaveDistinctJobs (first ∷ parts) → (part : Part) → Contains parts part
     → is_of_job first.job part ≡ false
-behind_other first parts distinct part c =
-    is_of_job-other first.job part (All-contains (IsOther first.job) parts part (others_behind first parts distinct) c)
+other_job_after first parts distinct part c =
+    is_of_job-other first.job part (All-contains (IsOther first.job) parts part (others_after first parts distinct) c)
 
 -- parts of different jobs are no more than those that they are among
 pub Within-length : (parts others : List Part) → HaveDistinctJobs parts → Within parts others → length parts ≤ length others
 Within-length [] others distinct within = omega arith
 Within-length (first ∷ parts) others distinct within =
-    let later = Within-length parts (without others first.job) (distinct_behind first parts distinct)
+    let later = Within-length parts (without others first.job) (distinct_after first parts distinct)
     (λ part c. without-keeps others first.job part (within part (Contains-tail first part parts c))
-    (behind_other first parts distinct part c)) in
+    (other_job_after first parts distinct part c)) in
     omega (arith, later, without-fewer others first (within first (Contains-head first parts)))
 
--- without the first part, those behind it are left
+-- without the first part, those after it are left
 pub without-first : (first : Part) (parts : List Part) → HaveDistinctJobs (first ∷ parts) → Within (without (first ∷ parts) first.job) parts
 without-first first parts distinct part c =
     let kept = without-kept (first ∷ parts) first.job part c in

@@ -1,5 +1,6 @@
 -- A board that sessions ask: what every ask and every step of a scan keeps.
-use Rattle.std.proofs.Common.{◌≡◌, ◌≢◌, ℕ, zero, suc, ◌+◌, ◌-◌, ◌*◌, ◌<◌, ◌≤◌, Bool, true, false, cond, Some, None, List, [], ◌∷◌, ◌++◌, length, map, All, find, get_or, refl, sym, ◌∙◌, ap, subst, arith}
+use Rattle.std.proofs.Common.{◌≡◌, ◌≢◌, ℕ, zero, suc, ◌+◌, ◌-◌, ◌*◌, ◌<◌, ◌≤◌, Bool, true, false, cond, Some, None}
+use Rattle.std.proofs.Common.{List, [], ◌∷◌, ◌++◌, length, map, All, find, get_or, refl, sym, ◌∙◌, ap, subst, arith}
 use Rattle.std.specs.Option.{option_map_or}
 use Rattle.std.proofs.lemmas.Option.{same_Some}
 use Rattle.std.proofs.lemmas.List.{length-append, length-map}
@@ -17,17 +18,19 @@ use Rattle.cell_base.specs.Rounds.{IsSession}
 use Rattle.cell_base.specs.Scripts.{Progress, script_of}
 use Rattle.policy_laws.specs.Decisions.{is_saturation}
 use Rattle.policy_laws.proofs.Lists.{All-found}
-use Rattle.cell_sessions.specs.Underway.{IsWithinScript, left_of}
+use Rattle.solo_rounds.specs.Underway.{IsWithinScript, script_asks_left}
 use Rattle.wait_board.specs.declared.waiter.Waiter.{Waiter}
 use Rattle.wait_board.specs.declared.entries.BoardTold.TheVariants as told
 use Rattle.wait_board.specs.declared.entries.BoardEntry.{BoardEntry}
-use Rattle.wait_board.specs.Boards.{OnBoard, asks_of, board, decided, end_of_wait, entry, is_answer, is_ready, joined, noted, renewed, scan_within, settled, told_on, waiter_of, without_first}
+use Rattle.wait_board.specs.Boards.{OnBoard, asks_of, board, decided, end_of_wait, entry, is_answer, is_ready, joined}
+use Rattle.wait_board.specs.Boards.{noted, renewed, scan_within, settled, told_on, waiter_of, without_first}
 use Rattle.wait_board.specs.BoardState.{AreApart, IsOther}
 use Rattle.wait_board.proofs.Firsts.{All-without, length-without, pairs-head, pairs-map, pairs-tail, pairs-without}
 use Rattle.wait_board.proofs.Room.{others_wait}
 use Rattle.board_rounds.specs.Rounds.{progress_in, reply_in}
 use Rattle.board_rounds.specs.Underway.{HasStep, IsGoing, left_in}
-use Rattle.board_rounds.proofs.Progressing.{ended_no_ask, ended_reply, has-step-last, left-falls, length-filter-last, progress-other, progress-unanswered, within-last}
+use Rattle.board_rounds.proofs.Progressing.{ended_no_ask, ended_reply, has-step-last, left-falls, length-filter-last}
+use Rattle.board_rounds.proofs.Progressing.{progress-other, progress-unanswered, within-last}
 use Rattle.board_rounds.proofs.Sums.{sum-many, sum-same}
 
 -- the others wait for other sessions than the first one that passes
@@ -97,7 +100,7 @@ module _ (shift : Shift) where
       λ k at. has-step-last shift history e k (progress-unanswered history e k refl) at in
       let asks : length (asks_of (history ++ e ∷ [])) ≡ length (asks_of history) + 1 = length-filter-last asked history e in
       let left = sum-same (left_in shift history) (left_in shift (history ++ e ∷ [])) (length shift.scripts) (λ k.
-      ap (left_of shift.patience (script_of shift k)) (progress-unanswered history e k refl)) in
+      ap (script_asks_left shift.patience (script_of shift k)) (progress-unanswered history e k refl)) in
       let more = length-append waiters (new ∷ []) in
       record {
         apart = all_pairs_push IsOther waiters new going.apart (λ k d inside. others_wait waiters session free k d inside);
@@ -184,16 +187,16 @@ module _ (shift : Shift) where
       let has : Waits on.history w = going.waiting k d inside in (
         has.known.0,
         has.known.1,
-        left_of-some (script_of shift w.session) shift.patience (progress_in on.history w.session) has.step has.patience,
+        script_asks_left-some (script_of shift w.session) shift.patience (progress_in on.history w.session) has.step has.patience,
       ))) in
       omega (arith, many, length-map on.waiters number, going.few)
     where
       some_left : (n refusals patience : ℕ) → refusals < patience → 1 ≤ (n + 1) * patience - refusals
       some_left n refusals patience left = omega (arith, left)
 
-      left_of-some : (script : List Request) (patience : ℕ) (at : Progress) → at.step < length script → at.refusals < patience
-          → 1 ≤ left_of patience script at
-      left_of-some script patience at step left =
+      script_asks_left-some : (script : List Request) (patience : ℕ) (at : Progress) → at.step < length script → at.refusals < patience
+          → 1 ≤ script_asks_left patience script at
+      script_asks_left-some script patience at step left =
           let more : length script - at.step ≡ (length script - (at.step + 1)) + 1 = omega (arith, step) in
           subst (λ (n : ℕ). 1 ≤ n * patience - at.refusals) (sym more)
           (some_left (length script - (at.step + 1)) at.refusals patience left)

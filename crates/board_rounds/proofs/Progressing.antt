@@ -1,5 +1,6 @@
--- Where a session stands behind one entry more.
-use Rattle.std.proofs.Common.{◌≡◌, ◌≢◌, ℕ, ◌+◌, ◌<◌, ◌≤◌, ◌==◌, Bool, true, false, cond, Some, None, List, [], ◌∷◌, ◌++◌, length, refl, sym, ◌∙◌, ap, subst, arith}
+-- Where a session stands after one entry more.
+use Rattle.std.proofs.Common.{◌≡◌, ◌≢◌, ℕ, ◌+◌, ◌<◌, ◌≤◌, ◌==◌, Bool, true, false, cond, Some, None}
+use Rattle.std.proofs.Common.{List, [], ◌∷◌, ◌++◌, length, refl, sym, ◌∙◌, ap, subst, arith}
 use Rattle.std.specs.List.{filter}
 use Rattle.std.specs.Option.{option_map_or}
 use Rattle.std.proofs.lemmas.Bool.{cond-true, cond-false, eq-eqb, eqb-true, ne_eqb}
@@ -12,8 +13,8 @@ use Rattle.cell_base.specs.declared.requests.Told.TheVariants.{Answered}
 use Rattle.cell_base.specs.declared.shifts.Shift.{Shift}
 use Rattle.cell_base.specs.Rounds.{IsSession}
 use Rattle.cell_base.specs.Scripts.{Progress, begin_at, progress_after, script_of}
-use Rattle.cell_sessions.specs.Underway.{IsWithinScript, left_of}
-use Rattle.cell_sessions.proofs.Counting.{left_of-falls}
+use Rattle.solo_rounds.specs.Underway.{IsWithinScript, script_asks_left}
+use Rattle.solo_rounds.proofs.Counting.{script_asks_left-falls}
 use Rattle.wait_board.specs.declared.entries.BoardEntry.{BoardEntry}
 use Rattle.wait_board.specs.Boards.{end_of_wait, is_answer}
 use Rattle.board_rounds.specs.Rounds.{progress_by, progress_in, progress_told, reply_in}
@@ -106,10 +107,10 @@ module _ (shift : Shift) (history : List BoardEntry) (e : BoardEntry) (reply : R
       ≤ sum_to (left_in shift history) (length shift.scripts)
   left-falls =
       let s : ℕ = e.session in
-      let fewer = left_of-falls (script_of shift s) shift.patience (progress_in history s) (progress_in (history ++ e ∷ []) s) reply
+      let fewer = script_asks_left-falls (script_of shift s) shift.patience (progress_in history s) (progress_in (history ++ e ∷ []) s) reply
       has.step has.patience goes in
       let one = sum-one (left_in shift history) (left_in shift (history ++ e ∷ [])) s (λ k other.
-      ap (left_of shift.patience (script_of shift k))
+      ap (script_asks_left shift.patience (script_of shift k))
       (progress-other history e k (λ same. other (sym same)))) (length shift.scripts) has.known.0 has.known.1 in
       omega (arith, fewer, one)
 

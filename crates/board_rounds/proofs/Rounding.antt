@@ -1,5 +1,7 @@
 -- The turns of a round, and the rounds up to the one in which none asks.
-use Rattle.std.proofs.Common.{◌≡◌, ℕ, zero, suc, ◌+◌, ◌-◌, ◌*◌, ◌<◌, ◌≤◌, ◌^◌, ◌&&◌, nat_lt, Bool, true, false, cond, Option, Some, None, List, [], ◌∷◌, ◌++◌, length, take, slice_get, All, find, replicate, refl, sym, ◌∙◌, ap, subst, ltb-true, arith}
+use Rattle.std.proofs.Common.{◌≡◌, ℕ, zero, suc, ◌+◌, ◌-◌, ◌*◌, ◌<◌, ◌≤◌, ◌^◌, ◌&&◌, nat_lt, Bool, true}
+use Rattle.std.proofs.Common.{false, cond, Option, Some, None, List, [], ◌∷◌, ◌++◌, length, take, slice_get}
+use Rattle.std.proofs.Common.{All, find, replicate, refl, sym, ◌∙◌, ap, subst, ltb-true, arith}
 use Rattle.std.specs.Option.{option_map_or, is_none}
 use Rattle.std.proofs.lemmas.Bool.{and_parts}
 use Rattle.std.proofs.lemmas.List.{append_assoc, append-nil, length-append}
@@ -16,12 +18,13 @@ use Rattle.cell_base.specs.Fits.{IsWithin, ShiftFits, steps_of}
 use Rattle.cell_base.specs.Outcomes.{reply_to, state_after}
 use Rattle.cell_base.specs.Rounds.{IsSession}
 use Rattle.cell_base.specs.Scripts.{Progress, begin_at, script_of}
-use Rattle.cell_sessions.proofs.Ends.{same_everywhere}
+use Rattle.solo_rounds.proofs.Ends.{same_everywhere}
 use Rattle.policy_laws.specs.Decisions.{is_saturation}
 use Rattle.wait_board.specs.declared.entries.BoardTold.TheVariants as told
 use Rattle.wait_board.specs.declared.entries.BoardEntry.{BoardEntry}
 use Rattle.wait_board.specs.declared.waiter.Waiter.{Waiter}
-use Rattle.wait_board.specs.Boards.{OnBoard, asks_of, board, decided, end_of_wait, entry, is_ready, joined, noted, opened, scan_within, settled, told_on, waiter_of}
+use Rattle.wait_board.specs.Boards.{OnBoard, asks_of, board, decided, end_of_wait, entry, is_ready}
+use Rattle.wait_board.specs.Boards.{joined, noted, opened, scan_within, settled, told_on, waiter_of}
 use Rattle.wait_board.specs.BoardState.{BoardState}
 use Rattle.wait_board.proofs.Asks.{board-asks}
 use Rattle.board_rounds.specs.Rounds.{present_step, progress_in, queue_run, round, rounds}
@@ -140,7 +143,7 @@ module _ (shift : Shift) (old : BoardState) (progress : List Progress) (ready : 
       subst (Stands progress)
       (sym (ap (take (length old.on.history)) grows.1 ∙ take-append_seam old.on.history grows.0)) ready.stands
 
-  -- and the sessions can go on behind it
+  -- and the sessions can go on after it
   pub ready_after : (next : List Progress) (new : BoardState)
       → new ≡ record old { on = board old.cell old.on session request; spare = new.spare }
       → new.spare + length new.on.history ≡ old.spare + length old.on.history
@@ -206,7 +209,7 @@ module _ (shift : Shift) (cell : Cell) (on : OnBoard) where
       ap (rounds (steps_of shift * shift.patience) cell shift) (sym new)
       ∙ rounds_stay n (steps_of shift * shift.patience - n) (steps_of shift * shift.patience) (omega (arith, few)) same
 
--- one becoming behind another
+-- one becoming after another
 pub become_on : (old middle new : BoardState) (first then : OnBoard) → HasBecome old first middle → HasBecome middle then new
     → HasBecome old then new
 become_on old middle new first then one two = record {
@@ -215,7 +218,7 @@ become_on old middle new first then one two = record {
 }
 
 module _ (shift : Shift) (old middle new : BoardState) where
-  -- a round behind n others
+  -- a round after n others
   pub next_round : (n : ℕ) → HasBecome old (rounds n old.cell shift old.on) middle
       → HasBecome middle (round middle.cell shift middle.on) new → HasBecome old (rounds (suc n) old.cell shift old.on) new
   next_round n one two =
@@ -224,7 +227,7 @@ module _ (shift : Shift) (old middle new : BoardState) where
       become_on old middle new (rounds n old.cell shift old.on) (rounds (suc n) old.cell shift old.on) one
       (subst (λ (on : OnBoard). HasBecome middle on new) same two)
 
-  -- behind a round that left the board, the run is over
+  -- after a round that left the board, the run is over
   pub over_at : (progress : List Progress) → IsReady shift progress middle → (n : ℕ) → n ≤ length (asks_of middle.on.history)
       → old.on ≡ opened old.on.parts → HasBecome old (rounds n old.cell shift old.on) middle
       → HasBecome middle (round middle.cell shift middle.on) new → new.on ≡ middle.on

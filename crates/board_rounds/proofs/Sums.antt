@@ -1,5 +1,6 @@
 -- Sums over the sessions.
-use Rattle.std.proofs.Common.{◌≡◌, ◌≢◌, inl, inr, ℕ, zero, suc, ◌+◌, ◌-◌, ◌*◌, ◌<◌, ◌≤◌, ◌==◌, cond, List, [], ◌∷◌, length, All, get_or, slice_get, refl, sym, ◌∙◌, ap, subst, arith}
+use Rattle.std.proofs.Common.{◌≡◌, ◌≢◌, inl, inr, ℕ, zero, suc, ◌+◌, ◌-◌, ◌*◌, ◌<◌, ◌≤◌, ◌==◌, cond, List}
+use Rattle.std.proofs.Common.{[], ◌∷◌, length, All, get_or, slice_get, refl, sym, ◌∙◌, ap, subst, arith}
 use Rattle.std.specs.Prelude.{unwrap_or}
 use Rattle.std.specs.List.{AllPairs, sum_by}
 use Rattle.std.proofs.lemmas.Bool.{cases_lt, cond-true, cond-false, eq-eqb, ne_eqb}
@@ -8,7 +9,7 @@ use Rattle.std.proofs.lemmas.List.Sums.{sum_by-cons}
 use Rattle.board_rounds.specs.Underway.{sum_to}
 
 module _ (f g : ℕ → ℕ) (s : ℕ) (same : (k : ℕ) → k ≢ s → g k ≡ f k) where
-  -- numbers that differ only behind the last session have one sum
+  -- numbers that differ only after the last session have one sum
   pub sum-beyond : (n : ℕ) → n < s → sum_to g n ≡ sum_to f n
   sum-beyond zero past = refl
   sum-beyond (suc n) past =

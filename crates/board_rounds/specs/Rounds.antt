@@ -1,5 +1,6 @@
 -- The history of sessions that ask a board in rounds.
-use Rattle.std.specs.Prelude.{ℕ, zero, suc, ◌*◌, ◌==◌, nat_lt, ◌&&◌, if◌then◌else◌, Option, Some, None, List, [], ◌∷◌, ◌≡◌, length, slice_get}
+use Rattle.std.specs.Prelude.{ℕ, zero, suc, ◌*◌, ◌==◌, nat_lt, ◌&&◌, if◌then◌else◌, Option}
+use Rattle.std.specs.Prelude.{Some, None, List, [], ◌∷◌, ◌≡◌, length, slice_get}
 use Rattle.std.specs.List.{filter}
 use Rattle.std.specs.Option.{option_map_or, is_none}
 use Rattle.cell_base.specs.declared.cells.Cell.{Cell}
@@ -29,12 +30,12 @@ reply_in (told.Waits why) = None
 abbrev pub progress_told : Progress → BoardTold → Progress
 progress_told at told = option_map_or (λ reply. progress_after at (Answered reply)) (reply_in told) at
 
--- where it stands behind its entries
+-- where it stands after its entries
 abbrev pub progress_by : Progress → List BoardEntry → Progress
 progress_by at [] = at
 progress_by at (entry ∷ entries) = progress_by (progress_told at entry.told) entries
 
--- where a session stands behind a history
+-- where a session stands after a history
 abbrev pub progress_in : List BoardEntry → ℕ → Progress
 progress_in history session = progress_by (begin_at 0) (filter (λ entry. entry.session == session) history)
 
@@ -64,7 +65,7 @@ abbrev pub rounds : ℕ → Cell → Shift → OnBoard → OnBoard
 rounds zero cell shift on = on
 rounds (suc n) cell shift on = round cell shift (rounds n cell shift on)
 
--- as many rounds as there can be asks: behind a round in which none asked, each is such a round, and leaves the board
+-- as many rounds as there can be asks: after a round in which none asked, each is such a round, and leaves the board
 unfoldable pub queue_run : Cell → List Part → Shift → OnBoard
 queue_run cell parts shift = rounds (steps_of shift * shift.patience) cell shift (opened parts)
 

@@ -6,7 +6,7 @@ use Rattle.cell_base.specs.declared.shifts.Shift.{Shift}
 use Rattle.cell_base.specs.Fits.{ShiftFits, steps_of}
 use Rattle.cell_base.specs.Rounds.{IsSession}
 use Rattle.cell_base.specs.Scripts.{Progress, script_of}
-use Rattle.cell_sessions.specs.Underway.{IsWithinScript, left_of, progress_at}
+use Rattle.solo_rounds.specs.Underway.{IsWithinScript, script_asks_left, progress_at}
 use Rattle.wait_board.specs.declared.waiter.Waiter.{Waiter}
 use Rattle.wait_board.specs.declared.entries.BoardEntry.{BoardEntry}
 use Rattle.wait_board.specs.Boards.{OnBoard, asks_of}
@@ -18,9 +18,9 @@ abbrev pub sum_to : (ℕ → ℕ) → ℕ → ℕ
 sum_to of zero = 0
 sum_to of (suc n) = sum_to of n + of (suc n)
 
--- the asks that a session has left at most, behind a history
+-- the asks that a session has left at most, after a history
 abbrev pub left_in : Shift → List BoardEntry → ℕ → ℕ
-left_in shift history session = left_of shift.patience (script_of shift session) (progress_in history session)
+left_in shift history session = script_asks_left shift.patience (script_of shift session) (progress_in history session)
 
 -- a session is at a step of its script, with patience left
 pub record HasStep (shift : Shift) (history : List BoardEntry) (session : ℕ) : Type 0 where
@@ -40,7 +40,7 @@ pub record IsGoing (shift : Shift) (waiters : List Waiter) (history : List Board
       ≤ steps_of shift * shift.patience + length waiters
   pub room : length history + length waiters ≤ 2 * length (asks_of history)
 
--- the progress of each session is that behind the history
+-- the progress of each session is that after the history
 pub record Stands (progress : List Progress) (history : List BoardEntry) : Type 0 where
   pub count : length progress ≡ MAX_SESSIONS
   pub each : (k : ℕ) → k < MAX_SESSIONS → progress_at progress k ≡ progress_in history (k + 1)

@@ -1,4 +1,4 @@
-//! Where the sessions stand behind what a board told them.
+//! Where the sessions stand after what a board told them.
 ghost use Rattle.std.specs.Prelude.{◌≡◌, ◌+◌, ◌<◌, ◌≤◌, ◌^◌, length, take};
 ghost use Rattle.std.specs.List.{All};
 ghost use Rattle.cell_base.specs.declared.limits.TheConstants.{MAX_SESSIONS};
@@ -8,12 +8,13 @@ ghost use Rattle.board_rounds.specs.Rounds.{progress_told};
 ghost use Rattle.board_rounds.specs.Underway.{Stands};
 
 use cell_base::{MAX_SESSIONS, Reply};
-use cell_sessions::Progress;
+use solo_rounds::Progress;
 use wait_board::{BoardEntry, BoardTold};
 
+/// As many sessions as a shift may have, for each of which there is a progress.
 pub const SESSIONS: usize = MAX_SESSIONS as usize;
 
-/// Brings the progress of each session from behind the first `from` entries of a history behind all of it.
+/// Brings the progress of each session from where it is after the first `from` entries of a history to where it is after all of it.
 pub fn go_on(progress: &mut [Progress; SESSIONS], history: &[BoardEntry], from: usize)
     requires begun { from ≤ length history.now }
     requires short { length history.now < 2 ^ 32 }

@@ -1,18 +1,13 @@
 //! The rounds, and the turns in them.
-ghost use Rattle.std.specs.Prelude.{◌≡◌, ℕ, ◌+◌, ◌*◌, ◌<◌, ◌≤◌, length};
+ghost use Rattle.std.specs.Prelude.{◌≡◌, ◌+◌, ◌*◌, ◌<◌, ◌≤◌, length};
 ghost use Rattle.std.specs.Bool.{OnTrue, OnFalse};
 ghost use Rattle.std.specs.Option.{is_some};
-ghost use Rattle.cell_base.specs.declared.limits.TheConstants.{MAX_ASKS, MAX_SESSIONS};
-ghost use Rattle.cell_base.specs.Fits.{ShiftFits};
-ghost use Rattle.cell_base.specs.Scripts.{script_of};
-ghost use Rattle.cell_sessions.specs.Underway.{IsWithinScript};
-ghost use Rattle.wait_board.specs.Boards.{asks_of, opened};
-ghost use Rattle.board_rounds.specs.Rounds.{NobodyAsks, present_step, progress_in, queue_run, round, turn};
-ghost use Rattle.board_rounds.specs.Underway.{HasBecome, IsReady};
+ghost use Rattle.board_rounds.specs.Clauses.{HasBecome, IsReady, IsWithinScript, MAX_ASKS, MAX_SESSIONS, NobodyAsks, ShiftFits};
+ghost use Rattle.board_rounds.specs.Clauses.{asks_of, opened, present_step, progress_in, queue_run, round, script_of, turn};
 
 use crate::progress::{SESSIONS, go_on};
 use cell_base::{Request, Shift};
-use cell_sessions::Progress;
+use solo_rounds::Progress;
 use wait_board::Board;
 
 /// The sessions of a shift ask a new board in rounds, up to the first round in which none asks. Session `k` has script `k - 1`.

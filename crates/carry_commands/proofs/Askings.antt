@@ -1,14 +1,13 @@
 -- The requests of a start, asked in turn in a durable cell: so far each was granted.
-use Rattle.std.proofs.Common.{◌≡◌, ◌≤◌, true, List, [], ◌∷◌, ◌++◌, length, map, Some, None, Ok, Err, refl, sym, ap, ◌∙◌, subst, arith, append-nil}
+use Rattle.std.proofs.Common.{◌≡◌, ◌≤◌, true, List, [], ◌∷◌, ◌++◌, length, map, Some, None, Ok, Err, sym, ap, ◌∙◌, subst, arith, append-nil}
 use Rattle.std.proofs.lemmas.List.{length-append, length-map, map-append}
-use Rattle.cell_base.specs.declared.cells.Cell.{Cell}
 use Rattle.cell_base.specs.declared.requests.Part.{Part}
 use Rattle.cell_base.specs.declared.requests.Reply.{Reply}
 use Rattle.cell_base.specs.declared.requests.Reply.TheVariants.{Granted}
 use Rattle.cell_base.specs.declared.requests.Request.{Request}
 use Rattle.cell_base.specs.declared.requests.Told.TheVariants.{Answered, Halted}
-use Rattle.cell_base.specs.Histories.{after, after_requests, all_granted}
-use Rattle.cell_base.specs.Outcomes.{reply_to, state_after}
+use Rattle.cell_base.specs.Histories.{all_granted}
+use Rattle.cell_base.specs.Outcomes.{reply_to}
 use Rattle.durable_cell.specs.Asked.{Answers, entry, halted_at, with_entry}
 use Rattle.durable_cell.specs.DurableState.{DurableState, first_parts, parts}
 use Rattle.durable_cell.specs.declared.fault.AskFault.{AskFault}
@@ -16,17 +15,9 @@ use Rattle.durable_cell.specs.declared.fault.AskFault.TheVariants as fault
 use Rattle.durable_cell.proofs.Halts.{halted_at-none}
 use Rattle.cell_texts.specs.Recorded.{IsFresh}
 use Rattle.cell_texts.proofs.HaltedHistories.{none_halted}
-use Rattle.cell_commands.specs.Drain.{drained, drained_to, step_entry}
-use Rattle.cell_commands.specs.Draining.{after_steps, step_grant}
-use Rattle.cell_commands.proofs.PlanSteps.{drained_unhalted}
-use Rattle.carry_commands.specs.Beginning.{HaltsIn}
+use Rattle.cell_texts.specs.AskedSteps.{HaltsIn, after_steps, drained, drained_to, step_entry, step_grant}
+use Rattle.cell_texts.proofs.AskedSteps.{after_drained, drained_unhalted}
 use Rattle.carry_commands.proofs.Granting.{granted_at}
-
--- the state after requests that were granted
-after_granted : (cell : Cell) (parts : List Part) (requests : List Request)
-    → after cell parts (drained requests) ≡ after_requests cell parts requests
-after_granted cell parts [] = refl
-after_granted cell parts (request ∷ requests) = after_granted cell (state_after cell parts request) requests
 
 module _ {D : Type 0} (old : DurableState D) where
   -- nothing was asked yet
@@ -50,7 +41,7 @@ module _ {D : Type 0} (old : DurableState D) where
     granted_next : all_granted old.cell (first_parts old) requests ≡ true → reply_to now.cell (parts now) request ≡ Granted
     granted_next granted =
         ap (λ (d : DurableState D). reply_to d.cell (parts d) request) so_far
-        ∙ ap (λ (ps : List Part). reply_to old.cell ps request) (after_granted old.cell (first_parts old) first)
+        ∙ ap (λ (ps : List Part). reply_to old.cell ps request) (after_drained old.cell (first_parts old) first)
         ∙ granted_at old.cell (first_parts old) first rest request
         (subst (λ (rs : List Request). all_granted old.cell (first_parts old) rs ≡ true) parted granted)
 

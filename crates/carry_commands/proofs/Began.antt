@@ -6,10 +6,11 @@ use Rattle.cell_base.specs.declared.requests.Request.{Request}
 use Rattle.cell_base.specs.declared.shifts.Grant.{Grant}
 use Rattle.durable_cell.specs.DurableState.{DurableState}
 use Rattle.durable_cell.specs.Openings.{fresh}
-use Rattle.durable_cell.specs.Replayed.{AreDue, opened_as}
+use Rattle.shift_recovery.specs.Replayed.{AreDue, opened_as}
 use Rattle.durable_cell.specs.declared.replays.TheConstants.{MAX_ROOM}
 use Rattle.start_file.specs.StartFiles.{start_reads}
-use Rattle.cell_walks.specs.Allowed.{AllowsFrom, ByMemory, ByRefusal, IsAllowed, IsEndedAt, JournalOpened, NotOpened, Opened, Passed, Stopped, Unasked}
+use Rattle.cell_walks.specs.Allowed.{AllowsFrom, ByMemory, ByRefusal, IsAllowed, IsEndedAt, JournalOpened}
+use Rattle.cell_walks.specs.Allowed.{NotOpened, Opened, Passed, Stopped, Unasked}
 use Rattle.cell_walks.specs.DiskTold.{DiskTold, IsUntouched, disk_told}
 use Rattle.cell_walks.specs.Observed.{File, Observed, Shows, files_told, observed}
 use Rattle.cell_walks.specs.Outcomes.{early}
@@ -92,7 +93,8 @@ module _ {F : Type 0} (holds : F → Option Names) (is_sound : F → Type 0) (fa
       where
         of_start : Shows (files_told holds is_sound faults old new) (File start) (λ bytes. start_reads held.cell bytes (Ok requests))
         of_start =
-            shown_before holds is_sound faults old mid new same (File start) (λ bytes. start_reads held.cell bytes (Ok requests)) start_shows
+            shown_before holds is_sound faults old mid new same (File start) (λ bytes. start_reads held.cell bytes (Ok requests))
+            start_shows
 
         -- a request of it is not granted
         pub begin_refused : (end : EarlyEnd) → IsUntouched disk → EndsAtStart held.cell requests end

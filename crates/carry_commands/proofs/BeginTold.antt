@@ -1,51 +1,35 @@
 -- What the walk of `begin` answers, told fact by fact.
-use Rattle.std.specs.Prelude.{IsSomeAnd, Some, None}
-use Rattle.std.specs.List.{concat}
-use Rattle.std.proofs.Common.{◌≡◌, ◌⊎◌, inl, inr, ℕ, List, [], ◌∷◌, ◌++◌, length, map, take, drop, Option, refl, sym, ap, ◌∙◌, subst, append-nil, append_assoc}
+use Rattle.std.proofs.Common.{◌≡◌, ◌⊎◌, inl, inr, ℕ, List, [], ◌∷◌, ◌++◌, length, take}
+use Rattle.std.proofs.Common.{drop, refl, sym, ap, ◌∙◌, subst, append-nil, append_assoc}
+use Rattle.std.proofs.lemmas.List.Elements.{All-head}
+use Rattle.outside_io.specs.Causes.{Rose}
 use Rattle.std.proofs.lemmas.List.{drop-map, map-append, take-append-drop, take_at}
 use Rattle.cell_base.specs.declared.cells.Cell.{Cell}
-use Rattle.cell_base.specs.declared.requests.Part.{Part}
 use Rattle.cell_base.specs.declared.requests.Request.{Request}
 use Rattle.cell_base.specs.declared.shifts.Entry.{Entry}
 use Rattle.cell_base.specs.declared.shifts.Grant.{Grant}
 use Rattle.cell_base.specs.Histories.{after, grants, replay}
 use Rattle.cell_base.specs.Plans.{Drains, plan_of}
-use Rattle.durable_cell.specs.Asked.{grant_of}
-use Rattle.durable_cell.specs.Kept.{StandsForFirst}
-use Rattle.move_journal.specs.Journals.{StandsFor}
+use Rattle.move_journal.specs.Journals.{StandsForPrefix, StandsFor}
 use Rattle.record_text.specs.Records.{text_of_record}
 use Rattle.cell_walks.specs.Allowed.{StandsForAdded}
-use Rattle.cell_walks.specs.DiskTold.{DiskTold, IsAlways, IsNow}
+use Rattle.cell_walks.specs.DiskTold.{DiskTold}
 use Rattle.cell_walks.specs.Observed.{Observed}
 use Rattle.cell_walks.specs.Outcomes.{Outcome}
 use Rattle.cell_walks.specs.Promises.{IsAnswered}
 use Rattle.cell_walks.proofs.Walked.{always_weaker, now_weaker}
 use Rattle.cell_texts.specs.Records.{IsHalted, IsRecorded}
 use Rattle.cell_texts.specs.Tests.{KnownCell}
-use Rattle.cell_commands.specs.Drain.{AllGranted, HaltsAt, drained, drained_to}
-use Rattle.cell_commands.specs.Draining.{step_grant}
-use Rattle.cell_commands.proofs.PlanSteps.{grants-drained, grants-drained_to}
-use Rattle.carry_commands.specs.Begin.{begin, left_of}
+use Rattle.cell_texts.specs.AskedSteps.{AllGranted, HaltsAt, step_grant}
+use Rattle.cell_texts.proofs.AskedSteps.{grants-drained, grants-drained_to, last_asked}
+use Rattle.carry_commands.specs.Begin.{begin, requests_left}
 use Rattle.carry_commands.specs.BeginTold.{IsBegunWhole, IsHaltedBegin, StandsForFirstOf}
-use Rattle.carry_commands.specs.Starts.{AreFirst, start_grants}
-
--- the last entry of a start that halted is its halted request
-last_request : (first : List Entry) (last : Entry) (requests : List Request) (request : Request)
-    → first ++ last ∷ [] ≡ drained_to requests request → grant_of 0 last ≡ step_grant request
-last_request first last requests request same = ap (grant_of 0) (by_ends first (drained requests) last _ same)
-  where
-    by_ends : (a b : List Entry) (x y : Entry) → a ++ x ∷ [] ≡ b ++ y ∷ [] → x ≡ y
-    by_ends [] [] x y is = cc
-    by_ends [] (e ∷ []) x y is = absurd (cc)
-    by_ends [] (e ∷ f ∷ b) x y is = absurd (cc)
-    by_ends (e ∷ []) [] x y is = absurd (cc)
-    by_ends (e ∷ f ∷ a) [] x y is = absurd (cc)
-    by_ends (e ∷ a) (f ∷ b) x y is = by_ends a b x y (cc)
+use Rattle.carry_commands.specs.Starts.{ArePrefix, start_grants}
 
 module _ (disk : DiskTold) (cell : Cell) (text : List ℕ) (requests : List Request) (opening : List Grant) (outcome : Outcome)
-    (are_first : AreFirst requests opening) (left : StandsForAdded disk text opening outcome.added outcome.unsure) where
+    (are_first : ArePrefix requests opening) (left : StandsForAdded disk text opening outcome.added outcome.unsure) where
   abbrev rest : List Request
-  rest = left_of requests opening
+  rest = requests_left requests opening
 
   -- the grants of the journal and those of the other requests are those of the start
   whole : opening ++ start_grants rest ≡ start_grants requests
@@ -53,8 +37,8 @@ module _ (disk : DiskTold) (cell : Cell) (text : List ℕ) (requests : List Requ
       (λ i. are_first i ++ sym (drop-map step_grant (length opening) requests) i)
       ∙ take-append-drop (length opening) (start_grants requests)
 
-  -- first ones of the other grants, behind those of the journal, are first ones of the start
-  some_first : (file : List ℕ) (since behind : List Grant) → start_grants rest ≡ since ++ behind → StandsForFirst text opening since file
+  -- a prefix of the other grants, after those of the journal, is a prefix of the start
+  some_first : (file : List ℕ) (since behind : List Grant) → start_grants rest ≡ since ++ behind → StandsForPrefix text opening since file
       → StandsForFirstOf text requests file
   some_first file since behind are (k, stands) =
       let front = opening ++ take k since in
@@ -75,8 +59,8 @@ module _ (disk : DiskTold) (cell : Cell) (text : List ℕ) (requests : List Requ
       let state = replay cell opening in
       let added : outcome.added ≡ start_grants rest =
       ap (λ (o : Outcome). o.added) is.is ∙ ap (grants 0) goes ∙ grants-drained rest in
-      let sure : outcome.unsure ≡ None = ap (λ (o : Outcome). o.unsure) is.is in
-      let now = subst (λ (u : Option Grant). StandsForAdded disk text opening outcome.added u) sure left in
+      let sure : outcome.unsure ≡ [] = ap (λ (o : Outcome). o.unsure) is.is in
+      let now = subst (λ (u : List Grant). StandsForAdded disk text opening outcome.added u) sure left in
       record {
         status = ap (λ (o : Outcome). o.status) is.is;
         drains = subst (λ (history : List Entry). let parts = after cell state history in Drains cell parts (plan_of cell parts)) goes
@@ -84,13 +68,15 @@ module _ (disk : DiskTold) (cell : Cell) (text : List ℕ) (requests : List Requ
         written = is.text
             ∙ ap (λ (history : List Entry). text_of_record cell state 0 (length opening) history (plan_of cell (after cell state history)))
             goes;
-        stands = now_weaker disk (λ file. StandsFor file text (opening ++ outcome.added) ⊎ ⊥)
+        stands = now_weaker disk (λ file. StandsFor file text (opening ++ outcome.added)
+            ⊎ StandsFor file text (opening ++ outcome.added ++ []))
             (λ file. StandsFor file text (start_grants requests))
             (λ file. elim [
               | inl so ↦ subst (StandsFor file text) (ap (λ (gs : List Grant). opening ++ gs) added ∙ whole) so
-              | inr none ↦ absurd none
+              | inr so ↦ subst (StandsFor file text)
+                  (append-nil (opening ++ outcome.added) ∙ ap (λ (gs : List Grant). opening ++ gs) added ∙ whole) so
             ]) now.now;
-        any_moment = always_weaker disk (λ file. disk.leaves file ⊎ StandsForFirst text opening (outcome.added ++ []) file)
+        any_moment = always_weaker disk (λ file. disk.leaves file ⊎ StandsForPrefix text opening (outcome.added ++ []) file)
             (λ file. disk.leaves file ⊎ StandsForFirstOf text requests file)
             (λ file. elim [
               | inl was ↦ inl was
@@ -108,15 +94,15 @@ module _ (disk : DiskTold) (cell : Cell) (text : List ℕ) (requests : List Requ
       let goes = is.asked.goes.4 in
       let added : outcome.added ≡ start_grants first =
       ap (λ (o : Outcome). o.added) is.is ∙ ap (grants 0) goes ∙ grants-drained_to first last in
-      let unsure : outcome.unsure ≡ Some (step_grant last) =
-      ap (λ (o : Outcome). o.unsure) is.is ∙ ap Some (last_request is.first is.last first last (sym is.parted ∙ goes)) in
+      let unsure : outcome.unsure ≡ step_grant last ∷ [] =
+      ap (λ (o : Outcome). o.unsure) is.is ∙ ap (λ (g : Grant). g ∷ []) (last_asked is.first is.last first last (sym is.parted ∙ goes)) in
       let both : outcome.added ++ step_grant last ∷ [] ≡ start_grants (first ++ last ∷ []) =
       ap (λ (gs : List Grant). gs ++ step_grant last ∷ []) added ∙ sym (map-append step_grant first (last ∷ [])) in
       let all : start_grants rest ≡ (outcome.added ++ step_grant last ∷ []) ++ start_grants others =
       ap start_grants parted ∙ map-append step_grant first (last ∷ others)
       ∙ ap (λ (gs : List Grant). gs ++ step_grant last ∷ start_grants others) (sym added)
       ∙ sym (append_assoc outcome.added (step_grant last ∷ []) (start_grants others)) in
-      let now = subst (λ (u : Option Grant). StandsForAdded disk text opening outcome.added u) unsure left in
+      let now = subst (λ (u : List Grant). StandsForAdded disk text opening outcome.added u) unsure left in
       record {
         first = first;
         last = last;
@@ -135,13 +121,13 @@ module _ (disk : DiskTold) (cell : Cell) (text : List ℕ) (requests : List Requ
                   (append_assoc opening outcome.added (step_grant last ∷ []) ∙ ap (λ (gs : List Grant). opening ++ gs) both) so)
             ]) now.now;
         any_moment = always_weaker disk
-            (λ file. disk.leaves file ⊎ StandsForFirst text opening (outcome.added ++ step_grant last ∷ []) file)
+            (λ file. disk.leaves file ⊎ StandsForPrefix text opening (outcome.added ++ step_grant last ∷ []) file)
             (λ file. disk.leaves file ⊎ StandsForFirstOf text requests file)
             (λ file. elim [
               | inl was ↦ inl was
               | inr some ↦ inr (some_first file (outcome.added ++ step_grant last ∷ []) (start_grants others) all some)
             ]) now.any_moment;
-        cause = now.cause;
+        cause = All-head (λ grant. Rose disk.faults disk.faults_after) (step_grant last) [] now.cause;
       }
 
 -- what is answered
@@ -149,12 +135,13 @@ pub begin_told : (seen : Observed) (cell start : List ℕ) (outcome : Outcome) �
     → (held : KnownCell) × (requests : List Request) × (opening : List Grant)
     × (IsBegunWhole seen.disk held.cell held.text requests opening outcome
     ⊎ IsHaltedBegin seen.disk held.cell held.text requests opening outcome)
-begin_told seen cell start outcome (held, shows, (requests, read, (granted, grants, (opening, opened, (first, are_first, (answer, left)))))) = (
-  held,
-  requests,
-  opening,
-  elim answer [
-    | inl is ↦ inl (is_whole seen.disk held.cell held.text requests opening outcome are_first left is)
-    | inr is ↦ inr (is_halted seen.disk held.cell held.text requests opening outcome are_first left is)
-  ],
-)
+begin_told seen cell start outcome
+    (held, shows, (requests, read, (granted, grants, (opening, opened, (first, are_first, (answer, left)))))) = (
+      held,
+      requests,
+      opening,
+      elim answer [
+        | inl is ↦ inl (is_whole seen.disk held.cell held.text requests opening outcome are_first left is)
+        | inr is ↦ inr (is_halted seen.disk held.cell held.text requests opening outcome are_first left is)
+      ],
+    )

@@ -13,14 +13,14 @@ use Rattle.carry_commands.specs.declared.refusals.CarryFault.{CarryFault}
 use Rattle.carry_commands.specs.declared.refusals.Uncarried.{Uncarried}
 use Rattle.carry_commands.proofs.Granting.{granted_one}
 
--- requests behind those that are there
+-- requests after those that are there
 abbrev pub behind : List Request → Result (List Request) CarryFault → Result (List Request) CarryFault
 behind requests more = more >>= λ rest. Ok (requests ++ rest)
 
-behind_more : (requests : List Request) (request : Request) (later : Result (List Request) CarryFault)
+after_more : (requests : List Request) (request : Request) (later : Result (List Request) CarryFault)
     → behind requests (later >>= λ rest. Ok (request ∷ rest)) ≡ behind (requests ++ request ∷ []) later
-behind_more requests request (Ok rest) = ap (λ (rs : List Request). Ok rs) (sym (append_assoc requests (request ∷ []) rest))
-behind_more requests request (Err fault) = refl
+after_more requests request (Ok rest) = ap (λ (rs : List Request). Ok rs) (sym (append_assoc requests (request ∷ []) rest))
+after_more requests request (Err fault) = refl
 
 module _ (old new : Cell) (standing : List Part) (part : Part) (parts : List Part) (requests : List Request) where
   -- one part more is placed
@@ -30,7 +30,7 @@ module _ (old new : Cell) (standing : List Part) (part : Part) (parts : List Par
   one_more request is =
       ap (λ (r : Result Request Uncarried). behind requests (of_job part.job r >>= λ request.
       carried_after old new (state_after new standing request) parts >>= λ rest. Ok (request ∷ rest))) (sym is)
-      ∙ behind_more requests request (carried_after old new (state_after new standing request) parts)
+      ∙ after_more requests request (carried_after old new (state_after new standing request) parts)
 
   -- it can't be
   pub none_more : (why : Uncarried) → Err why ≡ carried_part old new standing part

@@ -11,7 +11,8 @@ use Rattle.cell_base.specs.Fits.{CellFits}
 use Rattle.cell_base.specs.Histories.{replay}
 use Rattle.start_file.specs.StartFiles.{IsStartOf, place_line, start_text}
 use Rattle.start_file.proofs.Lengths.{is_start}
-use Rattle.cell_walks.specs.Allowed.{AllowsFrom, ByMemory, ByRefusal, IsAllowed, IsEndedAt, JournalOpened, NotOpened, Passed, Stopped, Unasked}
+use Rattle.cell_walks.specs.Allowed.{AllowsFrom, ByMemory, ByRefusal, IsAllowed, IsEndedAt}
+use Rattle.cell_walks.specs.Allowed.{JournalOpened, NotOpened, Passed, Stopped, Unasked}
 use Rattle.cell_walks.specs.DiskTold.{DiskTold, IsOnlyRead, IsUntouched}
 use Rattle.cell_walks.specs.Observed.{File, Observed, Shows, files_told, observed}
 use Rattle.cell_walks.specs.Outcomes.{Outcome, done, early}
@@ -26,14 +27,16 @@ use Rattle.cell_texts.specs.JournalReads.{IsAfterGrants}
 use Rattle.cell_texts.specs.Tests.{KnownCell, cell_file, cell_reads, to_read}
 use Rattle.cell_texts.specs.declared.readers.AfterGrants.{AfterGrants}
 use Rattle.carry_commands.specs.Carry.{IsCarried, carried_over, carries, carry}
-use Rattle.carry_commands.specs.Carrying.{CarryRefused, CarryStarved, EndsAfter, EndsAtCarry, HasCarried, HasCarriedAfter, NotCarried, Unopened, carry_outcome}
+use Rattle.carry_commands.specs.Carrying.{CarryRefused, CarryStarved, EndsAfter, EndsAtCarry, HasCarried}
+use Rattle.carry_commands.specs.Carrying.{HasCarriedAfter, NotCarried, Unopened, carry_outcome}
 use Rattle.carry_commands.specs.Refusals.{carry_refused}
 use Rattle.carry_commands.specs.declared.carrying.Carried.{Carried}
 use Rattle.carry_commands.proofs.CarriedParts.{granted_carried}
 
 -- where the parts after the grants of a journal are not carried, the command ends there
 pub ends_after : (disk : DiskTold) (journal : Journal) (new : Cell) (after : AfterGrants) → IsAfterGrants disk journal after
-    → (made : Result Carried EarlyEnd) → IfErr made (EndsAtCarry after.core.cell new after.core.parts) → IfErr made (EndsAfter disk journal new)
+    → (made : Result Carried EarlyEnd) → IfErr made (EndsAtCarry after.core.cell new after.core.parts)
+    → IfErr made (EndsAfter disk journal new)
 ends_after disk journal new after is (Ok made) ended = tt
 ends_after disk journal new after is (Err end) ended =
     NotCarried is.grants is.opened (subst (λ (core : CoreState). EndsAtCarry core.cell new core.parts end) is.core ended)

@@ -84,16 +84,16 @@ was_granted : (reply : Reply) (later : Bool) → (is_granted reply && later) ≡
 was_granted Granted later is = (refl, is)
 was_granted (Refused why) later is = absurd (true≢false (sym is))
 
--- first ones of them, and one behind these
+-- a prefix of them, and the one after it
 pub granted_at : (cell : Cell) (parts : List Part) (first rest : List Request) (request : Request)
     → all_granted cell parts (first ++ request ∷ rest) ≡ true → reply_to cell (after_requests cell parts first) request ≡ Granted
 granted_at cell parts [] rest request is = (was_granted (reply_to cell parts request) _ is).0
 granted_at cell parts (one ∷ first) rest request is =
     granted_at cell (state_after cell parts one) first rest request (was_granted (reply_to cell parts one) _ is).1
 
--- those behind first ones
-pub granted_behind : (cell : Cell) (parts : List Part) (first rest : List Request) → all_granted cell parts (first ++ rest) ≡ true
+-- those after a prefix
+pub granted_later : (cell : Cell) (parts : List Part) (first rest : List Request) → all_granted cell parts (first ++ rest) ≡ true
     → all_granted cell (after_requests cell parts first) rest ≡ true
-granted_behind cell parts [] rest is = is
-granted_behind cell parts (one ∷ first) rest is =
-    granted_behind cell (state_after cell parts one) first rest (was_granted (reply_to cell parts one) _ is).1
+granted_later cell parts [] rest is = is
+granted_later cell parts (one ∷ first) rest is =
+    granted_later cell (state_after cell parts one) first rest (was_granted (reply_to cell parts one) _ is).1

@@ -1,5 +1,4 @@
 -- Lemmas, grouped by subject.
-pub mod Asked
 pub mod Askings
 pub mod Began
 pub mod BeginTold

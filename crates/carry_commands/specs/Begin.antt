@@ -6,22 +6,17 @@ use Rattle.cell_base.specs.declared.shifts.Grant.{Grant}
 use Rattle.durable_cell.specs.declared.replays.TheConstants.{MAX_ROOM}
 use Rattle.cell_walks.specs.Outcomes.{Outcome}
 use Rattle.cell_walks.specs.Walks.{Walk, Tests, Opens, Answers}
-use Rattle.cell_texts.specs.Records.{IsRecordedOrHalted}
 use Rattle.cell_texts.specs.Tests.{KnownCell, cell_file, to_add}
-use Rattle.cell_commands.specs.Drain.{AllGranted, HaltsAt}
+use Rattle.cell_texts.specs.AskedSteps.{AreAsked}
 use Rattle.carry_commands.specs.Starts.{begun, grants_start, start_file}
 
 -- the requests that are not granted yet
-abbrev pub left_of : List Request → List Grant → List Request
-left_of requests opening = drop (length opening) requests
+abbrev pub requests_left : List Request → List Grant → List Request
+requests_left requests opening = drop (length opening) requests
 
--- these requests were asked after the grants, and each was granted, or the writing of one halted
-abbrev pub AreAsked : Cell → List Grant → List Request → Outcome → Type 0
-AreAsked cell opening requests outcome = IsRecordedOrHalted cell 0 opening (AllGranted requests) (HaltsAt requests) outcome
-
--- the requests that the journal doesn't hold yet were
+-- the requests that the journal doesn't hold yet were asked
 abbrev pub IsBegun : Cell → List Request → List Grant → Outcome → Type 0
-IsBegun cell requests opening outcome = AreAsked cell opening (left_of requests opening) outcome
+IsBegun cell requests opening outcome = AreAsked cell opening (requests_left requests opening) outcome
 
 -- what comes after the grants of the journal
 abbrev pub goes_on : KnownCell → List Request → List Grant → Walk

@@ -12,21 +12,22 @@ use Rattle.record_text.specs.Records.{text_of_record}
 use Rattle.cell_walks.specs.DiskTold.{DiskTold, IsAlways, IsNow}
 use Rattle.cell_walks.specs.Outcomes.{Outcome}
 use Rattle.cell_walks.specs.declared.status.Status.TheVariants.{Done, DeviceFault}
-use Rattle.cell_commands.specs.Drain.{drained, drained_to}
-use Rattle.carry_commands.specs.Begin.{left_of}
+use Rattle.cell_texts.specs.AskedSteps.{drained, drained_to}
+use Rattle.carry_commands.specs.Begin.{requests_left}
 use Rattle.carry_commands.specs.Starts.{start_grants}
 
--- the file stands for first grants of the start
+-- the file stands for a prefix of the start
 abbrev pub StandsForFirstOf : List ℕ → List Request → List ℕ → Type 0
 StandsForFirstOf text requests file = (count : ℕ) × StandsFor file text (take count (start_grants requests))
 
--- Each request that the journal didn't hold yet was granted: the record of these is printed, with the plan that drains the state after them,
--- and the disk stands for all requests of the start.
+-- Each request that the journal didn't hold yet was granted: the record of these is printed, with the plan that drains the state
+-- after them, and the disk stands for all requests of the start.
 pub record IsBegunWhole (disk : DiskTold) (cell : Cell) (text : List ℕ) (requests : List Request) (opening : List Grant)
     (outcome : Outcome) : Type 0 where
   pub status : outcome.status ≡ Done
-  pub drains : let left = after cell (replay cell opening) (drained (left_of requests opening)) in Drains cell left (plan_of cell left)
-  pub written : let history = drained (left_of requests opening) in let state = replay cell opening in concat outcome.pieces
+  pub drains : let left = after cell (replay cell opening) (drained (requests_left requests opening)) in
+      Drains cell left (plan_of cell left)
+  pub written : let history = drained (requests_left requests opening) in let state = replay cell opening in concat outcome.pieces
       ≡ text_of_record cell state 0 (length opening) history (plan_of cell (after cell state history))
   pub stands : IsNow disk (λ file. StandsFor file text (start_grants requests))
   pub any_moment : IsAlways disk (λ file. disk.leaves file ⊎ StandsForFirstOf text requests file)
@@ -38,7 +39,7 @@ pub record IsHaltedBegin (disk : DiskTold) (cell : Cell) (text : List ℕ) (requ
   pub first : List Request
   pub last : Request
   pub rest : List Request
-  pub parted : left_of requests opening ≡ first ++ last ∷ rest
+  pub parted : requests_left requests opening ≡ first ++ last ∷ rest
   pub status : outcome.status ≡ DeviceFault
   pub written : concat outcome.pieces ≡ text_of_record cell (replay cell opening) 0 (length opening) (drained_to first last) []
   pub stands : IsNow disk (λ file. StandsFor file text (opening ++ start_grants first)

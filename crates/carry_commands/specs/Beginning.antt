@@ -1,9 +1,8 @@
--- The requests of a start in a durable cell: each that was asked was granted, or one of them halted; and how a `begin` comes about.
-use Rattle.std.specs.Prelude.{◌≡◌, ◌⊎◌, List, [], ◌∷◌, ◌++◌, map, Some, None, Result, Ok, Err, ℕ}
+-- How a `begin` comes about.
+use Rattle.std.specs.Prelude.{◌≡◌, List, [], Result, Ok, Err, ℕ}
 use Rattle.cell_base.specs.declared.cells.Cell.{Cell}
 use Rattle.cell_base.specs.declared.requests.Request.{Request}
 use Rattle.cell_base.specs.declared.shifts.Grant.{Grant}
-use Rattle.durable_cell.specs.DurableState.{DurableState}
 use Rattle.durable_cell.specs.declared.replays.TheConstants.{MAX_ROOM}
 use Rattle.cell_walks.specs.Allowed.{AtOpening, StandsForAdded}
 use Rattle.cell_walks.specs.DiskTold.{DiskTold}
@@ -13,32 +12,11 @@ use Rattle.cell_walks.specs.declared.early_end.EarlyEnd.TheVariants.{WantOfMemor
 use Rattle.cell_texts.specs.Recorded.{recorded_outcome}
 use Rattle.cell_texts.specs.Tests.{KnownCell, to_add}
 use Rattle.cell_texts.specs.declared.recorded.Recorded.{Recorded}
-use Rattle.cell_commands.specs.Drain.{drained_to}
-use Rattle.cell_commands.specs.Draining.{after_steps, step_grant}
 use Rattle.carry_commands.specs.Begin.{IsBegun}
 use Rattle.record_text.specs.Fitting.{RefusalFits}
 use Rattle.carry_commands.specs.Refusals.{IsOfPlace, other_start, start_refused}
-use Rattle.carry_commands.specs.Starts.{AreFirst, IsOtherStart, begun, granted_start, grants_start}
+use Rattle.carry_commands.specs.Starts.{ArePrefix, IsOtherStart, begun, granted_start, grants_start}
 use Rattle.carry_commands.specs.declared.refusals.StartFault.{StartFault}
-
--- ---- the requests
-
--- the request after first ones halted
-pub record HaltsIn {D : Type 0} (requests : List Request) (old new : DurableState D) : Type 0 where
-  pub first : List Request
-  pub last : Request
-  pub rest : List Request
-  pub parted : requests ≡ first ++ last ∷ rest
-  pub is : new ≡ record old {
-    disk = new.disk;
-    history = drained_to first last;
-    added = map step_grant first;
-    unsure = Some (step_grant last);
-  }
-
--- each request was granted, or one halted
-abbrev pub IsAskedIn : {D : Type 0} → List Request → DurableState D → DurableState D → Type 0
-IsAskedIn requests old new = (new ≡ after_steps old new.disk requests) ⊎ HaltsIn requests old new
 
 -- ---- how a `begin` comes about
 
@@ -58,13 +36,13 @@ pub data EndsAtStart (cell : Cell) (requests : List Request) (end : EarlyEnd) : 
       → end ≡ Refused (refusal_of (grants_start cell requests) (start_refused cell fault)) → EndsAtStart cell requests end
   StartStarved : end ≡ WantOfMemory → EndsAtStart cell requests end
 
--- the grants of the journal are first ones of the start and the others were asked, or the command ended there and nothing was added
+-- the grants of the journal are a prefix of the start and the others were asked, or the command ended there and nothing was added
 abbrev pub HasBegun : DiskTold → Cell → List ℕ → List Request → List Grant → Result Recorded EarlyEnd → Type 0
 HasBegun disk cell text requests opening (Ok recorded) = let outcome = recorded_outcome recorded in
-    AreFirst requests opening × IsBegun cell requests opening outcome × StandsForAdded disk text opening outcome.added outcome.unsure
+    ArePrefix requests opening × IsBegun cell requests opening outcome × StandsForAdded disk text opening outcome.added outcome.unsure
 HasBegun disk cell text requests opening (Err end) =
     ((at : ℕ) × IsOtherStart requests opening at × (end ≡ Refused (refusal_of (begun requests opening) (other_start at))))
-    × StandsForAdded disk text opening [] None
+    × StandsForAdded disk text opening [] []
 
 -- the journal of this cell was opened and begun, or the command ended there
 abbrev pub IsBegunOnJournal : DiskTold → KnownCell → List Request → Result Recorded EarlyEnd → Type 0

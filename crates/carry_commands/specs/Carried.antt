@@ -53,7 +53,7 @@ abbrev pub of_job : {A : Type 0} → JobId → Result A Uncarried → Result A C
 of_job job (Ok value) = Ok value
 of_job job (Err why) = Err (record { job = job; why = why })
 
--- the requests that place parts behind those that are placed, in their order; or the first part that can't be placed
+-- the requests that place parts after those that are placed, in their order; or the first part that can't be placed
 abbrev pub carried_after : Cell → Cell → List Part → List Part → Result (List Request) CarryFault
 carried_after old new standing [] = Ok []
 carried_after old new standing (part ∷ parts) = do

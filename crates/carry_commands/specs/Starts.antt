@@ -1,5 +1,6 @@
--- Whether the requests of a start are granted in turn, and whether the grants of a journal are first ones of them.
-use Rattle.std.proofs.Common.{inl, inr, ◌<◌, ◌≡◌, ℕ, ◌+◌, List, [], ◌∷◌, ◌++◌, length, map, take, Some, Result, Ok, Err, refl, sym, ap, ◌∙◌, subst, arith, append_assoc, length-append, take-take}
+-- Whether the requests of a start are granted in turn, and whether the grants of a journal are a prefix of them.
+use Rattle.std.proofs.Common.{inl, inr, ◌<◌, ◌≡◌, ℕ, ◌+◌, List, [], ◌∷◌, ◌++◌, length, map, take, Some, Result}
+use Rattle.std.proofs.Common.{Ok, Err, refl, sym, ap, ◌∙◌, subst, arith, append_assoc, length-append, take-take}
 use Rattle.std.specs.Prelude.{⊤}
 use Rattle.std.proofs.lemmas.Bool.{cases_lt}
 use Rattle.std.proofs.lemmas.List.{take_at}
@@ -19,7 +20,7 @@ use Rattle.cell_walks.specs.declared.early_end.Subject.TheVariants.{Command, Inp
 use Rattle.cell_texts.specs.OneWay.{once, reads_by}
 use Rattle.cell_texts.specs.Parting.{Longer, longer}
 use Rattle.cell_texts.specs.RecordReads.{record_line}
-use Rattle.cell_commands.specs.Draining.{step_grant}
+use Rattle.cell_texts.specs.AskedSteps.{step_grant}
 use Rattle.carry_commands.specs.Refusals.{other_start, start_refused}
 use Rattle.carry_commands.specs.declared.refusals.StartFault.{StartFault}
 
@@ -70,39 +71,40 @@ grants_start cell requests = record {
 abbrev pub start_grants : List Request → List Grant
 start_grants requests = map step_grant requests
 
--- these grants are first ones of the start
-abbrev pub AreFirst : List Request → List Grant → Type 0
-AreFirst requests opening = opening ≡ take (length opening) (start_grants requests)
+-- these grants are a prefix of the start
+abbrev pub ArePrefix : List Request → List Grant → Type 0
+ArePrefix requests opening = opening ≡ take (length opening) (start_grants requests)
 
--- The grants before this index are first ones of the start, and the one there is another, or one too many.
+-- The grants before this index are a prefix of the start, and the one there is another, or one too many.
 pub record IsOtherStart (requests : List Request) (opening : List Grant) (at : ℕ) : Type 0 where
   pub before : List Grant
   pub stray : Grant
-  pub behind : List Grant
-  pub parted : opening ≡ before ++ stray ∷ behind
+  pub later : List Grant
+  pub parted : opening ≡ before ++ stray ∷ later
   pub index : at ≡ length before
-  pub first : AreFirst requests before
-  pub strays : AreFirst requests (before ++ stray ∷ []) → ⊥
+  pub first : ArePrefix requests before
+  pub strays : ArePrefix requests (before ++ stray ∷ []) → ⊥
 
--- first ones of first ones are so too
-pub first_front : (requests : List Request) (front rest : List Grant) → AreFirst requests (front ++ rest) → AreFirst requests front
+-- a prefix of a prefix is one too
+pub first_front : (requests : List Request) (front rest : List Grant) → ArePrefix requests (front ++ rest) → ArePrefix requests front
 first_front requests front rest is =
     sym (take_at front rest (length front) refl) ∙ ap (take (length front)) is
     ∙ take-take (length front) (length (front ++ rest)) (start_grants requests) (omega (arith, length-append front rest))
 
-pub not_first : (requests : List Request) (opening : List Grant) (at : ℕ) → IsOtherStart requests opening at → AreFirst requests opening → ⊥
+pub not_first : (requests : List Request) (opening : List Grant) (at : ℕ) → IsOtherStart requests opening at
+    → ArePrefix requests opening → ⊥
 not_first requests opening at other first =
-    other.strays (first_front requests (other.before ++ other.stray ∷ []) other.behind
-    (subst (AreFirst requests) (other.parted ∙ sym (append_assoc other.before (other.stray ∷ []) other.behind)) first))
+    other.strays (first_front requests (other.before ++ other.stray ∷ []) other.later
+    (subst (ArePrefix requests) (other.parted ∙ sym (append_assoc other.before (other.stray ∷ []) other.later)) first))
 
 -- another grant comes first in one way
 not_before : (requests : List Request) (opening : List Grant) (one two : ℕ) (a : IsOtherStart requests opening one)
     (b : IsOtherStart requests opening two) → length a.before < length b.before → ⊥
 unfolding Longer
 not_before requests opening one two a b less =
-    let so = longer a.before b.before a.stray b.stray a.behind b.behind (sym a.parted ∙ b.parted) less in
+    let so = longer a.before b.before a.stray b.stray a.later b.later (sym a.parted ∙ b.parted) less in
     a.strays (first_front requests (a.before ++ a.stray ∷ []) so.0
-    (subst (AreFirst requests) (so.1 ∙ sym (append_assoc a.before (a.stray ∷ []) so.0)) b.first))
+    (subst (ArePrefix requests) (so.1 ∙ sym (append_assoc a.before (a.stray ∷ []) so.0)) b.first))
 
 one_index : (requests : List Request) (opening : List Grant) (one two : ℕ) → IsOtherStart requests opening one
     → IsOtherStart requests opening two → one ≡ two
@@ -114,9 +116,9 @@ one_index requests opening one two a b = elim (cases_lt (length a.before) (lengt
   ]
 ]
 
--- the grants are first ones of the start, or the one at this index is another
+-- the grants are a prefix of the start, or the one at this index is another
 abbrev pub begun_reads : List Request → List Grant → List ℕ → Result ⊤ ℕ → Type 0
-begun_reads requests opening bytes (Ok first) = AreFirst requests opening
+begun_reads requests opening bytes (Ok first) = ArePrefix requests opening
 begun_reads requests opening bytes (Err at) = IsOtherStart requests opening at
 
 pub begun_once : (requests : List Request) (opening : List Grant) (bytes : List ℕ) (first second : Result ⊤ ℕ)
@@ -126,7 +128,7 @@ begun_once requests opening bytes (Ok a) (Err b) one other = absurd (not_first r
 begun_once requests opening bytes (Err a) (Ok b) one other = absurd (not_first requests opening a one other)
 begun_once requests opening bytes (Err a) (Err b) one other = ap Err (one_index requests opening a b one other)
 
--- the journal holds first grants of the start, status 6
+-- the journal holds a prefix of the start, status 6
 abbrev pub begun : List Request → List Grant → Test
 begun requests opening = record {
   Value = ⊤;
@@ -145,4 +147,4 @@ begun requests opening = record {
 pub record IsTaken (cell : Cell) (bytes : List ℕ) (requests : List Request) : Type 0 where
   pub read : start_reads cell bytes (Ok requests)
   pub granted : granted_start cell requests ≡ Ok tt
-  pub first : AreFirst requests []
+  pub first : ArePrefix requests []

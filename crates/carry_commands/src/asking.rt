@@ -1,16 +1,16 @@
 //! The requests of a start, asked of a durable cell.
-ghost use Rattle.std.specs.Prelude.{◌≡◌, ◌≤◌, [], None, Err, length, true, IfOk};
+ghost use Rattle.std.specs.Prelude.{◌≡◌, ◌≤◌, length, true, IfOk};
 ghost use Rattle.std.specs.List.{All};
 ghost use Rattle.cell_walks.specs.Clauses.{disk_told};
 ghost use Rattle.cell_texts.specs.Clauses.{EntriesFit, IsFresh, recorded_outcome};
-ghost use Rattle.carry_commands.specs.BeginClauses.{AreAsked, AreDue, HasBegun, IsAskedIn, IsGrantedStart, IsPlacing, KeepsHistory, MAX_START_LINES, StandsForAdded, all_granted, first_parts};
+ghost use Rattle.carry_commands.specs.BeginClauses.{AreAsked, AreDue, HasBegun, IsAskedIn, IsGrantedStart, IsPlacing, KeepsHistory};
+ghost use Rattle.carry_commands.specs.BeginClauses.{MAX_START_LINES, StandsForAdded, all_granted, first_parts};
 
 use crate::refusals::at_other_start;
 use crate::starts::first_other;
 use cell_base::Request;
-use cell_texts::{Closed, Made, Recorded, record_of};
-use cell_walks::EarlyEnd;
-use durable_cell::{Durable, Finished};
+use cell_texts::{Closed, Made, Recorded, give_back, record_of};
+use durable_cell::Durable;
 use outside_io::Disk;
 
 /// Asks the requests that the journal does not hold yet; or gives the disk back with the early end, where the journal holds other grants.
@@ -36,25 +36,6 @@ pub fn begin_opened<D: Disk>(durable: Durable<D>, requests: &[Request]) -> Made<
             }
         }
         Some(at) => give_back(durable, at_other_start(at)),
-    }
-}
-
-// Hands the disk back, before anything is asked.
-fn give_back<D: Disk>(durable: Durable<D>, end: EarlyEnd) -> Made<Recorded, D>
-    requires fresh { IsFresh durable }
-    ensures made { result.made ≡ Err end }
-    ensures stands { StandsForAdded (disk_told D.reads_as D.may_leave D.moment D.left_since D.faults durable.entry result.disk)
-        durable.text durable.opening [] None }
-{
-    let Finished {
-        disk,
-        core: _,
-        history: _,
-        after: _,
-    } = durable.finish();
-    Made {
-        made: Err(end),
-        disk,
     }
 }
 

@@ -1,5 +1,5 @@
 //! `begin CELL START JOURNAL`: the requests of a start that the journal does not hold yet, asked one by one, each grant written to it.
-ghost use Rattle.std.specs.Prelude.{◌≡◌, ◌≤◌, length, IfOk};
+ghost use Rattle.std.specs.Prelude.{◌≤◌, length, IfOk};
 ghost use Rattle.std.specs.List.{All};
 ghost use Rattle.cell_walks.specs.Clauses.{Ends, IsAllowed, disk_told, files_told, observed, sink_told};
 ghost use Rattle.cell_texts.specs.Clauses.{CellFits, EntriesFit, MAX_CELL_BYTES, known, recorded_or_early};

@@ -1,7 +1,8 @@
 //! `carry CELL1 JOURNAL CELL2`: the start file of the parts after the grants of the journal, carried to the second cell.
-ghost use Rattle.std.specs.Prelude.{◌≡◌, ◌≤◌, length, map, IfOk, IfErr, OnOk, OnErr};
+ghost use Rattle.std.specs.Prelude.{◌≤◌, length, map, IfOk, IfErr, OnOk, OnErr};
 ghost use Rattle.std.specs.List.{All};
-ghost use Rattle.cell_walks.specs.Clauses.{Ends, HasCause, IsAllowed, IsDelivered, IsOnlyRead, TookAll, TookSome, disk_told, files_told, observed, sink_told};
+ghost use Rattle.cell_walks.specs.Clauses.{Ends, HasCause, IsAllowed, IsDelivered, IsOnlyRead, TookAll};
+ghost use Rattle.cell_walks.specs.Clauses.{TookSome, disk_told, files_told, observed, sink_told};
 ghost use Rattle.cell_texts.specs.Clauses.{MAX_CELL_BYTES, known, to_read};
 ghost use Rattle.carry_commands.specs.CarryClauses.{CellFits, EndsAfter, HasCarriedAfter, IsPlacing, carry, carry_outcome, place_line};
 

@@ -1,6 +1,7 @@
 //! One part, carried to another cell.
 ghost use Rattle.std.specs.Prelude.{◌≡◌, ◌<◌, ◌^◌, length, IfOk, IfErr};
-ghost use Rattle.carry_commands.specs.CarryClauses.{CellFits, Granted, IsPlacing, IsStage, UncarriedFits, carried_part, is_alike, placed, placed_as, reply_to, resource_at, resource_name, stage, stage_of, type_alike};
+ghost use Rattle.carry_commands.specs.CarryClauses.{CellFits, Granted, IsPlacing, IsStage, UncarriedFits, carried_part, is_alike, placed};
+ghost use Rattle.carry_commands.specs.CarryClauses.{placed_as, reply_to, resource_at, resource_name, stage, stage_of, type_alike};
 
 use crate::refusals::Uncarried;
 use admission_core::Core;

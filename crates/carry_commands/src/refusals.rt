@@ -6,7 +6,7 @@ ghost use Rattle.record_text.specs.Fitting.{RefusalFits};
 ghost use Rattle.record_text.specs.Lines.{why_words};
 ghost use Rattle.record_text.specs.Spaced.{spaced};
 ghost use Rattle.cell_texts.specs.RecordReads.{record_line};
-ghost use Rattle.carry_commands.specs.Refusals.{IsOfPlace, UncarriedFits, carry_refused, other_start, start_refused, uncarried_words};
+ghost use Rattle.carry_commands.specs.Refusals.{IsOfPlace, UncarriedFits, carry_refused, other_start, start_refused};
 
 use cell_base::{Cell, JobId, Refusal};
 use cell_walks::{EarlyEnd, Subject};

@@ -3,7 +3,8 @@ ghost use Rattle.std.specs.Prelude.{◌≡◌, ◌↔◌, ◌≤◌, true, [], l
 ghost use Rattle.std.specs.List.{All};
 ghost use Rattle.cell_walks.specs.Clauses.{IsEndedAt, ShowsFile, files_told};
 ghost use Rattle.cell_texts.specs.Clauses.{CellFits};
-ghost use Rattle.carry_commands.specs.BeginClauses.{AreFirst, EndsAtStart, IsGrantedStart, IsOtherStart, IsPlacing, IsRefusedStart, MAX_START_LINES, granted_start, start_file, start_reads, step_grant};
+ghost use Rattle.carry_commands.specs.BeginClauses.{ArePrefix, EndsAtStart, IsGrantedStart, IsOtherStart, IsPlacing, IsRefusedStart};
+ghost use Rattle.carry_commands.specs.BeginClauses.{MAX_START_LINES, start_file, start_reads, step_grant};
 
 use crate::refusals::{StartFault, at_file_fault, at_start_fault};
 use admission_core::Core;
@@ -84,7 +85,7 @@ fn first_refused(core: &mut Core, requests: &[Request]) -> Option<StartFault>
 
 /// The index of the first grant that is another than the start's, or one too many.
 pub fn first_other(requests: &[Request], opening: &[Grant]) -> Option<u64>
-    ensures none { IfNone result (AreFirst requests.now opening.now) }
+    ensures none { IfNone result (ArePrefix requests.now opening.now) }
     ensures some { IfSome result (IsOtherStart requests.now opening.now) }
 {
     let mut at = 0;

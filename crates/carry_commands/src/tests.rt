@@ -38,34 +38,34 @@ type = [{ name = "A", route = ["M1", "M2:hold"] }, { name = "Z", route = ["M2", 
 
 /// The exit status, what was printed, and the disk after it.
 #[derive(Drop)]
-struct Told {
+struct CallEnd {
     status: u8,
     out: MemSink,
     disk: MemDisk,
 }
 
-fn begin(alloc: Global, cell: &str, start: &str, journal: &[u8]) -> Result<Told, NoMemory> {
+fn begin(alloc: Global, cell: &str, start: &str, journal: &[u8]) -> Result<CallEnd, NoMemory> {
     let mut files = MemFiles::new(alloc, List::new(alloc));
     files.add("cell", cell.as_bytes())?;
     files.add("start", start.as_bytes())?;
     let mut out = MemSink::new(alloc, List::new(alloc));
     let disk = MemDisk::new(alloc, journal, List::new(alloc))?;
     let CommandEnd { status, disk } = run_begin(alloc, &mut files, &mut out, "cell", "start", disk);
-    Ok(Told {
+    Ok(CallEnd {
         status: status.number(),
         out,
         disk,
     })
 }
 
-fn carry(alloc: Global, old: &str, new: &str, journal: &[u8]) -> Result<Told, NoMemory> {
+fn carry(alloc: Global, old: &str, new: &str, journal: &[u8]) -> Result<CallEnd, NoMemory> {
     let mut files = MemFiles::new(alloc, List::new(alloc));
     files.add("old", old.as_bytes())?;
     files.add("new", new.as_bytes())?;
     let mut out = MemSink::new(alloc, List::new(alloc));
     let disk = MemDisk::new(alloc, journal, List::new(alloc))?;
     let CommandEnd { status, disk } = run_carry(alloc, &mut files, &mut out, "old", "new", disk);
-    Ok(Told {
+    Ok(CallEnd {
         status: status.number(),
         out,
         disk,

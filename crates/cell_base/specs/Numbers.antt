@@ -1,9 +1,9 @@
 -- The numbers of the stages of a cell.
-use Rattle.std.specs.Prelude.{ℕ, ◌+◌, ◌<◌, length, take, slice_index_or}
+use Rattle.std.specs.Prelude.{◌≡◌, ℕ, ◌+◌, ◌<◌, length, take, slice_index_or}
 use Rattle.std.specs.List.{sum_by}
 use Rattle.cell_base.specs.declared.cells.Cell.{Cell}
 use Rattle.cell_base.specs.declared.cells.JobType.{JobType}
-use Rattle.cell_base.specs.Stages.{Stage, stage, stages}
+use Rattle.cell_base.specs.Stages.{Stage, IsStage, stage, stages}
 
 -- the number of the first stage of a type: how many stages the types before it have
 abbrev pub first_number : Cell → ℕ → ℕ
@@ -20,3 +20,10 @@ IsNumber cell n = n < length (stages cell)
 -- the stage of a number
 abbrev pub stage_numbered : Cell → ℕ → Stage
 stage_numbered cell n = slice_index_or (stages cell) n (stage 0 0)
+
+-- each stage has one number, and each number is that of one stage
+pub record NumberingLaw (cell : Cell) : Type 0 where
+  pub numbers : (s : Stage) → IsStage cell s → IsNumber cell (number_of cell s)
+  pub numbered : (s : Stage) → IsStage cell s → stage_numbered cell (number_of cell s) ≡ s
+  pub stages : (n : ℕ) → IsNumber cell n → IsStage cell (stage_numbered cell n)
+  pub counted : (n : ℕ) → IsNumber cell n → number_of cell (stage_numbered cell n) ≡ n

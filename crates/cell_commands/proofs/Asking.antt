@@ -1,5 +1,6 @@
 -- The steps of a plan, asked in turn in a durable cell: so far each was granted.
-use Rattle.std.proofs.Common.{◌≡◌, ◌<◌, ◌≤◌, List, [], ◌∷◌, ◌++◌, length, map, Some, None, Ok, Err, refl, sym, ◌∙◌, ap, subst, arith, append_assoc, append-nil}
+use Rattle.std.proofs.Common.{◌≡◌, ◌<◌, ◌≤◌, List, [], ◌∷◌, ◌++◌, length, map, Some, None, Ok}
+use Rattle.std.proofs.Common.{Err, refl, sym, ◌∙◌, ap, subst, arith, append_assoc, append-nil}
 use Rattle.std.proofs.lemmas.List.{length-append, length-map, map-append}
 use Rattle.cell_base.specs.declared.requests.Reply.{Reply}
 use Rattle.cell_base.specs.declared.requests.Reply.TheVariants.{Granted}
@@ -18,9 +19,8 @@ use Rattle.durable_cell.specs.Kept.{KeepsHistory}
 use Rattle.durable_cell.specs.declared.fault.AskFault.{AskFault}
 use Rattle.durable_cell.specs.declared.fault.AskFault.TheVariants as fault
 use Rattle.durable_cell.proofs.Grown.{no_halt_yet}
-use Rattle.durable_cell.proofs.Halts.{after-push}
-use Rattle.cell_commands.specs.Drain.{drained_to, step_entry}
-use Rattle.cell_commands.specs.Draining.{HaltsIn, after_steps, step_grant}
+use Rattle.cell_base.proofs.Histories.{after-push}
+use Rattle.cell_texts.specs.AskedSteps.{HaltsIn, drained_to, step_entry, after_steps, step_grant}
 use Rattle.cell_texts.specs.Recorded.{IsFresh}
 use Rattle.cell_commands.specs.declared.drain.TheConstants.{MAX_PLAN}
 
@@ -90,7 +90,8 @@ module _ {D : Type 0} (old : DurableState D) where
           rest = plan_of now.cell (state_after now.cell (parts now) step);
           parted = so_far.parted ∙ ap (λ (l : List Request). so_far.steps ++ l) rest_is
               ∙ sym (append_assoc so_far.steps (step ∷ []) (plan_of now.cell (state_after now.cell (parts now) step)));
-          is = is ∙ ap (λ (d : DurableState D). with_entry d new.disk 0 (entry 0 step (Answered Granted))) so_far.is ∙ one_more now.disk new.disk so_far.steps step;
+          is = is ∙ ap (λ (d : DurableState D). with_entry d new.disk 0 (entry 0 step (Answered Granted))) so_far.is
+              ∙ one_more now.disk new.disk so_far.steps step;
           left = sym (ap (plan_of now.cell) behind) ∙ ap (λ (d : DurableState D). plan_of d.cell (parts new)) (sym is);
         }
 
@@ -110,7 +111,7 @@ module _ {D : Type 0} (old : DurableState D) where
 
     -- its writing failed
     pub halts : KeepsHistory now → length (plan_of old.cell (first_parts old)) ≤ old.limit → (why : AskFault)
-        → Answers now 0 0 step (Err why) new → HaltsIn old new
+        → Answers now 0 0 step (Err why) new → HaltsIn (plan_of old.cell (first_parts old)) old new
     halts keeps room (fault.Halted at) answer =
         absurd (let none : halted_at now.history ≡ None = no_halt_yet now keeps (ap (λ (d : DurableState D). d.unsure) so_far.is) in
         let both = sym none ∙ answer.1 in cc)

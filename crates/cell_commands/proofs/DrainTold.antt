@@ -1,10 +1,7 @@
 -- What the walk of `drain` answers, told fact by fact.
-use Rattle.std.specs.Prelude.{IsSomeAnd, Some, None}
-use Rattle.std.specs.Option.{option_map, option_to_list}
-use Rattle.std.specs.List.{concat}
-use Rattle.std.proofs.Common.{◌≡◌, ◌⊎◌, inl, inr, ℕ, List, [], ◌∷◌, ◌++◌, length, map, take, Option, refl, sym, ap, ◌∙◌, subst, append-nil, append_assoc}
+use Rattle.std.proofs.Common.{◌≡◌, ◌⊎◌, inl, inr, ℕ, List, [], ◌∷◌, ◌++◌, length, map, take, sym, ap, ◌∙◌, subst, append-nil, append_assoc}
+use Rattle.std.proofs.lemmas.List.Elements.{All-head}
 use Rattle.std.proofs.lemmas.List.{map-append, take-map}
-use Rattle.std.proofs.lemmas.Option.{same_Some}
 use Rattle.outside_io.specs.Causes.{Rose}
 use Rattle.cell_base.specs.declared.cells.Cell.{Cell}
 use Rattle.cell_base.specs.declared.requests.Part.{Part}
@@ -12,18 +9,15 @@ use Rattle.cell_base.specs.declared.requests.Request.{Request}
 use Rattle.cell_base.specs.declared.shifts.Entry.{Entry}
 use Rattle.cell_base.specs.declared.shifts.Grant.{Grant}
 use Rattle.cell_base.specs.Fits.{CellFits}
-use Rattle.cell_base.specs.Histories.{after, after_requests, grants, replay}
-use Rattle.cell_base.specs.Outcomes.{state_after}
+use Rattle.cell_base.specs.Histories.{after, grants, replay}
 use Rattle.cell_base.specs.Plans.{plan_of}
-use Rattle.durable_cell.specs.Asked.{grant_of, halted_in}
-use Rattle.durable_cell.specs.Kept.{StandsForFirst}
-use Rattle.durable_cell.specs.Replayed.{AreDue}
-use Rattle.move_journal.specs.Journals.{StandsFor}
+use Rattle.move_journal.specs.Journals.{StandsForPrefix, StandsFor}
+use Rattle.shift_recovery.specs.Replayed.{AreDue}
 use Rattle.policy_laws.specs.Laws.{HasPlan}
 use Rattle.policy_laws.proofs.Plans.{plan_law}
 use Rattle.record_text.specs.Records.{text_of_record}
 use Rattle.cell_walks.specs.Allowed.{StandsForAdded}
-use Rattle.cell_walks.specs.DiskTold.{DiskTold, IsAlways, IsNow}
+use Rattle.cell_walks.specs.DiskTold.{DiskTold}
 use Rattle.cell_walks.specs.Observed.{Observed}
 use Rattle.cell_walks.specs.Outcomes.{Outcome}
 use Rattle.cell_walks.specs.Promises.{IsAnswered}
@@ -31,29 +25,10 @@ use Rattle.cell_walks.proofs.Walked.{always_weaker, now_weaker}
 use Rattle.cell_texts.specs.Records.{IsHalted, IsRecorded}
 use Rattle.cell_texts.specs.Tests.{KnownCell}
 use Rattle.cell_texts.proofs.Fitting.{replay_admitted}
-use Rattle.cell_commands.specs.Drain.{AllGranted, HaltsAt, drain, drained, drained_to, step_entry}
-use Rattle.cell_commands.specs.Draining.{step_grant}
+use Rattle.cell_texts.specs.AskedSteps.{AllGranted, HaltsAt, step_grant}
+use Rattle.cell_commands.specs.Drain.{drain}
 use Rattle.cell_commands.specs.DrainTold.{IsEmptied, IsHaltedDrain, StandsForSome}
-use Rattle.cell_commands.proofs.PlanSteps.{grants-drained, grants-drained_to}
-
--- the state after steps that were granted
-after_drained : (cell : Cell) (parts : List Part) (steps : List Request)
-    → after cell parts (drained steps) ≡ after_requests cell parts steps
-after_drained cell parts [] = refl
-after_drained cell parts (step ∷ steps) = after_drained cell (state_after cell parts step) steps
-
--- the last entry of a drain that halted is its halted step
-last_step : (first : List Entry) (last : Entry) (steps : List Request) (step : Request) → first ++ last ∷ [] ≡ drained_to steps step
-    → grant_of 0 last ≡ step_grant step
-last_step first last steps step same = ap (grant_of 0) (by_ends first (drained steps) last _ same)
-  where
-    by_ends : (a b : List Entry) (x y : Entry) → a ++ x ∷ [] ≡ b ++ y ∷ [] → x ≡ y
-    by_ends [] [] x y is = cc
-    by_ends [] (e ∷ []) x y is = absurd (cc)
-    by_ends [] (e ∷ f ∷ b) x y is = absurd (cc)
-    by_ends (e ∷ []) [] x y is = absurd (cc)
-    by_ends (e ∷ f ∷ a) [] x y is = absurd (cc)
-    by_ends (e ∷ a) (f ∷ b) x y is = by_ends a b x y (cc)
+use Rattle.cell_texts.proofs.AskedSteps.{after_drained, grants-drained, grants-drained_to, last_asked}
 
 module _ (disk : DiskTold) (cell : Cell) (text : List ℕ) (opening : List Grant) (outcome : Outcome) (fits : CellFits cell)
     (due : AreDue cell opening) (left : StandsForAdded disk text opening outcome.added outcome.unsure) where
@@ -68,7 +43,7 @@ module _ (disk : DiskTold) (cell : Cell) (text : List ℕ) (opening : List Grant
 
   -- a prefix of grants that are those of steps
   some_steps : (file : List ℕ) (since : List Grant) (steps : List Request) → since ≡ map step_grant steps
-      → StandsForFirst text opening since file → StandsForSome text opening steps file
+      → StandsForPrefix text opening since file → StandsForSome text opening steps file
   some_steps file since steps is first = (
     first.0,
     subst (λ (grants : List Grant). StandsFor file text (opening ++ grants)) (ap (take first.0) is ∙ take-map step_grant first.0 steps)
@@ -81,21 +56,23 @@ module _ (disk : DiskTold) (cell : Cell) (text : List ℕ) (opening : List Grant
       ap (after cell parts) is.asked.goes ∙ after_drained cell parts plan ∙ law.drains.emptied in
       let added : outcome.added ≡ map step_grant plan =
       ap (λ (o : Outcome). o.added) is.is ∙ ap (grants 0) is.asked.goes ∙ grants-drained plan in
-      let sure : outcome.unsure ≡ None = ap (λ (o : Outcome). o.unsure) is.is in
-      let now = subst (λ (u : Option Grant). StandsForAdded disk text opening outcome.added u) sure
+      let sure : outcome.unsure ≡ [] = ap (λ (o : Outcome). o.unsure) is.is in
+      let now = subst (λ (u : List Grant). StandsForAdded disk text opening outcome.added u) sure
       left in
       record {
         drains = law.drains;
         status = ap (λ (o : Outcome). o.status) is.is;
         written = is.text ∙ (λ i. text_of_record cell parts 0 (length opening) (is.asked.goes i) (plan_of cell (emptied i)));
         added = added;
-        stands = now_weaker disk (λ file. StandsFor file text (opening ++ outcome.added) ⊎ ⊥)
+        stands = now_weaker disk (λ file. StandsFor file text (opening ++ outcome.added)
+            ⊎ StandsFor file text (opening ++ outcome.added ++ []))
             (λ file. StandsFor file text (opening ++ map step_grant plan))
             (λ file. elim [
               | inl so ↦ subst (λ (gs : List Grant). StandsFor file text (opening ++ gs)) added so
-              | inr none ↦ absurd none
+              | inr so ↦ subst (StandsFor file text)
+                  (append-nil (opening ++ outcome.added) ∙ ap (λ (gs : List Grant). opening ++ gs) added) so
             ]) now.now;
-        any_moment = always_weaker disk (λ file. disk.leaves file ⊎ StandsForFirst text opening (outcome.added ++ []) file)
+        any_moment = always_weaker disk (λ file. disk.leaves file ⊎ StandsForPrefix text opening (outcome.added ++ []) file)
             (λ file. disk.leaves file ⊎ StandsForSome text opening plan file)
             (λ file. elim [
               | inl was ↦ inl was
@@ -110,11 +87,11 @@ module _ (disk : DiskTold) (cell : Cell) (text : List ℕ) (opening : List Grant
       let goes = is.asked.goes.4 in
       let added : outcome.added ≡ map step_grant first =
       ap (λ (o : Outcome). o.added) is.is ∙ ap (grants 0) goes ∙ grants-drained_to first last in
-      let unsure : outcome.unsure ≡ Some (step_grant last) =
-      ap (λ (o : Outcome). o.unsure) is.is ∙ ap Some (last_step is.first is.last first last (sym is.parted ∙ goes)) in
+      let unsure : outcome.unsure ≡ step_grant last ∷ [] =
+      ap (λ (o : Outcome). o.unsure) is.is ∙ ap (λ (g : Grant). g ∷ []) (last_asked is.first is.last first last (sym is.parted ∙ goes)) in
       let both : outcome.added ++ step_grant last ∷ [] ≡ map step_grant (first ++ last ∷ []) =
       ap (λ (gs : List Grant). gs ++ step_grant last ∷ []) added ∙ sym (map-append step_grant first (last ∷ [])) in
-      let now = subst (λ (u : Option Grant). StandsForAdded disk text opening outcome.added u) unsure left in
+      let now = subst (λ (u : List Grant). StandsForAdded disk text opening outcome.added u) unsure left in
       record {
         first = first;
         last = last;
@@ -134,13 +111,13 @@ module _ (disk : DiskTold) (cell : Cell) (text : List ℕ) (opening : List Grant
                   (append_assoc opening outcome.added (step_grant last ∷ []) ∙ ap (λ (gs : List Grant). opening ++ gs) both) so)
             ]) now.now;
         any_moment = always_weaker disk
-            (λ file. disk.leaves file ⊎ StandsForFirst text opening (outcome.added ++ step_grant last ∷ []) file)
+            (λ file. disk.leaves file ⊎ StandsForPrefix text opening (outcome.added ++ step_grant last ∷ []) file)
             (λ file. disk.leaves file ⊎ StandsForSome text opening (first ++ last ∷ []) file)
             (λ file. elim [
               | inl was ↦ inl was
               | inr some ↦ inr (some_steps file (outcome.added ++ step_grant last ∷ []) (first ++ last ∷ []) both some)
             ]) now.any_moment;
-        cause = now.cause;
+        cause = All-head (λ grant. Rose disk.faults disk.faults_after) (step_grant last) [] now.cause;
       }
 
 -- what is answered, of a cell that fits

@@ -1,28 +1,20 @@
--- The steps of a plan: how many they are at most, that they fit the cell, and their entries.
-use Rattle.std.proofs.Common.{◌≡◌, ℕ, zero, suc, ◌+◌, ◌≤◌, Bool, true, false, cond, List, [], ◌∷◌, ◌++◌, get_or, drop, length-drop, map, All, Option, Some, None, refl, sym, ap, subst, arith}
-use Rattle.std.proofs.lemmas.List.Elements.{All-nil, All-cons, All-head, All-tail, All-map, All-weaker}
+-- The steps of a plan: how many they are at most, and that they fit the cell.
+use Rattle.std.proofs.Common.{◌≡◌, ℕ, zero, suc, ◌+◌, ◌≤◌, Bool, true, false, cond, List, get_or}
+use Rattle.std.proofs.Common.{drop, length-drop, All, Option, Some, None, refl, sym, subst, arith}
+use Rattle.std.proofs.lemmas.List.Elements.{All-nil, All-cons, All-weaker}
 use Rattle.std.proofs.lemmas.List.Sums.{sum_by-le}
 use Rattle.cell_base.specs.declared.cells.Cell.{Cell}
 use Rattle.cell_base.specs.declared.requests.Part.{Part}
-use Rattle.cell_base.specs.declared.requests.Reply.TheVariants.{Granted}
 use Rattle.cell_base.specs.declared.requests.Request.{Request}
-use Rattle.cell_base.specs.declared.requests.Told.TheVariants.{Answered, Halted}
-use Rattle.cell_base.specs.declared.shifts.Entry.{Entry}
-use Rattle.cell_base.specs.declared.shifts.Grant.{Grant}
 use Rattle.cell_base.specs.Fits.{CellFits, RequestFits}
-use Rattle.cell_base.specs.Histories.{grants}
 use Rattle.cell_base.specs.Outcomes.{state_after}
 use Rattle.cell_base.specs.Plans.{plan_of, plan_step, work, work_at, work_of}
 use Rattle.cell_base.specs.Policy.{IsAdmitted}
-use Rattle.cell_base.specs.Scripts.{holds_halt}
 use Rattle.cell_base.specs.Stages.{IsStage, first_branch_path, places_left, stage_of}
 use Rattle.policy_laws.proofs.Limits.{length-route_of}
 use Rattle.policy_laws.proofs.Plans.{plan_law}
 use Rattle.policy_laws.proofs.Units.{units_law}
 use Rattle.policy_laws.proofs.Walks.{length-path_within, work_at-le}
-use Rattle.durable_cell.specs.Asked.{halted_in}
-use Rattle.cell_commands.specs.Drain.{drained, drained_to, step_entry}
-use Rattle.cell_commands.specs.Draining.{step_grant}
 use Rattle.cell_commands.specs.declared.drain.TheConstants.{MAX_PLAN}
 
 module _ (cell : Cell) (fits : CellFits cell) where
@@ -80,41 +72,3 @@ module _ (cell : Cell) (fits : CellFits cell) where
       within (suc n) parts admitted is =
           by_step (suc n) parts admitted is
           (λ m behind less admitted is. within n behind admitted (omega (arith, less, is))) (plan_step cell parts) refl
-
-  -- so do the requests of their entries
-  pub drained_fit : (steps : List Request) → All (RequestFits cell) steps
-      → All (λ (entry : Entry). RequestFits cell entry.request) (drained steps)
-  drained_fit steps fit = All-map (λ (entry : Entry). RequestFits cell entry.request) (step_entry (Answered Granted)) steps fit
-
-  pub drained_to_fit : (first rest : List Request) (last : Request) → All (RequestFits cell) (first ++ last ∷ rest)
-      → All (λ (entry : Entry). RequestFits cell entry.request) (drained_to first last)
-  drained_to_fit [] rest last fit =
-      All-cons (λ (entry : Entry). RequestFits cell entry.request) (step_entry Halted last) [] (All-head (RequestFits cell) last rest fit)
-      (All-nil (λ (entry : Entry). RequestFits cell entry.request))
-  drained_to_fit (step ∷ first) rest last fit =
-      All-cons (λ (entry : Entry). RequestFits cell entry.request) (step_entry (Answered Granted) step) (drained_to first last)
-      (All-head (RequestFits cell) step (first ++ last ∷ rest) fit)
-      (drained_to_fit first rest last (All-tail (RequestFits cell) step (first ++ last ∷ rest) fit))
-
--- none of them halted, or the last one did
-pub drained_unhalted : (steps : List Request) → holds_halt (drained steps) ≡ false
-drained_unhalted [] = refl
-drained_unhalted (step ∷ steps) = drained_unhalted steps
-
-pub drained_to_halted : (steps : List Request) (last : Request) → holds_halt (drained_to steps last) ≡ true
-drained_to_halted [] last = refl
-drained_to_halted (step ∷ steps) last = drained_to_halted steps last
-
--- the halted one is the last
-pub halted_in-drained_to : (steps : List Request) (last : Request) → halted_in (drained_to steps last) ≡ Some (step_entry Halted last)
-halted_in-drained_to [] last = refl
-halted_in-drained_to (step ∷ steps) last = halted_in-drained_to steps last
-
--- the grants of steps that were granted are those of the steps
-pub grants-drained : (steps : List Request) → grants 0 (drained steps) ≡ map step_grant steps
-grants-drained [] = refl
-grants-drained (step ∷ steps) = ap (λ (rest : List Grant). step_grant step ∷ rest) (grants-drained steps)
-
-pub grants-drained_to : (steps : List Request) (last : Request) → grants 0 (drained_to steps last) ≡ map step_grant steps
-grants-drained_to [] last = refl
-grants-drained_to (step ∷ steps) last = ap (λ (rest : List Grant). step_grant step ∷ rest) (grants-drained_to steps last)

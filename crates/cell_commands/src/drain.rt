@@ -2,7 +2,8 @@
 ghost use Rattle.std.specs.Prelude.{◌≡◌, ◌≤◌, length, IfOk};
 ghost use Rattle.cell_walks.specs.Clauses.{Ends, IsAllowed, disk_told, files_told, observed, sink_told};
 ghost use Rattle.cell_texts.specs.Clauses.{CellFits, EntriesFit, IsFresh, MAX_CELL_BYTES, known, recorded_or_early, recorded_outcome};
-ghost use Rattle.cell_commands.specs.Draining.{AreDue, IsAdmitted, IsDrainOf, IsDrained, IsDrainedIn, KeepsHistory, StandsForAdded, drain, first_parts};
+ghost use Rattle.cell_commands.specs.Draining.{AreDue, IsAdmitted, IsDrainOf, IsDrained, IsDrainedIn};
+ghost use Rattle.cell_commands.specs.Draining.{KeepsHistory, StandsForAdded, drain, first_parts};
 ghost use Rattle.cell_commands.specs.declared.drain.TheConstants.{MAX_PLAN};
 
 use cell_texts::{

@@ -1,5 +1,4 @@
 //! `plan CELL JOURNAL`: the plan that empties the cell after the grants of the journal.
-ghost use Rattle.std.specs.Prelude.{◌≡◌};
 ghost use Rattle.cell_walks.specs.Clauses.{Ends, IsAllowed, IsDelivered, disk_told, files_told, observed, sink_told};
 ghost use Rattle.cell_commands.specs.Plan.{plan, plan_outcome};
 

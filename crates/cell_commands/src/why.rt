@@ -1,7 +1,8 @@
 //! `why CELL JOURNAL STEP`: what a step would be told after the grants of the journal, and which jobs stand in its way.
 ghost use Rattle.std.specs.Prelude.{◌≡◌, ◌≤◌, length, map, IfOk, IfErr, OnOk, OnErr};
 ghost use Rattle.record_text.specs.Fitting.{ToldFits};
-ghost use Rattle.cell_walks.specs.Clauses.{Ends, HasCause, IsAllowed, IsDelivered, IsNotOpened, IsOnlyRead, TookAll, TookSome, disk_told, files_told, observed, sink_told};
+ghost use Rattle.cell_walks.specs.Clauses.{Ends, HasCause, IsAllowed, IsDelivered, IsNotOpened, IsOnlyRead};
+ghost use Rattle.cell_walks.specs.Clauses.{TookAll, TookSome, disk_told, files_told, observed, sink_told};
 ghost use Rattle.cell_walks.specs.declared.early_end.EarlyEnd.TheVariants.{WantOfMemory};
 ghost use Rattle.cell_texts.specs.Clauses.{Answered, CellFits, MAX_CELL_BYTES, RequestFits, job_line, known, to_read};
 ghost use Rattle.cell_commands.specs.Why.{IsAnswerAfter, IsAnswerOf, answer_lines, why, why_outcome};

@@ -12,7 +12,8 @@ use Rattle.cell_base.specs.declared.cells.Resource.{Resource}
 use Rattle.cell_base.proofs.NameTests.{test_passes}
 use Rattle.toml_walk.specs.Documents.{any_item, table_of, only, needed, string_at, string_of, number_within, number_of, number_at}
 use Rattle.cell_file.specs.Names.{fresh_name}
-use Rattle.cell_file.specs.Resources.{resource_of, resource_of_members, order_given, resources_of, next_resource, has_order, checked_resources}
+use Rattle.cell_file.specs.Resources.{resource_of, resource_of_members, order_given, resources_of}
+use Rattle.cell_file.specs.Resources.{next_resource, has_order, checked_resources}
 use Rattle.cell_file.specs.Printing.{resource_members, resource_data}
 use Rattle.cell_file.proofs.Split.{each_again, at_split, not_before}
 

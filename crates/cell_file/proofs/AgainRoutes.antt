@@ -1,5 +1,6 @@
 -- What is printed for a route is walked to the same route.
-use Rattle.std.proofs.Common.{◌≡◌, ◌≢◌, ℕ, ◌-◌, ◌<◌, Bool, true, false, List, [], ◌++◌, map, length, get_or, drop, Some, Ok, refl, sym, ap, ◌∙◌, add-zero, arith}
+use Rattle.std.proofs.Common.{◌≡◌, ◌≢◌, ℕ, ◌-◌, ◌<◌, Bool, true, false, List, [], ◌++◌, map, length}
+use Rattle.std.proofs.Common.{get_or, drop, Some, Ok, refl, sym, ap, ◌∙◌, add-zero, arith}
 use Rattle.std.specs.Prelude.{if◌then◌else◌}
 use Rattle.std.specs.List.{All, AllPairs, list_all, position, position_or_len}
 use Rattle.std.specs.Str.{bytes_eq}

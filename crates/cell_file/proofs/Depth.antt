@@ -5,7 +5,8 @@ use Rattle.toml.specs.Data.{Data, depth, members_depth}
 use Rattle.cell_base.specs.Named.{resource_names}
 use Rattle.cell_base.specs.declared.cells.Cell.{Cell}
 use Rattle.cell_base.specs.declared.cells.JobType.{JobType}
-use Rattle.cell_file.specs.Printing.{number_data, array_data, resource_members, resource_data, step_data, job_type_members, job_type_data, version_of, cell_members}
+use Rattle.cell_file.specs.Printing.{number_data, array_data, resource_members, resource_data, step_data}
+use Rattle.cell_file.specs.Printing.{job_type_members, job_type_data, version_of, cell_members}
 
 deep : {A : Type 0} (data_of : A → Data) (n : ℕ) (xs : List A) → ((x : A) → depth (data_of x) ≤ n)
     → depth (array_data data_of xs) ≤ n + 1

@@ -18,7 +18,7 @@ abbrev pub job_type_keys : ℕ → List (List ℕ)
 job_type_keys version =
     if version == 2 then codes "name" ∷ codes "route" ∷ codes "next" ∷ [] else codes "name" ∷ codes "route" ∷ []
 
--- the members of type i, where the resources have these names, behind types of these names
+-- the members of type i, where the resources have these names, after types of these names
 unfoldable pub job_type_of_members : ℕ → List (List ℕ) → List (List ℕ) → Members → Result JobType CellFault
 job_type_of_members i resources earlier ms = do
   name ← fresh_name (of_job_type i Name) earlier ms
@@ -34,7 +34,7 @@ job_type_of version i resources earlier d = do
   table ← looked (only (of_job_type i Whole) (job_type_keys version) ms)
   job_type_of_members i resources earlier table
 
--- the type behind these
+-- the type after these
 abbrev pub next_job_type : ℕ → List (List ℕ) → List JobType → Data → Result JobType CellFault
 next_job_type version resources earlier d = job_type_of version (length earlier) resources (type_names earlier) d
 

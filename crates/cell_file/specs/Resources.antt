@@ -1,8 +1,9 @@
 -- The resources of a cell file.
-use Rattle.std.specs.Prelude.{codes, ℕ, Bool, ◌&&◌, not, nat_lt, if◌then◌else◌, List, [], ◌∷◌, length, Option, Some, None, is_some, option_and_then, unwrap_or, Result, Ok, Err}
+use Rattle.std.specs.Prelude.{codes, ℕ, Bool, ◌&&◌, not, nat_lt, if◌then◌else◌, List, [], ◌∷◌, length}
+use Rattle.std.specs.Prelude.{Option, Some, None, is_some, option_and_then, unwrap_or, Result, Ok, Err}
 use Rattle.cell_base.specs.Faults.{◌>>=◌}
 use Rattle.cell_base.specs.Fits.{units_of}
-use Rattle.cell_base.specs.Named.{resource_names}
+pub use Rattle.cell_base.specs.Named.{resource_names}
 use Rattle.cell_base.specs.declared.cells.Resource.{Resource}
 use Rattle.cell_base.specs.declared.limits.TheConstants.{MAX_CAPACITY, MAX_ORDER, MAX_UNITS}
 use Rattle.cell_base.specs.declared.places.Place.{Place}
@@ -19,7 +20,7 @@ unfoldable pub order_given : Place → Option Data → Result (Option ℕ) CellF
 order_given place None = Ok None
 order_given place (Some d) = looked (number_of place 0 MAX_ORDER d) >>= λ order. Ok (Some order)
 
--- the members of resource i, behind resources of these names
+-- the members of resource i, after resources of these names
 unfoldable pub resource_of_members : ℕ → List (List ℕ) → Members → Result Resource CellFault
 resource_of_members i earlier ms = do
   name ← fresh_name (of_resource i Name) earlier ms
@@ -38,7 +39,7 @@ resource_of i earlier d = do
   table ← looked (only (of_resource i Whole) resource_keys ms)
   resource_of_members i earlier table
 
--- the resource behind these
+-- the resource after these
 abbrev pub next_resource : List Resource → Data → Result Resource CellFault
 next_resource earlier d = resource_of (length earlier) (resource_names earlier) d
 

@@ -35,7 +35,7 @@ step_of_text place names text = do
 unfoldable pub step_read : Place → List (List ℕ) → Data → Result Step CellFault
 step_read place names d = looked (string_of place d) >>= step_of_text place names
 
--- the step behind these in the route of type i
+-- the step after these in the route of type i
 abbrev pub next_step : ℕ → List (List ℕ) → List Step → Data → Result Step CellFault
 next_step i names earlier d = step_read (in_job_type i Route (length earlier)) names d
 

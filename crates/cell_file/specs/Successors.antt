@@ -21,7 +21,7 @@ last_or place (n ∷ ns) = last_or n ns
 abbrev pub is_integer : Data → Bool
 is_integer d = is_some (as_integer d)
 
--- the successor behind these: an integer greater than the one before it, or than the place, and below the route's length
+-- the successor after these: an integer greater than the one before it, or than the place, and below the route's length
 abbrev pub next_successor : Place → ℕ → ℕ → List ℕ → Data → Result ℕ CellFault
 next_successor at k places earlier d = looked (number_of at (last_or k earlier + 1) (places - 1) d)
 
@@ -35,7 +35,7 @@ successors_in at k places ds = do
 unfoldable pub successors_of : Place → ℕ → ℕ → Data → Result (List ℕ) CellFault
 successors_of at k places d = looked (array_of at d) >>= successors_in at k places
 
--- the successors of the place behind these
+-- the successors of the place after these
 abbrev pub next_place : ℕ → ℕ → List (List ℕ) → Data → Result (List ℕ) CellFault
 next_place i places earlier d = successors_of (in_job_type i Next (length earlier)) (length earlier) places d
 
@@ -44,7 +44,7 @@ unfoldable pub next_in : ℕ → ℕ → Items → Result (List (List ℕ)) Cell
 next_in i places ds =
     if item_count ds == places then each (next_place i places) [] ds else Err (BadNumber (of_job_type i Next))
 
--- those of the file, and without them the place behind each place but the last
+-- those of the file, and without them the place after each place but the last
 unfoldable pub next_read : ℕ → ℕ → Option Data → Result (List (List ℕ)) CellFault
 next_read i places None = Ok (default_next places)
 next_read i places (Some d) = looked (array_of (of_job_type i Next) d) >>= next_in i places

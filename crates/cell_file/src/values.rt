@@ -126,7 +126,7 @@ fn step_value(alloc: Global, resources: &[Resource], step: &Step) -> Result<Valu
     text_of(alloc, resource.name.bytes(), step.works)
 }
 
-// A name, with `:hold` behind it where the stage does not work.
+// A name, with `:hold` after it where the stage does not work.
 #[tactic(auto, using(crate::proofs::Views::view_string, crate::proofs::Views::utf8_if_name))]
 fn text_of(alloc: Global, name: &[u8], works: bool) -> Result<Value, AllocError>
     requires { IsName name.now }

@@ -3,12 +3,12 @@ ghost use Rattle.std.specs.Prelude.{◌≡◌, ◌≤◌, length};
 ghost use Rattle.std.specs.List.{All};
 ghost use Rattle.std.specs.Str.{bytes_eq};
 ghost use Rattle.cell_base.specs.Fits.{TypeFits};
-ghost use Rattle.cell_base.specs.Successors.{behind};
+ghost use Rattle.cell_base.specs.Successors.{place_after};
 ghost use Rattle.cell_file.specs.Printing.{is_plain, version_of};
 
 use cell_base::{Cell, JobType};
 
-/// Version 1 where each place of each type has the place behind it as its only successor, and else version 2.
+/// Version 1 where each place of each type has the place after it as its only successor, and else version 2.
 pub fn version_of(cell: &Cell) -> u32
     requires { All (TypeFits (length cell.now.resources)) cell.now.types }
     ensures { result ≡ version_of cell.now }
@@ -27,16 +27,16 @@ fn is_plain(job_type: &JobType) -> bool
 {
     let places = job_type.route.as_slice().len();
     for (place, next) in job_type.next.as_slice().iter().enumerate() {
-        if !is_behind(places, place, next.as_slice()) {
+        if !is_place_after(places, place, next.as_slice()) {
             return false;
         }
     }
     true
 }
 
-fn is_behind(places: usize, place: usize, next: &[u16]) -> bool
+fn is_place_after(places: usize, place: usize, next: &[u16]) -> bool
     requires { place ≤ 64 }
-    ensures { result ≡ bytes_eq next.now (behind places place) }
+    ensures { result ≡ bytes_eq next.now (place_after places place) }
 {
     match next {
         [] => places <= place + 1,

@@ -1,5 +1,6 @@
 -- What a pass knows after it asked, from what the durable cell answered.
-use Rattle.std.proofs.Common.{◌≡◌, ℕ, ◌+◌, ◌≤◌, Bool, true, false, cond, Some, None, List, [], ◌∷◌, ◌++◌, map, length, length-append, Result, Ok, Err, refl, sym, ap, ◌∙◌, subst, arith}
+use Rattle.std.proofs.Common.{◌≡◌, ℕ, ◌+◌, ◌≤◌, Bool, true, false, cond, Some, None, List, [], ◌∷◌, ◌++◌, map}
+use Rattle.std.proofs.Common.{length, length-append, Result, Ok, Err, refl, sym, ap, ◌∙◌, subst, arith}
 use Rattle.std.specs.List.{position_from}
 use Rattle.std.specs.Option.{option_map, option_or}
 use Rattle.std.proofs.lemmas.Iterator.Adapters.{position_from-zero}
@@ -94,7 +95,7 @@ none_halted n (e ∷ es) none = go (is_halt e) (none_halted (n + 1) es) none
     go true later none = absurd (cc)
     go false later none = later none
 
--- behind a history without a halt, the halt is that of the entry more
+-- after a history without a halt, the halt is that of the entry more
 halt-last : (shift : ℕ) (log : List Entry) (e : Entry) → halted_at log ≡ None
     → unsure_grant shift (log ++ e ∷ []) ≡ unsure_grant shift (e ∷ [])
 halt-last shift log e none =
@@ -129,7 +130,7 @@ stays o n request (Err (Full len)) a b fits h = stays_same o a b fits h.0
 stays o n request (Err (Device at)) a b fits h =
     let goes : GoesOn a = h.3 in stays_longer o a b (entry n request told.Halted) fits goes.no_halt h.0
 
--- the durable cell behind an answer is still one of the lock
+-- the durable cell after an answer is still one of the lock
 pub fits_after : {D : Type 0} (o : Opening D) (n : ℕ) (request : Request) (answer : Result Reply AskFault) (a b : DurableState D)
     → Fits o a → Answers a o.shift n request answer b → IsLegal b.cell (first_parts b) b.history → length b.history ≤ b.limit → Fits o b
 fits_after {D} o n request answer a b fits h legal short =

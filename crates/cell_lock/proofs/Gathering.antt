@@ -12,7 +12,7 @@ use Rattle.cell_lock.specs.Law.{AllBegin, AllStand}
 use Rattle.cell_lock.specs.Views.{mines_of, passing, gathered}
 use Rattle.cell_lock.specs.Standing.{LockId, Standing, answers_of, all_answers, new_pass, new_passes, AreNumbered}
 use Rattle.cell_lock.specs.Steps.{gathering}
-use Rattle.cell_lock.proofs.Histories.{begin_behind}
+use Rattle.cell_lock.proofs.Histories.{begin_after}
 
 pub passes_more : {D : Type 0} (moment : D → ℕ) (lock : LockId D) (first n : ℕ)
     → new_passes moment lock first (n + 1) ≡ new_passes moment lock first n ++ new_pass moment lock (first + n) ∷ []
@@ -46,7 +46,7 @@ pub all_seen : {D : Type 0} (ps : List (Standing D)) (log : List Entry) → AllB
     → All (λ (p : Standing D). IsPrefix p.seen log) ps
 all_seen {D} [] log h = All-nil (λ (p : Standing D). IsPrefix p.seen log)
 all_seen {D} (p ∷ ps) log h =
-    All-cons (λ (q : Standing D). IsPrefix q.seen log) p ps h.0 (all_seen ps log (begin_behind p.earlier (all_answers ps) log h.1))
+    All-cons (λ (q : Standing D). IsPrefix q.seen log) p ps h.0 (all_seen ps log (begin_after p.earlier (all_answers ps) log h.1))
 
 -- what a pass saw granted, with each of its answers, is on each image since then
 abbrev Stands : {D : Type 0} → (DurableState D → ℕ → ℕ → Type 0) → ℕ → DurableState D → List Entry × ℕ → Type 0

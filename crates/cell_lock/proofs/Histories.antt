@@ -1,5 +1,6 @@
 -- Beginnings of a history, and the entries of one number in it.
-use Rattle.std.proofs.Common.{◌≡◌, ◌≢◌, ℕ, zero, suc, ◌+◌, ◌<◌, ◌≤◌, ◌==◌, List, [], ◌∷◌, ◌++◌, replicate, refl, sym, ap, ◌∙◌, arith, append_assoc, append-nil, zero-add}
+use Rattle.std.proofs.Common.{◌≡◌, ◌≢◌, ℕ, zero, suc, ◌+◌, ◌<◌, ◌≤◌, ◌==◌, List, [], ◌∷◌, ◌++◌, replicate}
+use Rattle.std.proofs.Common.{refl, sym, ap, ◌∙◌, arith, append_assoc, append-nil, zero-add}
 use Rattle.std.proofs.lemmas.Bool.{cond-true, cond-false, eq-eqb, ne_eqb}
 use Rattle.std.proofs.lemmas.List.Elements.{filter-append}
 use mathlib.Core.List.{IsPrefix}
@@ -25,9 +26,9 @@ pub begin_append : (xs ys : List (List Entry × ℕ)) (log : List Entry) → All
 begin_append [] ys log a b = b
 begin_append (x ∷ xs) ys log a b = (a.0, begin_append xs ys log a.1 b)
 
-pub begin_behind : (xs ys : List (List Entry × ℕ)) (log : List Entry) → AllBegin (xs ++ ys) log → AllBegin ys log
-begin_behind [] ys log b = b
-begin_behind (x ∷ xs) ys log b = begin_behind xs ys log b.1
+pub begin_after : (xs ys : List (List Entry × ℕ)) (log : List Entry) → AllBegin (xs ++ ys) log → AllBegin ys log
+begin_after [] ys log b = b
+begin_after (x ∷ xs) ys log b = begin_after xs ys log b.1
 
 pub entries-own : (k : ℕ) (log : List Entry) (e : Entry) → e.session ≡ k → entries_of k (log ++ e ∷ []) ≡ entries_of k log ++ e ∷ []
 entries-own k log e same =

@@ -1,6 +1,7 @@
 -- The steps of a pass keep the rule of the table: taking the turn, telling of an entry, and giving the turn up.
 use Rattle.std.specs.Prelude.{Some, Option as Maybe}
-use Rattle.std.proofs.Common.{◌≡◌, ◌≢◌, inl, inr, ⊎_elim, ℕ, ◌+◌, ◌≤◌, eqb, Bool, true, false, List, [], ◌∷◌, ◌++◌, length, set, get_or, refl, sym, ap, ◌∙◌, subst, arith}
+use Rattle.std.proofs.Common.{◌≡◌, ◌≢◌, inl, inr, ⊎_elim, ℕ, ◌+◌, ◌≤◌, eqb, Bool, true, false, List}
+use Rattle.std.proofs.Common.{[], ◌∷◌, ◌++◌, length, set, get_or, refl, sym, ap, ◌∙◌, subst, arith}
 use mathlib.Core.Option.{Option, none, some, some-injective}
 use mathlib.Core.List.{IsPrefix}
 use lib.ListN.{get_elem?}
@@ -56,7 +57,7 @@ module _ {D : Type 0} (has : DurableState D → ℕ → ℕ → Type 0) (moment 
 
   abbrev Took : List ℕ → Homes D → Type 0
   Took words homes =
-      Leaves has moment o id s.views words homes 0 (either (eqb (get_or words 0 0) 0) 1 (get_or words 0 0)) [] (took any_step (V, []))
+      Leaves has moment o id s.views words homes 0 (either (eqb (get_or words 0 0) 0) 1 (get_or words 0 0)) [] (took has any_step (V, []))
 
   took_free : Free has moment o k.log s.words s.homes s.views → Took s.words s.homes
   took_free f =
@@ -91,8 +92,9 @@ module _ {D : Type 0} (has : DurableState D → ℕ → ℕ → Type 0) (moment 
         began = subst (λ (h : List Entry). IsPrefix seen h) (sym f.seen) known.begin.0;
         own = mine_is ∙ ap (entries_of n) (sym f.seen);
       } in
+      let stand = subst (λ (x : Opening D). AllStand has x.shift f.held V.answers) (sym here) (f.acknowledges.each id V at) in
       subst (λ (z : List ℕ × Homes D). Took z.0 z.1) (λ i. (sym f.words_are i, sym f.home i))
-      (w, takes 0 f.held, refl, kept, ((λ e. (f.held, refl, follows)), (λ ne. absurd (ne refl))))
+      (w, takes 0 f.held, refl, kept, ((λ e. (f.held, refl, follows, stand)), (λ ne. absurd (ne refl))))
 
   took_busy : Taken has moment o k.log s.words s.homes s.views → Took s.words s.homes
   took_busy t =
@@ -126,9 +128,9 @@ module _ {D : Type 0} (has : DurableState D → ℕ → ℕ → Type 0) (moment 
 pub takes_turn : {D : Type 0} (has : DurableState D → ℕ → ℕ → Type 0) (moment : D → ℕ) (o p : Opening D) (slots id n saw : ℕ)
     (seen : List Entry) (earlier : List (List Entry × ℕ)) (mine : List Entry) (m : AtSeat D)
     → m ≡ (passing p n seen saw earlier mine, [])
-    → Allows (Kept has moment o) slots id m 0 (λ k. either (eqb k 0) 1 k) (took any_step m)
+    → Allows (Kept has moment o) slots id m 0 (λ k. either (eqb k 0) 1 k) (took has any_step m)
 takes_turn {D} has moment o p slots id n saw seen earlier mine m is =
-    subst (λ (z : AtSeat D). Allows (Kept has moment o) slots id z 0 (λ k. either (eqb k 0) 1 k) (took any_step z)) (sym is)
+    subst (λ (z : AtSeat D). Allows (Kept has moment o) slots id z 0 (λ k. either (eqb k 0) 1 k) (took has any_step z)) (sym is)
     (λ s k deep at small. ⊎_elim (took_free has moment o p id n saw seen earlier mine s k at)
     (took_busy has moment o p id n saw seen earlier mine s k at) k.turn)
 

@@ -85,11 +85,11 @@ pub record Kept {D : Type 0} (has : DurableState D → ℕ → ℕ → Type 0) (
   pub others : (k : ℕ) → Outside opening k → entries_of k log ≡ []
   pub turn : Free has moment opening log s.words s.homes s.views ⊎ Taken has moment opening log s.words s.homes s.views
 
--- where the turn was free, the pass has it now, and the durable cell with it
-abbrev pub took : {D : Type 0} → Step (DurableState D) → AtSeat D → ℕ → AtSeat D → Type 0
-took {D} st m found m' =
+-- where the turn was free, the pass has it now, and the durable cell with it, which has what the pass saw granted
+abbrev pub took : {D : Type 0} → (DurableState D → ℕ → ℕ → Type 0) → Step (DurableState D) → AtSeat D → ℕ → AtSeat D → Type 0
+took {D} has st m found m' =
     (found ≡ 0 → (durable : DurableState D) × (m' ≡ (caught_up m.0 durable.history (Some durable), (0, durable) ∷ []))
-    × Follows m.0 durable)
+    × Follows m.0 durable × AllStand has m.0.opening.shift durable m.0.answers)
     × (found ≢ 0 → m' ≡ m)
 
 -- the history of the durable cell in hand
@@ -110,6 +110,6 @@ moment_held moment (held ∷ more) = moment held.1.disk
 abbrev pub gave : {D : Type 0} → (D → ℕ) → Step (DurableState D) → AtSeat D → ℕ → AtSeat D → Type 0
 gave moment st m found m' = m' ≡ (passing m.0.opening m.0.first m.0.log (moment_held moment m.1) m.0.answers (mine_of m.0), [])
 
--- a new seat has no number, and stands behind the last one
+-- a new seat has no number, and stands after the last one
 abbrev pub sat : {D : Type 0} → Step (DurableState D) → AtSeat D → ℕ → AtSeat D → Type 0
 sat st m found m' = m' ≡ (stock m.0.opening (m.0.first + m.0.count) 0, [])

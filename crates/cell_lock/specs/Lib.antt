@@ -4,3 +4,4 @@ pub mod Views
 pub mod Law
 pub mod Standing
 pub mod Steps
+pub mod Clauses

@@ -1,5 +1,5 @@
 -- What a lock was opened with.
-use Rattle.std.specs.Prelude.{◌≡◌, ℕ, ◌≤◌, ◌<◌, ◌⊎◌, None, Some, List, [], length}
+use Rattle.std.specs.Prelude.{◌≡◌, ℕ, ◌≤◌, ◌<◌, ◌⊎◌, Option, None, Some, IfSome, option_and_then, List, [], length}
 use Rattle.std.specs.Option.{option_map_or}
 use Rattle.cell_base.specs.declared.requests.Part.{Part}
 use Rattle.cell_base.specs.Histories.{IsLegal, grants, replay}
@@ -33,7 +33,7 @@ nothing_opened = record {
   passes = 0;
 }
 
--- the parts behind the grants of the opening
+-- the parts after the grants of the opening
 abbrev pub first_parts : {D : Type 0} → Opening D → List Part
 first_parts opening = replay opening.cell opening.grants
 
@@ -41,11 +41,15 @@ first_parts opening = replay opening.cell opening.grants
 abbrev pub first_moment : {D : Type 0} → (D → ℕ) → Opening D → ℕ
 first_moment moment opening = option_map_or moment opening.found 0
 
+-- where the disk of the opening tells its bytes, P holds
+abbrev pub WhereTold : {D : Type 0} → (D → Option (List ℕ)) → Opening D → Type 0 → Type 0
+WhereTold reads_as opening P = IfSome (option_and_then reads_as opening.entry) (λ _. P)
+
 -- a number of no pass
 abbrev pub Outside : {D : Type 0} → Opening D → ℕ → Type 0
 Outside opening number = (number ≡ 0) ⊎ (opening.passes < number)
 
--- The durable cell is the one with which the lock was opened, behind a legal history within its limit; what it added are the grants of
+-- The durable cell is the one with which the lock was opened, after a legal history within its limit; what it added are the grants of
 -- this history in the shift of the lock, and what is unsure is its halt.
 pub record Fits {D : Type 0} (opening : Opening D) (durable : DurableState D) : Type 0 where
   pub same : opening_of durable opening.shift opening.passes ≡ opening

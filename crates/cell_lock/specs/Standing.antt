@@ -66,7 +66,7 @@ pub record KeepsName {D : Type 0} (old new : Standing D) : Type 0 where
   pub lock : new.lock ≡ old.lock
   pub number : new.number ≡ old.number
 
--- the history that is now seen ends with this entry, behind all that was seen before, and the pass's own entries grew by it
+-- the history that is now seen ends with this entry, after all that was seen before, and the pass's own entries grew by it
 pub record Adds {D : Type 0} (old new : Standing D) (e : Entry) : Type 0 where
   pub before : List Entry
   pub began : IsPrefix old.seen before

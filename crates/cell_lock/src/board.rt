@@ -59,8 +59,11 @@ impl<D: Disk> TableRule<Durable<D>, View<D>, Key<D>> for Law {
     ghost first = { λ key. stock (opening_of key.durable.value key.shift key.passes) 1 key.passes };
 }
 
+/// The table itself: its one slot holds the durable cell, and words 0 and 1 are the turn and the length of the history.
 pub type Board<D> = Table<Durable<D>, View<D>, Key<D>, Law, Global>;
 
+/// What all seats of a table share.
 pub type Top<D> = Shared<Durable<D>, View<D>, Key<D>, Law>;
 
+/// A seat at a table, by which a pass knows its view.
 pub type Place<D> = Seat<Durable<D>, View<D>>;

@@ -8,10 +8,16 @@
 //! saw and has, number by number, just the entries that the passes have as their own. And whatever a pass has seen granted, with
 //! any of its answers, is on each image that a crash may leave, at each moment since that answer.
 //!
-//! ```text
-//! let (cell, mut passes) = SharedCell::open(alloc, durable, shift, 2)?;
-//! // in threads: cell.ask(rt, pass, &request)
-//! let durable = cell.close(passes);
+//! ```rust
+//! match SharedCell::open(alloc, durable, 1, 1) {
+//!     Ok((cell, passes)) => use_lock(rt, alloc, cell, passes, step, request),
+//!     Err(_) => bail!("no memory"),
+//! }
+//! // on any thread that has a pass
+//! let step = cell.peek_plan_step(rt, pass);
+//! (step, cell.ask(rt, pass, request))
+//! // with all passes
+//! Ok(cell.close(passes))
 //! ```
 //!
 //! The lock stands on a table of two words and a slot. Word 0 is the turn, word 1 the length of the history, and the slot is

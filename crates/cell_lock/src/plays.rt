@@ -1,5 +1,6 @@
 //! What each step on the table tells, and how views are cut and joined.
 ghost use Rattle.std.specs.Prelude.{◌+◌, ◌-◌, []};
+ghost use Rattle.cell_lock.specs.Clauses.{HasSince};
 ghost use Rattle.cell_lock.specs.Openings.{first_moment};
 ghost use Rattle.cell_lock.specs.Law.{took, grew, gave, sat};
 ghost use Rattle.cell_lock.specs.Views.{stock, passing, gathered, spent};
@@ -13,7 +14,7 @@ use outside_io::Disk;
 pub(crate) struct Take;
 
 impl<D: Disk> Play<Durable<D>, View<D>> for Take {
-    ghost then = { took };
+    ghost then = { took (HasSince D.reads_as D.moment D.left_since) };
 }
 
 /// Tells the table of the entry by which the history grew.
@@ -30,7 +31,7 @@ impl<D: Disk> Play<Durable<D>, View<D>> for Give {
     ghost then = { gave D.moment };
 }
 
-/// A new seat that knows nothing, behind the last number.
+/// A new seat that knows nothing, after the last number.
 pub(crate) struct Sit;
 
 impl<D: Disk> Play<Durable<D>, View<D>> for Sit {

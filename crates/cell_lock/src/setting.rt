@@ -99,7 +99,7 @@ pub(crate) fn deal<D: Disk>(
     }
 }
 
-// The pass's seat, which takes in the one with the numbers behind it.
+// The pass's seat, which takes in the one with the numbers after it.
 fn gather_one<D: Disk>(top: &Top<D>, pass: Pass<D>, host: Place<D>) -> Place<D>
     requires table { (host.table_id ≡ top.now.table_id) × IsWide top.now.table_id }
     requires host { (host.me.0.has_turn ≡ false) × (host.me.1 ≡ []) }

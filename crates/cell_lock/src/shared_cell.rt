@@ -1,13 +1,8 @@
 //! The lock.
 ghost use Rattle.std.specs.Prelude.{◌≡◌, ℕ, ◌≤◌, [], length, IfOk, IfErr, All};
 ghost use mathlib.Core.List.{IsPrefix};
-ghost use Rattle.cell_base.specs.Fits.{RequestFits};
-ghost use Rattle.cell_base.specs.Histories.{IsLegal, after, entries_of, grants};
-ghost use Rattle.cell_base.specs.Plans.{plan_step};
-ghost use Rattle.durable_cell.specs.Acknowledged.{HasSince};
-ghost use Rattle.durable_cell.specs.Asked.{unsure_grant};
-ghost use Rattle.durable_cell.specs.Kept.{KeepsDisk};
-ghost use Rattle.cell_lock.specs.Openings.{Outside, first_parts, opening_of};
+ghost use Rattle.cell_lock.specs.Clauses.{HasSince, IsLegal, KeepsDisk, RequestFits, after, entries_of, grants, plan_step, unsure_grant};
+ghost use Rattle.cell_lock.specs.Openings.{Outside, WhereTold, first_parts, opening_of};
 ghost use Rattle.cell_lock.specs.Standing.{AreAll, Asked, HasAnswer, KeepsName, answers_of, new_passes};
 
 use crate::board::Board;
@@ -107,6 +102,7 @@ impl<D: Disk> SharedCell<D> {
         ensures same { KeepsName pass.old pass.new }
         ensures seen { IsPrefix pass.old.seen pass.new.seen }
         ensures earlier { HasAnswer pass.old pass.new }
+        ensures moment { WhereTold D.reads_as self.now.opening (pass.old.moment ≤ pass.new.moment) }
         ensures legal { IsLegal self.now.opening.cell (first_parts self.now.opening) pass.new.seen }
         ensures within { length pass.new.seen ≤ self.now.opening.limit }
         ensures own { entries_of pass.new.number pass.new.seen ≡ pass.new.mine }
@@ -119,13 +115,14 @@ impl<D: Disk> SharedCell<D> {
         answer
     }
 
-    /// Waits for the turn, and looks at the plan's step from the state behind the history that is then seen: None exactly where
+    /// Waits for the turn, and looks at the plan's step from the state after the history that is then seen: None exactly where
     /// no part is left. It takes no memory.
     pub fn peek_plan_step<R: Wait>(&self, rt: &R, pass: &mut Pass<D>) -> Option<Request>
         requires lock { pass.old.lock ≡ self.now }
         ensures same { KeepsName pass.old pass.new × (pass.new.mine ≡ pass.old.mine) }
         ensures seen { IsPrefix pass.old.seen pass.new.seen }
         ensures earlier { HasAnswer pass.old pass.new }
+        ensures moment { WhereTold D.reads_as self.now.opening (pass.old.moment ≤ pass.new.moment) }
         ensures legal { IsLegal self.now.opening.cell (first_parts self.now.opening) pass.new.seen }
         ensures within { length pass.new.seen ≤ self.now.opening.limit }
         ensures own { entries_of pass.new.number pass.new.seen ≡ pass.new.mine }

@@ -1,13 +1,9 @@
 //! The steps on the table, at the seat of a pass.
 ghost use Rattle.std.specs.Prelude.{◌≡◌, ◌∷◌, [], length};
-ghost use Rattle.cell_base.specs.Fits.{RequestFits};
-ghost use Rattle.cell_base.specs.Histories.{entries_of, after};
-ghost use Rattle.cell_base.specs.Plans.{plan_step};
-ghost use Rattle.durable_cell.specs.Acknowledged.{HasSince, MovesSafely};
-ghost use Rattle.durable_cell.specs.Asked.{Answers};
+ghost use Rattle.cell_lock.specs.Clauses.{Answers, HasSince, MovesSafely, RequestFits, after, entries_of, grants, plan_step};
 ghost use Rattle.cell_lock.specs.Openings.{Fits, first_parts};
-ghost use Rattle.cell_lock.specs.Views.{IsResting, IsActing, IsHolding, IsSafe, Follows, held_of, seen_of, earlier_of, mine_of};
-ghost use Rattle.cell_lock.specs.Steps.{IsWide, IsSame, GrewBy};
+ghost use Rattle.cell_lock.specs.Views.{IsResting, IsActing, IsHolding, IsSafe, Follows, held_of, seen_of, moment_of, earlier_of, mine_of};
+ghost use Rattle.cell_lock.specs.Steps.{IsWide, IsSame, GrewBy, StillTells};
 
 use crate::board::{Place, Top};
 use crate::plays::{Give, Grow, Take};
@@ -27,6 +23,8 @@ pub(crate) fn take_turn<D: Disk, R: Wait>(rt: &R, top: &Top<D>, seat: &mut Place
     ensures safe { IsSafe (HasSince D.reads_as D.moment D.left_since) seat.new.me (held_of top.now.key.durable.value seat.new.me) }
     ensures follows { Follows seat.old.me.0 (held_of top.now.key.durable.value seat.new.me) }
     ensures answers { seat.new.me.0.answers ≡ seat.old.me.0.answers }
+    ensures stands { HasSince D.reads_as D.moment D.left_since (held_of top.now.key.durable.value seat.new.me) (moment_of seat.old.me.0)
+        (length (grants seat.old.me.0.opening.shift (seen_of seat.old.me.0))) }
 {
     let backoff = Backoff::new();
     for _ in rt.forever() {
@@ -62,9 +60,11 @@ fn decide<D: Disk>(
     ensures disk { MovesSafely D.reads_as D.may_leave D.moment D.left_since (held_of top.now.key.durable.value seat.old.me)
         (held_of top.now.key.durable.value seat.new.me) }
     ensures length { result.1 ≡ length (held_of top.now.key.durable.value seat.new.me).history }
+    ensures tells { StillTells D.reads_as (held_of top.now.key.durable.value seat.new.me) }
 {
     let durable = seat.slot_mut(top, 0);
     let answer = durable.ask(shift, session, request);
+    let _history = durable.history();
     (answer, durable.len())
 }
 
@@ -103,6 +103,7 @@ pub(crate) fn ask_held<D: Disk>(
         (held_of top.now.key.durable.value seat.new.me) }
     ensures answer { Answers (held_of top.now.key.durable.value seat.old.me) shift session request.now result
         (held_of top.now.key.durable.value seat.new.me) }
+    ensures tells { StillTells D.reads_as (held_of top.now.key.durable.value seat.new.me) }
 {
     let (answer, len) = decide(top, seat, shift, session, request);
     match answer {
@@ -130,8 +131,10 @@ pub(crate) fn plan_held<D: Disk>(top: &Top<D>, seat: &mut Place<D>) -> Option<Re
     ensures step { result ≡ plan_step seat.old.me.0.opening.cell
         (after seat.old.me.0.opening.cell (first_parts seat.old.me.0.opening)
         (held_of top.now.key.durable.value seat.old.me).history) }
+    ensures tells { StillTells D.reads_as (held_of top.now.key.durable.value seat.old.me) }
 {
     let durable = seat.slot_mut(top, 0);
+    let _history = durable.history();
     durable.core().plan_step()
 }
 
@@ -146,6 +149,7 @@ pub(crate) fn give_turn<D: Disk>(top: &Top<D>, seat: &mut Place<D>)
     ensures rests { IsResting seat.new.me }
     ensures seen { seen_of seat.new.me.0 ≡ (held_of top.now.key.durable.value seat.old.me).history }
     ensures earlier { earlier_of seat.new.me.0 ≡ seat.old.me.0.answers }
+    ensures moment { moment_of seat.new.me.0 ≡ D.moment (held_of top.now.key.durable.value seat.old.me).disk }
     ensures mine { mine_of seat.new.me.0
         ≡ entries_of seat.old.me.0.first (held_of top.now.key.durable.value seat.old.me).history }
 {

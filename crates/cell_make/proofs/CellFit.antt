@@ -9,11 +9,11 @@ use Rattle.cell_base.specs.declared.cells.JobType.{JobType}
 use Rattle.cell_base.specs.declared.cells.Resource.{Resource}
 use Rattle.cell_base.specs.declared.cells.Step.{Step}
 use Rattle.cell_base.specs.Names.{IsName}
-use Rattle.cell_base.specs.Successors.{behind, default_next}
+use Rattle.cell_base.specs.Successors.{place_after, default_next}
 use Rattle.cell_base.specs.Fits.{ResourceFits, NextFits, EachNextFits, TypeFits, CellFits}
 use Rattle.cell_make.specs.Draws.{number_after, draw}
 use Rattle.cell_make.specs.Cells.{drawn_resource, drawn_resources, drawn_steps, drawn_length, drawn_type, drawn_types}
-use Rattle.cell_make.specs.Cells.{number_behind_types, drawn_cell}
+use Rattle.cell_make.specs.Cells.{number_after_types, drawn_cell}
 use Rattle.cell_make.proofs.Spelling.{is_name, different}
 use Rattle.cell_make.proofs.Lists.{length-resources, resource-at, length-steps, step-at, length-types, type-at}
 
@@ -25,7 +25,7 @@ each_resource P x n each = λ k d within.
 pub each_type : (P : JobType → Type 0) (x n : ℕ) → ((y t : ℕ) → t < n → P (drawn_type y t)) → All P (drawn_types x n)
 each_type P x n each = λ k d within.
     let below : k < n = omega (arith, length-types x n, within) in
-    subst P (sym (type-at x n k d below)) (each (number_behind_types x k) k below)
+    subst P (sym (type-at x n k d below)) (each (number_after_types x k) k below)
 
 resource_fits : (y r : ℕ) → ResourceFits (drawn_resource y r)
 resource_fits y r = ((omega arith, omega arith), omega arith)
@@ -38,8 +38,8 @@ steps_within y n = λ k d within.
     let below : k < n = omega (arith, length-steps y n, within) in
     subst (λ (step : Step). step.on.0 < 16) (sym (step-at y n k d below)) (step_within (number_after y (1 + 2 * k)))
 
-behind_fits : (n p : ℕ) → NextFits n p (behind n p)
-behind_fits n p =
+after_fits : (n p : ℕ) → NextFits n p (place_after n p)
+after_fits n p =
     let IsLater : ℕ → Type 0 = λ place. (p < place) × (place < n) in
     elim (cases_lt (p + 1) n) [
       | inl more ↦ rw (lt-ltb (p + 1) n more) (record {
@@ -55,12 +55,12 @@ behind_fits n p =
     ]
 
 length-default_next : (n : ℕ) → length (default_next n) ≡ n
-length-default_next n = length-map-range_with_len (behind n) 0 n
+length-default_next n = length-map-range_with_len (place_after n) 0 n
 
 default_next_fits : (n : ℕ) → EachNextFits n (default_next n)
 default_next_fits n p within =
     let below : p < n = omega (arith, length-default_next n, within) in
-    subst (NextFits n p) (sym (get_or-map-range_with_len (behind n) 0 n p p [] below (omega arith))) (behind_fits n p)
+    subst (NextFits n p) (sym (get_or-map-range_with_len (place_after n) 0 n p p [] below (omega arith))) (after_fits n p)
 
 type_fits : (y t : ℕ) → TypeFits 16 (drawn_type y t)
 type_fits y t =

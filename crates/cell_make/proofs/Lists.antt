@@ -9,7 +9,7 @@ use Rattle.cell_base.specs.declared.requests.Request.{Request}
 use Rattle.cell_base.specs.declared.cells.TypeId.{TypeId}
 use Rattle.cell_make.specs.Draws.{number_after, draw}
 use Rattle.cell_make.specs.Cells.{drawn_resource, drawn_resources, drawn_step, drawn_steps, drawn_type, drawn_types}
-use Rattle.cell_make.specs.Cells.{number_behind_type, number_behind_types}
+use Rattle.cell_make.specs.Cells.{number_after_type, number_after_types}
 use Rattle.cell_make.specs.Shifts.{drawn_kinds, job_script, job_scripts, machine_script, machine_scripts}
 
 pub resources-none : (x : ℕ) → drawn_resources x 0 ≡ []
@@ -48,25 +48,25 @@ pub types-none : (x : ℕ) → drawn_types x 0 ≡ []
 unfolding drawn_types
 types-none x = refl
 
-pub types-more : (x n : ℕ) → drawn_types x (n + 1) ≡ drawn_types x n ++ drawn_type (number_behind_types x n) n ∷ []
+pub types-more : (x n : ℕ) → drawn_types x (n + 1) ≡ drawn_types x n ++ drawn_type (number_after_types x n) n ∷ []
 unfolding drawn_types
-types-more x n = map-range_with_len_more (λ t. drawn_type (number_behind_types x t) t) 0 n n (omega arith)
+types-more x n = map-range_with_len_more (λ t. drawn_type (number_after_types x t) t) 0 n n (omega arith)
 
 pub length-types : (x n : ℕ) → length (drawn_types x n) ≡ n
 unfolding drawn_types
-length-types x n = length-map-range_with_len (λ t. drawn_type (number_behind_types x t) t) 0 n
+length-types x n = length-map-range_with_len (λ t. drawn_type (number_after_types x t) t) 0 n
 
-pub type-at : (x n k : ℕ) (d : JobType) → k < n → get_or (drawn_types x n) k d ≡ drawn_type (number_behind_types x k) k
+pub type-at : (x n k : ℕ) (d : JobType) → k < n → get_or (drawn_types x n) k d ≡ drawn_type (number_after_types x k) k
 unfolding drawn_types
-type-at x n k d within = get_or-map-range_with_len (λ t. drawn_type (number_behind_types x t) t) 0 n k k d within (omega arith)
+type-at x n k d within = get_or-map-range_with_len (λ t. drawn_type (number_after_types x t) t) 0 n k k d within (omega arith)
 
-pub behind_types-none : (x : ℕ) → number_behind_types x 0 ≡ x
-unfolding number_behind_types
-behind_types-none x = refl
+pub after_types-none : (x : ℕ) → number_after_types x 0 ≡ x
+unfolding number_after_types
+after_types-none x = refl
 
-pub behind_types-more : (x n : ℕ) → number_behind_types x (n + 1) ≡ number_behind_type (number_behind_types x n)
-unfolding number_behind_types
-behind_types-more x n = let one : n + 1 ≡ suc n = omega arith in ap (number_behind_types x) one
+pub after_types-more : (x n : ℕ) → number_after_types x (n + 1) ≡ number_after_type (number_after_types x n)
+unfolding number_after_types
+after_types-more x n = let one : n + 1 ≡ suc n = omega arith in ap (number_after_types x) one
 
 pub kinds-none : (x : ℕ) → drawn_kinds x 0 ≡ []
 unfolding drawn_kinds

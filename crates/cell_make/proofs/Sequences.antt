@@ -10,7 +10,7 @@ pub after-more : (x n : ℕ) → number_after x (n + 1) ≡ next_number (number_
 unfolding number_after
 after-more x n = let one : n + 1 ≡ suc n = omega arith in ap (number_after x) one
 
--- the number behind two draws more than m, by any spelling of that number of draws
+-- the number after two draws more than m, by any spelling of that number of draws
 pub after-two_more : (x m n : ℕ) → n ≡ m + 1 + 1 → number_after x n ≡ next_number (next_number (number_after x m))
 after-two_more x m n is = ap (number_after x) is ∙ after-more x (m + 1) ∙ ap next_number (after-more x m)
 

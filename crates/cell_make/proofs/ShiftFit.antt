@@ -16,7 +16,7 @@ use Rattle.cell_base.specs.declared.requests.Request.TheVariants.{Load, Process,
 use Rattle.cell_base.specs.Stages.{route_of}
 use Rattle.cell_base.specs.Fits.{RequestFits, ShiftFits, steps_of}
 use Rattle.cell_make.specs.Draws.{number_after, draw}
-use Rattle.cell_make.specs.Cells.{drawn_cell, drawn_types, drawn_length, number_behind_cell}
+use Rattle.cell_make.specs.Cells.{drawn_cell, drawn_types, drawn_length, number_after_cell}
 use Rattle.cell_make.specs.Shifts.{drawn_kinds, job_script, job_scripts, machine_script, machine_scripts}
 use Rattle.cell_make.specs.Shifts.{work_of_jobs, drawn_shift}
 use Rattle.cell_make.proofs.CellFit.{each_type}
@@ -80,10 +80,10 @@ kinds_within x y = λ k d within.
 pub shift_fits : (x : ℕ) → ShiftFits (drawn_cell x) (drawn_shift x)
 shift_fits x =
     let cell = drawn_cell x in
-    let kinds = drawn_kinds (number_behind_cell x) 48 in
+    let kinds = drawn_kinds (number_after_cell x) 48 in
     let jobs = job_scripts cell kinds (length kinds) in
     let machines = machine_scripts cell kinds 16 in
-    let many = length-kinds (number_behind_cell x) 48 in
+    let many = length-kinds (number_after_cell x) 48 in
     let job_steps = sum_by-le (λ (script : List Request). length script) 9 jobs
     (each_job cell kinds (λ script. length script ≤ 9) (length kinds)
     (λ k below. length-job_script cell kinds (record { 0 = k + 1 }) (get_or kinds k (record { 0 = 0 }))
@@ -110,7 +110,7 @@ shift_fits x =
       requests = All-append (All (RequestFits cell)) jobs machines
           (each_job cell kinds (All (RequestFits cell)) (length kinds)
           (λ k below. job_script_fits cell kinds (record { 0 = k + 1 }) (get_or kinds k (record { 0 = 0 }))
-          (omega (arith, length-types (number_after x 32) 8, kind_within (number_behind_cell x) k (omega (arith, many, below))))))
+          (omega (arith, length-types (number_after x 32) 8, kind_within (number_after_cell x) k (omega (arith, many, below))))))
           (each_machine cell kinds (All (RequestFits cell)) 16
           (λ k below. All-replicate (RequestFits cell) (work_of_jobs cell kinds k) (Process (record { 0 = k }))
           (omega (arith, length-resources x 16, below))));

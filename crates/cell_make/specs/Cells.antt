@@ -18,7 +18,7 @@ drawn_resource x r = record {
   order = 1 + draw (next_number x) 8;
 }
 
--- the first n resources, one behind the other
+-- the first n resources, one after the other
 unfoldable pub drawn_resources : ℕ → ℕ → List Resource
 drawn_resources x n = map (λ r. drawn_resource (number_after x (2 * r)) r) (range_with_len 0 n)
 
@@ -34,7 +34,7 @@ drawn_length x = 3 + draw x 6
 unfoldable pub drawn_steps : ℕ → ℕ → List Step
 drawn_steps x n = map (λ place. drawn_step (number_after x (1 + 2 * place))) (range_with_len 0 n)
 
--- a type with its route, on which each place but the last goes on to the one behind it
+-- a type with its route, on which each place but the last goes on to the one after it
 abbrev pub drawn_type : ℕ → ℕ → JobType
 drawn_type x t = record {
   name = numbered_name TYPE_LETTER t;
@@ -42,23 +42,23 @@ drawn_type x t = record {
   next = default_next (drawn_length x);
 }
 
--- the number behind the draws of a type
-abbrev pub number_behind_type : ℕ → ℕ
-number_behind_type x = number_after x (1 + 2 * drawn_length x)
+-- the number after the draws of a type
+abbrev pub number_after_type : ℕ → ℕ
+number_after_type x = number_after x (1 + 2 * drawn_length x)
 
--- the number behind the draws of the first n types
-unfoldable pub number_behind_types : ℕ → ℕ → ℕ
-number_behind_types x zero = x
-number_behind_types x (suc n) = number_behind_type (number_behind_types x n)
+-- the number after the draws of the first n types
+unfoldable pub number_after_types : ℕ → ℕ → ℕ
+number_after_types x zero = x
+number_after_types x (suc n) = number_after_type (number_after_types x n)
 
--- the first n types, one behind the other
+-- the first n types, one after the other
 unfoldable pub drawn_types : ℕ → ℕ → List JobType
-drawn_types x n = map (λ t. drawn_type (number_behind_types x t) t) (range_with_len 0 n)
+drawn_types x n = map (λ t. drawn_type (number_after_types x t) t) (range_with_len 0 n)
 
 -- the cell: sixteen resources, and then eight types
 abbrev pub drawn_cell : ℕ → Cell
 drawn_cell x = record { resources = drawn_resources x 16; types = drawn_types (number_after x 32) 8 }
 
--- the number behind the draws of the cell
-abbrev pub number_behind_cell : ℕ → ℕ
-number_behind_cell x = number_behind_types (number_after x 32) 8
+-- the number after the draws of the cell
+abbrev pub number_after_cell : ℕ → ℕ
+number_after_cell x = number_after_types (number_after x 32) 8

@@ -11,7 +11,7 @@ use Rattle.cell_base.specs.declared.requests.Request.TheVariants.{Load, Process,
 use Rattle.cell_base.specs.declared.shifts.Shift.{Shift}
 use Rattle.cell_base.specs.Stages.{route_of}
 use Rattle.cell_make.specs.Draws.{number_after, draw}
-use Rattle.cell_make.specs.Cells.{drawn_cell, number_behind_cell}
+use Rattle.cell_make.specs.Cells.{drawn_cell, number_after_cell}
 
 -- the types of the first n jobs: a draw each, of eight types
 unfoldable pub drawn_kinds : ℕ → ℕ → List TypeId
@@ -54,6 +54,6 @@ shift_of cell kinds = record {
   scripts = job_scripts cell kinds (length kinds) ++ machine_scripts cell kinds 16;
 }
 
--- the shift of a number, whose jobs are drawn behind the cell
+-- the shift of a number, whose jobs are drawn after the cell
 abbrev pub drawn_shift : ℕ → Shift
-drawn_shift x = shift_of (drawn_cell x) (drawn_kinds (number_behind_cell x) 48)
+drawn_shift x = shift_of (drawn_cell x) (drawn_kinds (number_after_cell x) 48)

@@ -1,25 +1,26 @@
 //! The cell.
-ghost use Rattle.std.specs.Prelude.{◌≡◌, ◌+◌, ◌*◌, ◌<◌, ◌≤◌, length, IfOk, OnOk};
-ghost use Rattle.cell_base.specs.Successors.{behind, default_next};
+ghost use Rattle.std.specs.Prelude.{◌≡◌, ◌+◌, ◌<◌, ◌≤◌, length, IfOk, OnOk};
+ghost use Rattle.cell_base.specs.Successors.{place_after, default_next};
 ghost use Rattle.cell_make.specs.Draws.{next_number, number_after};
 ghost use Rattle.cell_make.specs.Cells.{drawn_resource, drawn_resources, drawn_step, drawn_steps, drawn_length};
 ghost use Rattle.cell_make.specs.Cells.{drawn_type, drawn_types, drawn_cell};
-ghost use Rattle.cell_make.specs.Cells.{number_behind_type, number_behind_types, number_behind_cell};
+ghost use Rattle.cell_make.specs.Cells.{number_after_type, number_after_types, number_after_cell};
 
 use crate::draws::Draws;
 use crate::names::numbered_name;
 use cell_base::{Cell, JobType, List, NoMemory, ResId, Resource, Step};
 use std::alloc::Global;
 
-/// The first letter of the names of resources, and of those of types.
+/// The first letter of the names of resources.
 pub const RESOURCE_LETTER: u8 = b'R';
 
+/// The first letter of the names of types.
 pub const TYPE_LETTER: u8 = b'T';
 
 /// Draws the cell.
 pub fn draw_cell(alloc: Global, draws: &mut Draws) -> Result<Cell, NoMemory>
     ensures value { IfOk result (λ cell. cell ≡ drawn_cell draws.old.number) }
-    ensures after { OnOk result (draws.new.number ≡ number_behind_cell draws.old.number) }
+    ensures after { OnOk result (draws.new.number ≡ number_after_cell draws.old.number) }
 {
     let resources = draw_resources(alloc, draws)?;
     let types = draw_types(alloc, draws)?;
@@ -54,7 +55,7 @@ fn draw_resource(draws: &mut Draws, r: u8) -> Resource
 /// Draws the eight types.
 fn draw_types(alloc: Global, draws: &mut Draws) -> Result<List<JobType>, NoMemory>
     ensures value { IfOk result (λ list. list ≡ drawn_types draws.old.number 8) }
-    ensures after { OnOk result (draws.new.number ≡ number_behind_types draws.old.number 8) }
+    ensures after { OnOk result (draws.new.number ≡ number_after_types draws.old.number 8) }
 {
     let mut types = List::new(alloc);
     for t in 0..8 {
@@ -67,7 +68,7 @@ fn draw_types(alloc: Global, draws: &mut Draws) -> Result<List<JobType>, NoMemor
 fn draw_type(alloc: Global, draws: &mut Draws, t: u8) -> Result<JobType, NoMemory>
     requires { t < 8 }
     ensures value { IfOk result (λ job_type. job_type ≡ drawn_type draws.old.number t) }
-    ensures after { OnOk result (draws.new.number ≡ number_behind_type draws.old.number) }
+    ensures after { OnOk result (draws.new.number ≡ number_after_type draws.old.number) }
 {
     let route = draw_route(alloc, draws)?;
     Ok(JobType {
@@ -81,7 +82,7 @@ fn draw_type(alloc: Global, draws: &mut Draws, t: u8) -> Result<JobType, NoMemor
 fn draw_route(alloc: Global, draws: &mut Draws) -> Result<List<Step>, NoMemory>
     ensures value { IfOk result (λ list. list ≡ drawn_steps draws.old.number (drawn_length draws.old.number)) }
     ensures length { IfOk result (λ list. length list ≡ drawn_length draws.old.number) }
-    ensures after { OnOk result (draws.new.number ≡ number_behind_type draws.old.number) }
+    ensures after { OnOk result (draws.new.number ≡ number_after_type draws.old.number) }
 {
     let mut route = List::new(alloc);
     for _ in 0..3 + draws.draw(6) {
@@ -101,23 +102,23 @@ fn draw_place(draws: &mut Draws) -> Step
     }
 }
 
-/// Each of these places but the last goes on to the one behind it.
+/// Each of these places but the last goes on to the one after it.
 fn each_goes_on(alloc: Global, places: u16) -> Result<List<List<u16>>, NoMemory>
     requires { places ≤ 64 }
     ensures { IfOk result (λ list. list ≡ default_next places) }
 {
     let mut next = List::new(alloc);
     for place in 0..places {
-        next.try_push(behind(alloc, places, place)?)?;
+        next.try_push(place_after(alloc, places, place)?)?;
     }
     Ok(next)
 }
 
-/// The place behind a place, where there is one.
-fn behind(alloc: Global, places: u16, place: u16) -> Result<List<u16>, NoMemory>
+/// The place after a place, where there is one.
+fn place_after(alloc: Global, places: u16, place: u16) -> Result<List<u16>, NoMemory>
     requires few { places ≤ 64 }
     requires place { place < places }
-    ensures { IfOk result (λ list. list ≡ behind places place) }
+    ensures { IfOk result (λ list. list ≡ place_after places place) }
 {
     let mut found = List::new(alloc);
     if place + 1 < places {

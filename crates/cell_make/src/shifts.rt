@@ -1,5 +1,5 @@
 //! The shift: the sessions of the jobs, and those of the machines.
-ghost use Rattle.std.specs.Prelude.{◌≡◌, ◌+◌, ◌*◌, ◌<◌, ◌≤◌, ◌++◌, length, replicate, sum_by, count_by, IfOk, OnOk};
+ghost use Rattle.std.specs.Prelude.{◌≡◌, ◌+◌, ◌*◌, ◌<◌, ◌≤◌, ◌++◌, length, replicate, count_by, IfOk, OnOk};
 ghost use Rattle.std.specs.List.{All};
 ghost use Rattle.cell_base.specs.Fits.{CellFits};
 ghost use Rattle.cell_base.specs.Stages.{route_of};

@@ -1,14 +1,16 @@
 -- The headline follows of what every walk promises, by computing the walk of `run`.
-use Rattle.std.proofs.Common.{◌≡◌, ◌⊎◌, inl, inr, ◌∙◌, ℕ, List, refl, sym}
+use Rattle.std.proofs.Common.{◌≡◌, ◌≢◌, ◌⊎◌, inl, inr, ◌∙◌, ℕ, List, ap, refl, sym}
 use Rattle.outside_io.specs.Puts.{SinkTold, TookAll}
 use Rattle.cell_walks.specs.Observed.{Observed}
 use Rattle.cell_walks.specs.Outcomes.{Outcome, early}
 use Rattle.cell_walks.specs.Promises.{IsAnswered, Promises, ReadFailed, DiskFailed, MemoryFailed, Decided}
-use Rattle.cell_walks.specs.Statuses.{number_of}
+use Rattle.cell_walks.specs.Statuses.{status_number}
 use Rattle.cell_walks.specs.declared.early_end.EarlyEnd.{EarlyEnd}
 use Rattle.cell_walks.specs.declared.early_end.EarlyEnd.TheVariants.{NotRead, DeviceFailed, WantOfMemory, Refused}
 use Rattle.cell_walks.specs.declared.status.Status.{Status}
-use Rattle.cell_walks.specs.declared.status.Status.TheVariants.{Done, Denied, NoCommand, ReadFault, CellRefused, InputRefused, JournalRefused, DeviceFault, SinkFault, NoMemory, CommandRefused}
+use Rattle.cell_walks.specs.declared.status.Status.TheVariants.{Done, Denied, NoCommand, ReadFault, CellRefused}
+use Rattle.cell_walks.specs.declared.status.Status.TheVariants.{InputRefused, JournalRefused, DeviceFault}
+use Rattle.cell_walks.specs.declared.status.Status.TheVariants.{SinkFault, NoMemory, CommandRefused}
 use Rattle.shift_commands.specs.Run.{run}
 use Rattle.shift_commands.specs.RunTold.{IsHaltedRun, IsWholeRun}
 use Rattle.shift_commands.proofs.RunTold.{is_halted, is_whole}
@@ -16,7 +18,7 @@ use Rattle.cell_program.specs.Headline.{Headline, IsRunOf}
 
 -- ---- numbers of statuses
 
-is_done : (status : Status) → 0 ≡ number_of status → status ≡ Done
+is_done : (status : Status) → 0 ≡ status_number status → status ≡ Done
 is_done Done is = refl
 is_done Denied is = absurd (cc)
 is_done NoCommand is = absurd (cc)
@@ -29,7 +31,7 @@ is_done SinkFault is = absurd (cc)
 is_done NoMemory is = absurd (cc)
 is_done CommandRefused is = absurd (cc)
 
-is_device_fault : (status : Status) → 7 ≡ number_of status → status ≡ DeviceFault
+is_device_fault : (status : Status) → 7 ≡ status_number status → status ≡ DeviceFault
 is_device_fault DeviceFault is = refl
 is_device_fault Done is = absurd (cc)
 is_device_fault Denied is = absurd (cc)
@@ -42,7 +44,7 @@ is_device_fault SinkFault is = absurd (cc)
 is_device_fault NoMemory is = absurd (cc)
 is_device_fault CommandRefused is = absurd (cc)
 
-is_sink_fault : (status : Status) → 8 ≡ number_of status → status ≡ SinkFault
+is_sink_fault : (status : Status) → 8 ≡ status_number status → status ≡ SinkFault
 is_sink_fault SinkFault is = refl
 is_sink_fault Done is = absurd (cc)
 is_sink_fault Denied is = absurd (cc)
@@ -117,11 +119,24 @@ module _ (seen : Observed) (sink : SinkTold) (cell shift : List ℕ) (status : S
     | Decided (inr answers) ↦ inr (ran answers)
   ]
 
-  pub headline : (number : ℕ) → number ≡ number_of status → Headline seen sink cell shift number
+  -- what is no run, whole or halted, is an early end, and its status is that of what was taken
+  ended : (number : ℕ) → number ≡ status_number status → number ≢ 0 → number ≢ 7 → number ≢ 8
+      → (end : EarlyEnd) × (outcome ≡ early end) × (number ≡ status_number outcome.status) × TookAll sink outcome.pieces
+  ended number same zero seven eight =
+      let put = promised.whole (λ is. eight (same ∙ ap status_number is)) in
+      let told : number ≡ status_number outcome.status = same ∙ ap status_number put.0 in
+      elim either [
+        | inl early ↦ (early.0, early.1, told, put.1)
+        | inr (inl whole) ↦ absurd (zero (told ∙ ap status_number whole.told.status))
+        | inr (inr stopped) ↦ absurd (seven (told ∙ ap status_number stopped.told.status))
+      ]
+
+  pub headline : (number : ℕ) → number ≡ status_number status → Headline seen sink cell shift number
   headline number same = record {
     outcome = outcome;
     done = λ is. done (is_done status (sym is ∙ same));
     halted = λ is. halted (is_device_fault status (sym is ∙ same));
     cut = λ is. (promised.cut (is_sink_fault status (sym is ∙ same)), either);
+    ended = ended number same;
     crash = promised.keeps (λ held s opening started. tt);
   }

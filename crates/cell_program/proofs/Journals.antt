@@ -4,7 +4,8 @@ use Rattle.std.proofs.Common.{◌≡◌, List, refl}
 use Rattle.cell_base.specs.declared.shifts.Grant.{Grant}
 use Rattle.cell_walks.specs.Promises.{OpensNone, OpensOnce}
 use Rattle.cell_walks.specs.Walks.{Answers, Opens, Purpose, Tests, Walk}
-use Rattle.cell_program.specs.Words.{Task, Solo, Run, Plan, Drain, Why, Check, Show, Make, Carry, Begin, Hybrid, Queue, Advise, Arrange, Grants, Parts, journal_of, walk_of}
+use Rattle.cell_program.specs.Words.{Task, Solo, Run, Plan, Drain, Why, Check, Show, Make, Carry, Begin, Hybrid}
+use Rattle.cell_program.specs.Words.{Queue, Advise, Arrange, Grants, Parts, Feed, Follow, journal_of, walk_of}
 
 -- each journal that it opens is opened for this
 abbrev OpensFor : Purpose → Walk → Type 0
@@ -29,6 +30,8 @@ as_told (Advise cell) = λ held few. tt
 as_told (Arrange cell) = λ held few. tt
 as_told (Grants cell journal) = λ held. (refl, λ grants. tt)
 as_told (Parts cell journal) = λ held. (refl, λ grants. tt)
+as_told (Feed cell journal from) = λ first held. (refl, λ grants enough. tt)
+as_told (Follow cell frames journal) = λ held list. (refl, λ grants had. tt)
 
 -- and it opens one at most
 pub one_journal : (task : Task) → OpensOnce (walk_of task)
@@ -48,3 +51,5 @@ one_journal (Advise cell) = λ held few. tt
 one_journal (Arrange cell) = λ held few. tt
 one_journal (Grants cell journal) = λ held grants. tt
 one_journal (Parts cell journal) = λ held grants. tt
+one_journal (Feed cell journal from) = λ first held grants enough. tt
+one_journal (Follow cell frames journal) = λ held list grants had. tt

@@ -2,5 +2,6 @@
 pub mod Headlines
 pub mod Journals
 pub mod Promised
+pub mod ServeWords
 pub mod Statuses
 pub mod Written

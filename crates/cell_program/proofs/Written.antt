@@ -4,7 +4,8 @@ use Rattle.std.specs.Option.{option_map}
 use Rattle.std.specs.Str.{bytes_eq}
 use Rattle.std.proofs.Common.{◌≡◌, ℕ, List, [], ◌∷◌, Bool, true, false, Option, Some, None, codes, refl, sym, ap, ◌∙◌}
 use Rattle.std.proofs.lemmas.Slice.Eq.{bytes_eq-Decides}
-use Rattle.cell_program.specs.Words.{Task, Solo, Run, Plan, Drain, Why, Check, Show, Make, Carry, Begin, Hybrid, Queue, Advise, Arrange, Grants, Parts, words_of}
+use Rattle.cell_program.specs.Words.{Task, Solo, Run, Plan, Drain, Why, Check, Show, Make, Carry, Begin, Hybrid}
+use Rattle.cell_program.specs.Words.{Queue, Advise, Arrange, Grants, Parts, Feed, Follow, words_of}
 use Rattle.cell_program.specs.Deciding.{task_in, task_of}
 use Rattle.cell_program.specs.declared.words.Command.{Command}
 
@@ -26,6 +27,15 @@ decides (Advise cell) = refl
 decides (Arrange cell) = refl
 decides (Grants cell journal) = refl
 decides (Parts cell journal) = refl
+decides (Feed cell journal from) = refl
+decides (Follow cell frames journal) = refl
+
+-- words are written so of one command
+pub one_task : (one other : Task) → words_of one ≡ words_of other → one ≡ other
+one_task one other same =
+    let both : Some one ≡ Some other = sym (decides one) ∙ ap task_of same ∙ decides other in
+    let is : one ≡ other = cc in
+    is
 
 verb_is : (verb word : List ℕ) → bytes_eq verb word ≡ true → verb ≡ word
 verb_is verb word is = (bytes_eq-Decides verb word).0 is
@@ -64,7 +74,9 @@ decided (verb ∷ a ∷ b ∷ c ∷ []) task is =
     where_verb verb (codes "run") (a ∷ b ∷ c ∷ []) (Run a b c) _ task refl
     (where_verb verb (codes "why") (a ∷ b ∷ c ∷ []) (Why a b c) _ task refl
     (where_verb verb (codes "carry") (a ∷ b ∷ c ∷ []) (Carry a b c) _ task refl
-    (where_verb verb (codes "begin") (a ∷ b ∷ c ∷ []) (Begin a b c) None task refl (λ none. absurd (cc))))) is
+    (where_verb verb (codes "begin") (a ∷ b ∷ c ∷ []) (Begin a b c) _ task refl
+    (where_verb verb (codes "feed") (a ∷ b ∷ c ∷ []) (Feed a b c) _ task refl
+    (where_verb verb (codes "follow") (a ∷ b ∷ c ∷ []) (Follow a b c) None task refl (λ none. absurd (cc))))))) is
 decided (verb ∷ a ∷ b ∷ c ∷ d ∷ rest) task is = absurd (cc)
 
 pub written : (result : Option Command) (words : List (List ℕ)) → option_map task_in result ≡ task_of words

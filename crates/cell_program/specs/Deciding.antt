@@ -4,11 +4,17 @@ use Rattle.std.specs.Str.{bytes_eq}
 pub use Rattle.std.specs.Option.{option_and_then, option_map}
 pub use Rattle.std.specs.String.{string_bytes}
 use Rattle.cell_walks.specs.Walks.{ToAdd, ToRead}
-use Rattle.cell_program.specs.Words.{NamedJournal, Task, Solo as SoloTask, Run as RunTask, Plan as PlanTask, Drain as DrainTask, Why as WhyTask, Check as CheckTask, Show as ShowTask, Make as MakeTask, Carry as CarryTask, Begin as BeginTask, Hybrid as HybridTask, Queue as QueueTask, Advise as AdviseTask, Arrange as ArrangeTask, Grants as GrantsTask, Parts as PartsTask}
+use Rattle.cell_program.specs.Words.{serve_words, NamedJournal, Task, Solo as SoloTask, Run as RunTask, Plan as PlanTask}
+use Rattle.cell_program.specs.Words.{Drain as DrainTask, Why as WhyTask, Check as CheckTask, Show as ShowTask, Make as MakeTask}
+use Rattle.cell_program.specs.Words.{Carry as CarryTask, Begin as BeginTask, Hybrid as HybridTask, Queue as QueueTask}
+use Rattle.cell_program.specs.Words.{Advise as AdviseTask, Arrange as ArrangeTask, Grants as GrantsTask, Parts as PartsTask}
+use Rattle.cell_program.specs.Words.{Feed as FeedTask, Follow as FollowTask}
 use Rattle.cell_program.specs.declared.words.Command.{Command}
-use Rattle.cell_program.specs.declared.words.Command.TheVariants.{Solo, Run, Plan, Drain, Why, Check, Show, Make, Carry, Begin, Hybrid, Queue, Advise, Arrange, Grants, Parts}
+use Rattle.cell_program.specs.declared.words.Command.TheVariants.{Solo, Run, Plan, Drain, Why, Check, Show, Make, Carry, Begin}
+use Rattle.cell_program.specs.declared.words.Command.TheVariants.{Hybrid, Queue, Advise, Arrange, Grants, Parts, Feed, Follow}
 use Rattle.cell_program.specs.declared.words.Journal.{Journal}
 use Rattle.cell_program.specs.declared.words.Journal.TheVariants.{Read, Added}
+use Rattle.cell_program.specs.declared.words.Served.{Served}
 
 -- what a command asks for
 abbrev pub task_in : Command → Task
@@ -28,6 +34,8 @@ task_in (Advise cell) = AdviseTask cell.now
 task_in (Arrange cell) = ArrangeTask cell.now
 task_in (Grants cell journal) = GrantsTask cell.now journal.now
 task_in (Parts cell journal) = PartsTask cell.now journal.now
+task_in (Feed cell journal from) = FeedTask cell.now journal.now from.now
+task_in (Follow cell frames journal) = FollowTask cell.now frames.now journal.now
 
 -- the journal that is named
 abbrev pub named : Journal → NamedJournal
@@ -63,7 +71,9 @@ task_of_three verb a b c =
     else (if bytes_eq verb (codes "why") then Some (WhyTask a b c)
     else (if bytes_eq verb (codes "carry") then Some (CarryTask a b c)
     else (if bytes_eq verb (codes "begin") then Some (BeginTask a b c)
-    else None)))
+    else (if bytes_eq verb (codes "feed") then Some (FeedTask a b c)
+    else (if bytes_eq verb (codes "follow") then Some (FollowTask a b c)
+    else None)))))
 
 -- the command that the words are written as
 abbrev pub task_of : List (List ℕ) → Option Task
@@ -71,3 +81,16 @@ task_of (verb ∷ a ∷ []) = task_of_one verb a
 task_of (verb ∷ a ∷ b ∷ []) = task_of_two verb a b
 task_of (verb ∷ a ∷ b ∷ c ∷ []) = task_of_three verb a b c
 task_of words = None
+
+-- how what is served is written
+abbrev pub served_words : Served → List (List ℕ)
+served_words served = serve_words served.cell.now served.journal.now
+
+-- the same of a verb and two words
+abbrev pub served_of_two : List ℕ → List ℕ → List ℕ → Option (List (List ℕ))
+served_of_two verb a b = if bytes_eq verb (codes "serve") then Some (serve_words a b) else None
+
+-- what the words serve
+abbrev pub served_of : List (List ℕ) → Option (List (List ℕ))
+served_of (verb ∷ a ∷ b ∷ []) = served_of_two verb a b
+served_of words = None

@@ -19,6 +19,8 @@ use Rattle.queue_command.specs.Queue.{queue}
 use Rattle.order_commands.specs.Orders.{advise, arrange}
 use Rattle.look_commands.specs.Grants.{grants}
 use Rattle.look_commands.specs.Parts.{parts}
+use Rattle.standby_commands.specs.Feed.{feed}
+use Rattle.standby_commands.specs.Follow.{follow}
 
 -- a command, with its words
 pub data Task : Type 0 where
@@ -38,6 +40,8 @@ pub data Task : Type 0 where
   Arrange : (cell : List ℕ) → Task
   Grants : (cell journal : List ℕ) → Task
   Parts : (cell journal : List ℕ) → Task
+  Feed : (cell journal from : List ℕ) → Task
+  Follow : (cell frames journal : List ℕ) → Task
 
 -- how it is written
 abbrev pub words_of : Task → List (List ℕ)
@@ -57,6 +61,8 @@ words_of (Advise cell) = codes "advise" ∷ cell ∷ []
 words_of (Arrange cell) = codes "arrange" ∷ cell ∷ []
 words_of (Grants cell journal) = codes "grants" ∷ cell ∷ journal ∷ []
 words_of (Parts cell journal) = codes "parts" ∷ cell ∷ journal ∷ []
+words_of (Feed cell journal from) = codes "feed" ∷ cell ∷ journal ∷ from ∷ []
+words_of (Follow cell frames journal) = codes "follow" ∷ cell ∷ frames ∷ journal ∷ []
 
 -- the name of a journal, and whether it is only read
 pub record NamedJournal : Type 0 where
@@ -81,6 +87,8 @@ journal_of (Advise cell) = None
 journal_of (Arrange cell) = None
 journal_of (Grants cell journal) = Some (record { name = journal; purpose = ToRead })
 journal_of (Parts cell journal) = Some (record { name = journal; purpose = ToRead })
+journal_of (Feed cell journal from) = Some (record { name = journal; purpose = ToRead })
+journal_of (Follow cell frames journal) = Some (record { name = journal; purpose = ToAdd })
 
 -- each command, with names for its words
 abbrev pub every_form : List Task
@@ -88,7 +96,9 @@ every_form =
     Solo (codes "CELL") (codes "SHIFT") ∷ Run (codes "CELL") (codes "SHIFT") (codes "JOURNAL") ∷ Plan (codes "CELL") (codes "JOURNAL")
     ∷ Drain (codes "CELL") (codes "JOURNAL") ∷ Why (codes "CELL") (codes "JOURNAL") (codes "STEP") ∷ Check (codes "CELL") (codes "RECORD")
     ∷ Show (codes "CELL") ∷ Make (codes "NUMBER") ∷ Carry (codes "CELL1") (codes "JOURNAL") (codes "CELL2")
-    ∷ Begin (codes "CELL") (codes "START") (codes "JOURNAL") ∷ Hybrid (codes "CELL") (codes "SHIFT") ∷ Queue (codes "CELL") (codes "SHIFT") ∷ Advise (codes "CELL")
+    ∷ Begin (codes "CELL") (codes "START") (codes "JOURNAL") ∷ Hybrid (codes "CELL") (codes "SHIFT")
+    ∷ Queue (codes "CELL") (codes "SHIFT") ∷ Advise (codes "CELL")
+    ∷ Feed (codes "CELL") (codes "JOURNAL") (codes "FROM") ∷ Follow (codes "CELL") (codes "FRAMES") (codes "JOURNAL")
     ∷ Arrange (codes "CELL") ∷ Grants (codes "CELL") (codes "JOURNAL") ∷ Parts (codes "CELL") (codes "JOURNAL") ∷ []
 
 -- with a comma and a space between them
@@ -97,9 +107,15 @@ listed [] = []
 listed (form ∷ []) = form
 listed (form ∷ next ∷ rest) = form ++ codes ", " ++ listed (next ∷ rest)
 
+-- how the command is written that reads its input while it answers; it has a top call of its own
+abbrev pub serve_words : List ℕ → List ℕ → List (List ℕ)
+serve_words cell journal = codes "serve" ∷ cell ∷ journal ∷ []
+
 -- the commands with their words
 abbrev pub usage_text : List ℕ
-usage_text = codes "usage: " ++ listed (map (λ task. joined (words_of task)) every_form) ++ 10 ∷ []
+usage_text =
+    codes "usage: "
+    ++ listed (map (λ task. joined (words_of task)) every_form ++ joined (serve_words (codes "CELL") (codes "JOURNAL")) ∷ []) ++ 10 ∷ []
 
 -- its walk
 abbrev pub walk_of : Task → Walk
@@ -119,6 +135,8 @@ walk_of (Advise cell) = advise cell
 walk_of (Arrange cell) = arrange cell
 walk_of (Grants cell journal) = grants cell
 walk_of (Parts cell journal) = parts cell
+walk_of (Feed cell journal from) = feed usage_text cell from
+walk_of (Follow cell frames journal) = follow cell frames
 
 -- ---- words that no command is written as
 

@@ -2,17 +2,21 @@
 //!
 //! `cell_main` is the top call. It answers a status and hands back the disk. What it promises stands in `cell_walks`, once for every
 //! command: of the walk of the command that the words are (`specs/Words`, one line each). What that says of `run` is told fact by fact in
-//! `specs/Headline`.
+//! `specs/Headline`. `serve_main` is the top call of `serve`, which alone has an input.
 //!
-//! ```text
-//! let words = words_of(alloc, &["solo", "cell.toml", "shift.toml"])?;
-//! let ended = cell_main(&rt, alloc, &words, &mut files, &mut out, NullDisk, &FreePace);
+//! ```rust
+//! let mut files = files_of(rt, words)?;
+//! let mut out = MemSink::new(alloc, List::new(alloc));
+//! // with the words of a command, and the disk of its journal
+//! let Ended { status, disk } = cell_main(rt, alloc, words, &mut files, &mut out, disk, &FreePace);
 //! ```
 #![tactic(auto)]
 
 mod disk_laws;
+mod serving;
 mod top;
 mod words;
 
-pub use top::{Ended, cell_main};
-pub use words::{Command, Journal, command_of, journal_in};
+pub use serving::serve_main;
+pub use top::{Ended, cell_main, usage};
+pub use words::{Command, Journal, Served, command_of, journal_in, served_in};

@@ -1,10 +1,10 @@
 //! The top call.
-ghost use Rattle.std.specs.Prelude.{◌≡◌, ℕ, List, [], ◌∷◌, map, None};
+ghost use Rattle.std.specs.Prelude.{◌≡◌, ℕ, List, map, None};
 ghost use Rattle.cell_walks.specs.Clauses.{Ends, disk_told, files_told, observed, sink_told};
-ghost use Rattle.cell_program.specs.Words.{Run, Task, journal_of, no_command, usage_text, walk_for, walk_of, words_of};
+ghost use Rattle.cell_program.specs.Words.{Follow, Run, Task, journal_of, no_command, usage_text, walk_for, walk_of, words_of};
 ghost use Rattle.cell_program.specs.Deciding.{option_and_then, string_bytes, task_of};
 ghost use Rattle.cell_program.specs.Headline.{Headline};
-ghost use Rattle.cell_program.specs.Promised.{PromisesAt};
+ghost use Rattle.cell_program.specs.Promised.{FollowsAll, PromisesAt};
 
 use crate::disk_laws::{leaves_only_now, reads_an_image};
 use crate::words::{Command, command_of};
@@ -19,6 +19,7 @@ use order_commands::{run_advise, run_arrange};
 use outside_io::{Disk, Files, Pace, Sink};
 use queue_command::run_queue;
 use shift_commands::{run_on_journal, run_solo};
+use standby_commands::{run_feed, run_follow};
 use std::alloc::Global;
 use std::sync::Wait;
 use std::thread::Threads;
@@ -58,6 +59,12 @@ pub fn cell_main<R: Threads + Wait + Sync, F: Files, K: Sink, D: Disk + Send, P:
         let files = files_told F.holds F.is_sound F.faults files.old files.new in
         let disk = disk_told D.reads_as D.may_leave D.moment D.left_since D.faults disk result.disk in
         Headline (observed files disk) (sink_told K.taken K.was_put K.faults out.old out.new) cell shift result.status }
+
+    // Frames of one list of grants are all taken, where nothing is refused and nothing outside fails.
+    ensures followed { (cell frames journal : List ℕ) → words_of (Follow cell frames journal) ≡ map string_bytes words.now →
+        let files = files_told F.holds F.is_sound F.faults files.old files.new in
+        let disk = disk_told D.reads_as D.may_leave D.moment D.left_since D.faults disk result.disk in
+        FollowsAll (observed files disk) (sink_told K.taken K.was_put K.faults out.old out.new) cell frames result.status }
 
     // A command without a journal hands the disk back as it was, and so do words that are none.
     ensures untouched { ((task : Task) → words_of task ≡ map string_bytes words.now → journal_of task ≡ None) → result.disk ≡ disk }
@@ -117,14 +124,21 @@ fn run_command<R: Threads + Wait + Sync, F: Files, K: Sink, D: Disk + Send, P: P
         Some(Command::Arrange { cell }) => run_arrange(alloc, files, out, cell, disk),
         Some(Command::Grants { cell, .. }) => run_grants(alloc, files, out, cell, disk),
         Some(Command::Parts { cell, .. }) => run_parts(alloc, files, out, cell, disk),
+        Some(Command::Feed { cell, from, .. }) => {
+            run_feed(alloc, files, out, cell, from, usage(), disk)
+        }
+        Some(Command::Follow { cell, frames, .. }) => {
+            run_follow(alloc, files, out, cell, frames, disk)
+        }
     }
 }
 
-// The commands with their words.
-fn usage() -> &'static [u8]
+/// The commands with their words.
+pub fn usage() -> &'static [u8]
     ensures { result.now ≡ usage_text }
 {
     b"usage: solo CELL SHIFT, run CELL SHIFT JOURNAL, plan CELL JOURNAL, drain CELL JOURNAL, why CELL JOURNAL STEP, check CELL RECORD, \
       show CELL, make NUMBER, carry CELL1 JOURNAL CELL2, begin CELL START JOURNAL, hybrid CELL SHIFT, queue CELL SHIFT, \
-      advise CELL, arrange CELL, grants CELL JOURNAL, parts CELL JOURNAL\n"
+      advise CELL, feed CELL JOURNAL FROM, follow CELL FRAMES JOURNAL, arrange CELL, grants CELL JOURNAL, parts CELL JOURNAL, \
+      serve CELL JOURNAL\n"
 }

@@ -1,9 +1,10 @@
 //! What the words of the command line ask for.
-ghost use Rattle.std.specs.Prelude.{◌≡◌, map, IfSome, IfNone, List, None};
+ghost use Rattle.std.specs.Prelude.{◌≡◌, map, IfSome, IfNone, List, None, ℕ};
 ghost use Rattle.std.specs.String.{string_bytes};
 ghost use Rattle.std.specs.Option.{option_map};
-ghost use Rattle.cell_program.specs.Words.{Task, journal_of, words_of};
-ghost use Rattle.cell_program.specs.Deciding.{named, task_in, task_of, task_of_one, task_of_three, task_of_two};
+ghost use Rattle.cell_program.specs.Words.{Task, journal_of, serve_words, words_of};
+ghost use Rattle.cell_program.specs.Deciding.{named, served_of, served_of_two, served_words, task_in};
+ghost use Rattle.cell_program.specs.Deciding.{task_of, task_of_one, task_of_three, task_of_two};
 
 /// A command with its words.
 #[derive(Drop)]
@@ -48,7 +49,7 @@ pub enum Command<'a> {
     Make {
         number: &'a str,
     },
-    /// The parts behind a journal's grants, as they are carried to another cell.
+    /// The parts after a journal's grants, as they are carried to another cell.
     Carry {
         cell: &'a str,
         journal: &'a str,
@@ -88,6 +89,18 @@ pub enum Command<'a> {
         cell: &'a str,
         journal: &'a str,
     },
+    /// The grants from an index on, as frames.
+    Feed {
+        cell: &'a str,
+        journal: &'a str,
+        from: &'a str,
+    },
+    /// Frames that a standby takes.
+    Follow {
+        cell: &'a str,
+        frames: &'a str,
+        journal: &'a str,
+    },
 }
 
 /// The journal of a command by its name, and what it is opened for.
@@ -107,12 +120,14 @@ impl<'a> Command<'a> {
         match self {
             Command::Run { journal, .. }
             | Command::Drain { journal, .. }
-            | Command::Begin { journal, .. } => Some(Journal::Added(journal)),
+            | Command::Begin { journal, .. }
+            | Command::Follow { journal, .. } => Some(Journal::Added(journal)),
             Command::Plan { journal, .. }
             | Command::Why { journal, .. }
             | Command::Carry { journal, .. }
             | Command::Grants { journal, .. }
-            | Command::Parts { journal, .. } => Some(Journal::Read(journal)),
+            | Command::Parts { journal, .. }
+            | Command::Feed { journal, .. } => Some(Journal::Read(journal)),
             Command::Solo { .. }
             | Command::Check { .. }
             | Command::Show { .. }
@@ -210,6 +225,18 @@ fn decide_three<'a>(verb: &str, a: &'a str, b: &'a str, c: &'a str) -> Option<Co
             start: b,
             journal: c,
         })
+    } else if verb == "feed" {
+        Some(Command::Feed {
+            cell: a,
+            journal: b,
+            from: c,
+        })
+    } else if verb == "follow" {
+        Some(Command::Follow {
+            cell: a,
+            frames: b,
+            journal: c,
+        })
     } else {
         None
     }
@@ -244,4 +271,43 @@ pub fn journal_in(words: &[String]) -> Option<Journal<'_>>
         Some(command) => command.journal(),
         None => None,
     }
+}
+
+/// The words of `serve CELL JOURNAL` after the first.
+#[derive(Drop)]
+pub struct Served<'a> {
+    pub cell: &'a str,
+    pub journal: &'a str,
+}
+
+// What a verb and two words serve.
+fn served_two<'a>(verb: &str, a: &'a str, b: &'a str) -> Option<Served<'a>>
+    ensures { option_map served_words result ≡ served_of_two verb.now a.now b.now }
+{
+    if verb == "serve" {
+        Some(Served {
+            cell: a,
+            journal: b,
+        })
+    } else {
+        None
+    }
+}
+
+// What the words serve.
+fn decide_served(words: &[String]) -> Option<Served<'_>>
+    ensures { option_map served_words result ≡ served_of (map string_bytes words.now) }
+{
+    match words {
+        [verb, a, b] => served_two(verb.as_str(), a.as_str(), b.as_str()),
+        _ => None,
+    }
+}
+
+/// What the words serve, where they are written so. No other command is written as they are.
+pub fn served_in(words: &[String]) -> Option<Served<'_>>
+    ensures written { IfSome result (λ served. served_words served ≡ map string_bytes words.now) }
+    ensures none { IfNone result ((cell journal : List ℕ) → serve_words cell journal ≡ map string_bytes words.now → ⊥) }
+{
+    decide_served(words)
 }

@@ -1,5 +1,6 @@
 -- A session that goes on asks its present step, and ends by a reply or by a fault.
-use Rattle.std.proofs.Common.{◌≡◌, ℕ, ◌+◌, ◌-◌, ◌*◌, ◌<◌, ◌≤◌, Bool, true, false, ◌||◌, ◌⊎◌, cond, Some, List, [], ◌∷◌, ◌++◌, length, slice_get, Ok, Err, refl, ap, ◌∙◌, sym, subst, inl, inr, arith, append-nil}
+use Rattle.std.proofs.Common.{◌≡◌, ℕ, ◌+◌, ◌-◌, ◌*◌, ◌<◌, ◌≤◌, Bool, true, false, ◌||◌, ◌⊎◌, cond, Some, List, [], ◌∷◌}
+use Rattle.std.proofs.Common.{◌++◌, length, slice_get, Ok, Err, refl, ap, ◌∙◌, sym, subst, inl, inr, arith, append-nil}
 use Rattle.std.specs.List.{All, position_from}
 use Rattle.std.proofs.lemmas.List.Elements.{All-nil, All-cons}
 use Rattle.std.proofs.lemmas.Iterator.Adapters.{position_from-zero}
@@ -11,14 +12,15 @@ use Rattle.cell_base.specs.declared.requests.Told.{Told}
 use Rattle.cell_base.specs.declared.requests.Told.TheVariants.{Answered}
 use Rattle.cell_base.specs.declared.requests.Told.TheVariants as told
 use Rattle.cell_base.specs.declared.shifts.Entry.{Entry}
-use Rattle.cell_base.specs.Scripts.{Progress, progress_after, progress_behind, HasEnded, IsTrace, holds_halt}
+use Rattle.cell_base.specs.Scripts.{Progress, progress_after, progress_through, HasEnded, IsTrace, holds_halt}
 use Rattle.durable_cell.specs.declared.fault.AskFault.{AskFault}
 use Rattle.durable_cell.specs.declared.fault.AskFault.TheVariants.{Halted, Full, Device}
 use Rattle.durable_cell.specs.Asked.{entry, is_halt}
 use Rattle.cell_lock.specs.Standing.{LockId, Standing, KeepsName, Adds, AreNumbered, Asked}
 use Rattle.cell_sessions.specs.Sessions.{HasAsked, HasRun}
-use Rattle.cell_sessions.specs.Underway.{left_of}
-use Rattle.cell_sessions.proofs.Traces.{holds_halt-push, progress_behind-push, IsTrace-push}
+use Rattle.solo_rounds.specs.Underway.{script_asks_left}
+use Rattle.cell_base.proofs.Histories.{progress_through-push}
+use Rattle.solo_rounds.proofs.Traces.{holds_halt-push, IsTrace-push}
 
 prefix_on : (xs ys zs : List Entry) → IsPrefix xs ys → IsPrefix ys zs → IsPrefix xs zs
 prefix_on xs ys zs a b = (a.0 ++ b.0, sym (append_assoc xs a.0 b.0) ∙ (ap (λ (l : List Entry). l ++ b.0) a.1 ∙ b.1))
@@ -33,7 +35,8 @@ halts n at (e ∷ es) found = go (is_halt e) (halts (n + 1) at es) found
     go true later found = refl
     go false later found = later found
 
-halts_last : (entries : List Entry) (session : ℕ) (request : Request) → holds_halt (entries ++ entry session request told.Halted ∷ []) ≡ true
+halts_last : (entries : List Entry) (session : ℕ) (request : Request) → holds_halt (entries ++ entry session request told.Halted ∷ [])
+    ≡ true
 halts_last [] session request = refl
 halts_last (e ∷ es) session request = go (is_halt e) (halts_last es session request)
   where
@@ -98,9 +101,9 @@ module _ {D : Type 0} (script : List Request) (patience : ℕ) (start : Progress
         (subst (λ (x : Progress). x.refusals < patience) (sym asks.asked.stands) asks.patient)
         (subst (λ (x : Progress). slice_get script x.step ≡ Some request) (sym asks.asked.stands) asks.step)
 
-    now_stands : (told : Told) → progress_behind start (asks.asked.entries ++ entry q.number request told ∷ []) ≡ progress_after at told
+    now_stands : (told : Told) → progress_through start (asks.asked.entries ++ entry q.number request told ∷ []) ≡ progress_after at told
     now_stands told =
-        progress_behind-push start asks.asked.entries (entry q.number request told)
+        progress_through-push start asks.asked.entries (entry q.number request told)
         ∙ ap (λ x. progress_after x told) asks.asked.stands
 
     -- it is answered with a reply
@@ -156,9 +159,9 @@ distributes : (a b c : ℕ) → (a + b) * c ≡ a * c + b * c
 distributes a b c = omega arith
 
 -- no more asks are left than steps times patience
-pub left_of-le : (script : List Request) (patience : ℕ) (at : Progress) → at.step ≤ length script
-    → left_of patience script at ≤ length script * patience
-left_of-le script patience at within =
+pub script_asks_left-le : (script : List Request) (patience : ℕ) (at : Progress) → at.step ≤ length script
+    → script_asks_left patience script at ≤ length script * patience
+script_asks_left-le script patience at within =
     let parts : length script ≡ (length script - at.step) + at.step = omega arith in
     let whole : length script * patience ≡ (length script - at.step) * patience + at.step * patience =
     ap (λ m. m * patience) parts ∙ distributes (length script - at.step) at.step patience in

@@ -1,5 +1,7 @@
 -- One opening grant more: its session stands a step further, or it is a stray.
-use Rattle.std.proofs.Common.{◌≡◌, ℕ, ◌+◌, ◌<◌, ◌≤◌, ◌==◌, ◌&&◌, Bool, false, Some, List, [], ◌∷◌, ◌++◌, length, take, drop, slice_get, slice_set, get_or, replicate, refl, ap, ◌∙◌, sym, subst, ⊎_elim, arith, length-set, get_or-set_same, get_or-set_other, append-nil}
+use Rattle.std.proofs.Common.{◌≡◌, ℕ, ◌+◌, ◌<◌, ◌≤◌, ◌==◌, ◌&&◌, Bool, false, Some, List, [], ◌∷◌, ◌++◌, length}
+use Rattle.std.proofs.Common.{take, drop, slice_get, slice_set, get_or, replicate, refl, ap, ◌∙◌, sym, subst}
+use Rattle.std.proofs.Common.{⊎_elim, arith, length-set, get_or-set_same, get_or-set_other, append-nil}
 use Rattle.std.specs.List.{filter}
 use Rattle.std.proofs.lemmas.Bool.{and_from, and_left, and_right, cases_eq, cond-true, cond-false, eq-eqb, ne_eqb}
 use Rattle.std.proofs.lemmas.List.{drop_more, get_or-take, length-take-le, length_push, map-append, take-append-drop, take_more}
@@ -10,11 +12,11 @@ use Rattle.cell_base.specs.declared.shifts.Grant.{Grant}
 use Rattle.cell_base.specs.declared.shifts.Shift.{Shift}
 use Rattle.cell_base.specs.Histories.{requests_of}
 use Rattle.cell_base.specs.Rounds.{IsSession}
-use Rattle.cell_base.specs.Scripts.{Progress, IsStarted, begin_at, granted_to, script_of, start}
-use Rattle.cell_base.specs.Starts.{AreStarted, IsOtherShift}
+use Rattle.cell_base.specs.Scripts.{Progress, HasFirstSteps, begin_at, granted_to, script_of, first_step}
+use Rattle.cell_base.specs.Starts.{AreFirstSteps, IsOtherShift}
 use Rattle.cell_sessions.specs.Starting.{AreBegun, IsReached, StandAtStart}
-use Rattle.cell_sessions.proofs.Counting.{script_at}
-use Rattle.cell_sessions.proofs.Ends.{same_everywhere}
+use Rattle.solo_rounds.proofs.Counting.{script_at}
+use Rattle.solo_rounds.proofs.Ends.{same_everywhere}
 
 -- ---- first steps of a script
 
@@ -73,14 +75,14 @@ module _ (shift session : ℕ) (before : List Grant) (grant : Grant) where
   granted_to-other_session other =
       left_out (and_right (grant.shift == shift) (grant.session == session) (ne_eqb grant.session session other))
 
--- behind these grants this one is the next step of its session's script, and the session is the shift's
+-- after these grants this one is the next step of its session's script, and the session is the shift's
 pub record IsNextStep (shift : Shift) (grants : List Grant) (grant : Grant) : Type 0 where
   pub session : IsSession shift grant.session
-  pub step : slice_get (script_of shift grant.session) (start shift grant.session grants) ≡ Some grant.request
+  pub step : slice_get (script_of shift grant.session) (first_step shift grant.session grants) ≡ Some grant.request
 
 -- ---- whether the sessions are still started, one grant later
 
-pub started-none : (shift : Shift) → AreStarted shift []
+pub started-none : (shift : Shift) → AreFirstSteps shift []
 started-none shift = record { each = λ session is. refl; known = All-nil _ }
 
 module _ (shift : Shift) (before : List Grant) (grant : Grant) where
@@ -91,35 +93,35 @@ module _ (shift : Shift) (before : List Grant) (grant : Grant) where
   IsKnown g = g.shift ≡ shift.number → IsSession shift g.session
 
   stays : (session : ℕ) → granted_to shift.number session more ≡ granted_to shift.number session before
-      → IsStarted shift session before → IsStarted shift session more
+      → HasFirstSteps shift session before → HasFirstSteps shift session more
   stays session same started = rw same started
 
-  pub passes : AreStarted shift before → (grant.shift ≡ shift.number → ⊥) → AreStarted shift more
+  pub passes : AreFirstSteps shift before → (grant.shift ≡ shift.number → ⊥) → AreFirstSteps shift more
   passes started other = record {
     each = λ session is.
         stays session (granted_to-other_shift shift.number session before grant other) (started.each session is);
     known = All-push IsKnown before grant started.known (λ own. absurd (other own));
   }
 
-  goes : AreStarted shift before → grant.shift ≡ shift.number → IsNextStep shift before grant
-      → IsStarted shift grant.session more
+  goes : AreFirstSteps shift before → grant.shift ≡ shift.number → IsNextStep shift before grant
+      → HasFirstSteps shift grant.session more
   goes started own next =
       rw (granted_to-own shift.number grant.session before grant own refl)
       (first_steps-more (granted_to shift.number grant.session before) (script_of shift grant.session) grant.request
       (started.each grant.session next.session) next.step)
 
-  pub goes_on : AreStarted shift before → grant.shift ≡ shift.number → IsNextStep shift before grant → AreStarted shift more
+  pub goes_on : AreFirstSteps shift before → grant.shift ≡ shift.number → IsNextStep shift before grant → AreFirstSteps shift more
   goes_on started own next = record {
     each = λ session is.
         ⊎_elim
-        (λ its. subst (λ session. IsStarted shift session more) its (goes started own next))
+        (λ its. subst (λ session. HasFirstSteps shift session more) its (goes started own next))
         (λ other. stays session (granted_to-other_session shift.number session before grant other) (started.each session is))
         (cases_eq grant.session session);
     known = All-push IsKnown before grant started.known (λ own. next.session);
   }
 
-  -- a grant behind which they are, is the next step
-  pub was_next : grant.shift ≡ shift.number → AreStarted shift more → IsNextStep shift before grant
+  -- a grant after which they are, is the next step
+  pub was_next : grant.shift ≡ shift.number → AreFirstSteps shift more → IsNextStep shift before grant
   was_next own started =
       let session = (All-pop IsKnown more before (Some grant) refl started.known).1 own in
       record {
@@ -138,7 +140,7 @@ module _ (shift : Shift) (before : List Grant) (grant : Grant) where
 
   -- the next step leads its session a step further, and the others stand where they stood
   module _ (progress : List Progress) (k : ℕ) (own : grant.shift ≡ shift.number) (its : k + 1 ≡ grant.session) where
-    stands : (next : Progress) → next ≡ begin_at (start shift grant.session before + 1) → StandAtStart shift before progress
+    stands : (next : Progress) → next ≡ begin_at (first_step shift grant.session before + 1) → StandAtStart shift before progress
         → StandAtStart shift more (slice_set progress k next)
     stands next goes stand j at is = ⊎_elim here there (cases_eq j k)
       where
@@ -148,18 +150,18 @@ module _ (shift : Shift) (before : List Grant) (grant : Grant) where
         written : at ≡ get_or (slice_set progress k next) j next
         written = sym (get_or_from_slice_get (slice_set progress k next) j at next is)
 
-        here : j ≡ k → at ≡ begin_at (start shift (j + 1) more)
+        here : j ≡ k → at ≡ begin_at (first_step shift (j + 1) more)
         here same =
             let room : k < length progress = omega (arith, inside) in
             let now : get_or (slice_set progress k next) j next ≡ next =
             ap (λ i. get_or (slice_set progress k next) i next) same ∙ get_or-set_same progress k next next room in
             let session : grant.session ≡ j + 1 = omega arith in
-            let count : start shift (j + 1) more ≡ start shift (j + 1) before + 1 =
+            let count : first_step shift (j + 1) more ≡ first_step shift (j + 1) before + 1 =
             ap (λ (rs : List Request). length rs) (granted_to-own shift.number (j + 1) before grant own session)
             ∙ length_push (granted_to shift.number (j + 1) before) grant.request in
             rw (count, ← session) (written ∙ now ∙ goes)
 
-        there : (j ≡ k → ⊥) → at ≡ begin_at (start shift (j + 1) more)
+        there : (j ≡ k → ⊥) → at ≡ begin_at (first_step shift (j + 1) more)
         there other =
             let stood : get_or (slice_set progress k next) j next ≡ get_or progress j next =
             get_or-set_other progress k j next next other in
@@ -168,15 +170,15 @@ module _ (shift : Shift) (before : List Grant) (grant : Grant) where
 
     module _ (script : List Request) (d : Progress) (is : slice_get shift.scripts k ≡ Some script) (inside : k < length progress)
         (reached : IsReached shift before progress) where
-      stood : get_or progress k d ≡ begin_at (start shift grant.session before)
+      stood : get_or progress k d ≡ begin_at (first_step shift grant.session before)
       stood =
           reached.stand k (get_or progress k d) (slice_get-get_or progress k d inside)
-          ∙ ap (λ s. begin_at (start shift s before)) its
+          ∙ ap (λ s. begin_at (first_step shift s before)) its
 
       script_is : script_of shift grant.session ≡ script
       script_is = ap (λ s. script_of shift s) (sym its) ∙ script_at shift k script is
 
-      there : (slice_get (script_of shift grant.session) (start shift grant.session before) ≡
+      there : (slice_get (script_of shift grant.session) (first_step shift grant.session before) ≡
           slice_get script (get_or progress k d).step)
       there =
           ap (λ (p : Progress). slice_get (script_of shift grant.session) p.step) (sym stood)
@@ -192,7 +194,7 @@ module _ (shift : Shift) (before : List Grant) (grant : Grant) where
             stand = stands next (goes ∙ ap (λ (p : Progress). begin_at (p.step + 1)) stood) reached.stand;
           }
 
-      pub next_there : AreStarted shift more → slice_get script (get_or progress k d).step ≡ Some grant.request
+      pub next_there : AreFirstSteps shift more → slice_get script (get_or progress k d).step ≡ Some grant.request
       next_there started = sym there ∙ (was_next own started).step
 
 -- ---- along the opening grants
@@ -209,13 +211,13 @@ module _ (shift : Shift) (opening : List Grant) (i : ℕ) (d : Grant) (within : 
       → IsReached shift (take (i + 1) opening) progress
   one_more progress reached = rw (take_more opening i d within) reached
 
-  pub is_other_shift : AreStarted shift (take i opening)
-      → (AreStarted shift (take i opening ++ get_or opening i d ∷ []) → ⊥)
+  pub is_other_shift : AreFirstSteps shift (take i opening)
+      → (AreFirstSteps shift (take i opening ++ get_or opening i d ∷ []) → ⊥)
       → IsOtherShift shift opening (get_or opening i d).session
   is_other_shift started strays = record {
     before = take i opening;
     stray = get_or opening i d;
-    behind = drop (i + 1) opening;
+    later = drop (i + 1) opening;
     parted = sym (take-append-drop i opening) ∙ ap (λ gs. take i opening ++ gs) (drop_more opening i d within);
     started = started;
     strays = strays;

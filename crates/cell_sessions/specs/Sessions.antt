@@ -3,7 +3,7 @@ use mathlib.Core.List.{IsPrefix}
 use Rattle.std.specs.Prelude.{◌≡◌, ◌⊎◌, ℕ, true, false, List, ◌++◌, length}
 use Rattle.cell_base.specs.declared.requests.Request.{Request}
 use Rattle.cell_base.specs.declared.shifts.Entry.{Entry}
-use Rattle.cell_base.specs.Scripts.{Progress, progress_behind, IsTrace, IsWholeTrace, HasEnded, holds_halt}
+use Rattle.cell_base.specs.Scripts.{Progress, progress_through, IsTrace, IsWholeTrace, HasEnded, holds_halt}
 use Rattle.cell_lock.specs.Standing.{Standing, KeepsName}
 
 -- the pass has come to a later one by asks of its session, each of which was answered with a reply
@@ -14,11 +14,11 @@ pub record HasAsked {D : Type 0} (script : List Request) (patience : ℕ) (start
   pub mine : new.mine ≡ old.mine ++ entries
   pub trace : IsTrace script patience start entries
   pub unhalted : holds_halt entries ≡ false
-  pub stands : progress_behind start entries ≡ at
+  pub stands : progress_through start entries ≡ at
 
 -- the session is cut short, since the history that it sees halts or is as long as its limit allows
 pub record IsCutShort (script : List Request) (patience : ℕ) (start : Progress) (entries seen : List Entry) (limit : ℕ) : Type 0 where
-  pub going : HasEnded script patience (progress_behind start entries) → ⊥
+  pub going : HasEnded script patience (progress_through start entries) → ⊥
   pub stopped : (holds_halt seen ≡ true) ⊎ (length seen ≡ limit)
 
 -- The pass keeps its lock and its number, and its own entries grew by asks of its session, from where the session stood until it has

@@ -1,9 +1,9 @@
--- Where the sessions of a shift start behind the grants that a journal has.
+-- Where the sessions of a shift start after the grants that a journal has.
 use Rattle.std.specs.Prelude.{◌≡◌, ℕ, ◌+◌, List, length, slice_get, Some, ⊤}
 use Rattle.cell_base.specs.declared.shifts.Grant.{Grant}
 use Rattle.cell_base.specs.declared.shifts.Shift.{Shift}
-use Rattle.cell_base.specs.Scripts.{Progress, begin_at, start}
-use Rattle.cell_base.specs.Starts.{AreStarted, IsOtherShift}
+use Rattle.cell_base.specs.Scripts.{Progress, begin_at, first_step}
+use Rattle.cell_base.specs.Starts.{AreFirstSteps, IsOtherShift}
 use Rattle.cell_sessions.specs.declared.fault.BeginFault.{BeginFault}
 use Rattle.cell_sessions.specs.declared.fault.BeginFault.TheVariants.{OtherShift, Memory}
 
@@ -15,14 +15,14 @@ IsBeginFault shift opening Memory = ⊤
 -- each session stands at the step that its grants reach, with no refusals: session k + 1 has progress k
 abbrev pub StandAtStart : Shift → List Grant → List Progress → Type 0
 StandAtStart shift grants progress =
-    (k : ℕ) (at : Progress) → slice_get progress k ≡ Some at → at ≡ begin_at (start shift (k + 1) grants)
+    (k : ℕ) (at : Progress) → slice_get progress k ≡ Some at → at ≡ begin_at (first_step shift (k + 1) grants)
 
 -- the sessions of the shift, each with its progress, where they start
 pub record AreBegun (shift : Shift) (opening : List Grant) (progress : List Progress) : Type 0 where
   pub count : length progress ≡ length shift.scripts
   pub each : StandAtStart shift opening progress
 
--- the grants are first steps of the scripts, and the sessions stand behind them
+-- the grants are first steps of the scripts, and the sessions stand after them
 pub record IsReached (shift : Shift) (grants : List Grant) (progress : List Progress) : Type 0 where
-  pub started : AreStarted shift grants
+  pub started : AreFirstSteps shift grants
   pub stand : StandAtStart shift grants progress

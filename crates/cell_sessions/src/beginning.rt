@@ -1,14 +1,14 @@
-//! Where the sessions of a shift begin behind the grants that a journal has.
+//! Where the sessions of a shift begin after the grants that a journal has.
 ghost use Rattle.std.specs.Prelude.{◌≡◌, ◌<◌, ◌≤◌, ◌↔◌, IsTrue, List, [], ◌∷◌, ◌++◌, length, slice_get, IfOk, IfErr};
 ghost use Rattle.std.specs.Bool.{OnTrue, OnFalse};
 ghost use Rattle.cell_base.specs.declared.limits.TheConstants.{MAX_SESSIONS};
 ghost use Rattle.cell_base.specs.declared.shifts.Grant.{Grant as OneGrant};
-ghost use Rattle.cell_base.specs.Starts.{AreStarted};
+ghost use Rattle.cell_base.specs.Starts.{AreFirstSteps};
 ghost use Rattle.cell_sessions.specs.Starting.{AreBegun, IsBeginFault, IsReached};
 
 use crate::fault::BeginFault;
-use crate::progress::Progress;
 use cell_base::{Grant, List, MAX_SESSIONS, Request, Shift};
+use solo_rounds::Progress;
 use std::alloc::Global;
 
 const SESSIONS: usize = MAX_SESSIONS as usize;
@@ -17,7 +17,7 @@ const SESSIONS: usize = MAX_SESSIONS as usize;
 /// `k - 1`. The grants of other shifts count for nothing.
 pub fn begin(alloc: Global, shift: &Shift, opening: &[Grant]) -> Result<List<Progress>, BeginFault>
     requires sessions { length shift.now.scripts ≤ MAX_SESSIONS }
-    ensures started { IfOk result (λ progress. AreStarted shift.now opening.now) }
+    ensures started { IfOk result (λ progress. AreFirstSteps shift.now opening.now) }
     ensures begun { IfOk result (λ progress. AreBegun shift.now opening.now progress) }
     ensures fault { IfErr result (IsBeginFault shift.now opening.now) }
 {
@@ -26,7 +26,7 @@ pub fn begin(alloc: Global, shift: &Shift, opening: &[Grant]) -> Result<List<Pro
     Ok(List::copy_of(alloc, sessions)?)
 }
 
-/// Where the sessions stand behind the grants, or the first grant that leads none of them on.
+/// Where the sessions stand after the grants, or the first grant that leads none of them on.
 fn reach(shift: &Shift, opening: &[Grant]) -> Result<[Progress; SESSIONS], BeginFault>
     requires sessions { length shift.now.scripts ≤ MAX_SESSIONS }
     ensures reached { IfOk result (IsReached shift.now opening.now) }
@@ -50,7 +50,7 @@ fn lead_on(shift: &Shift, grant: &Grant, reached: &mut [Progress; SESSIONS]) -> 
     ensures led { (grants : List OneGrant) → IsReached shift.now grants reached.old
         → OnTrue result (IsReached shift.now (grants ++ grant.now ∷ []) reached.new) }
     ensures stray { (grants : List OneGrant) → IsReached shift.now grants reached.old
-        → OnFalse result (AreStarted shift.now (grants ++ grant.now ∷ []) → ⊥) }
+        → OnFalse result (AreFirstSteps shift.now (grants ++ grant.now ∷ []) → ⊥) }
 {
     let session = grant.session as u64;
     if session == 0 || shift.scripts.len() < session {

@@ -4,7 +4,7 @@ ghost use Rattle.cell_sessions.specs.declared.fault.BeginFault.TheVariants.{Memo
 
 use cell_base::NoMemory;
 
-/// Why the sessions of a shift do not begin behind the grants of a journal.
+/// Why the sessions of a shift do not begin after the grants of a journal.
 #[derive(Clone, Copy, Debug, PartialEq, Eq)]
 pub enum BeginFault {
     /// A grant with the shift's number is not the next step of its session's script, or the shift has no such session. It is

@@ -4,13 +4,13 @@ ghost use Rattle.cell_base.specs.Fits.{ShiftFits};
 ghost use Rattle.cell_base.specs.Scripts.{script_of};
 ghost use Rattle.cell_lock.specs.Standing.{AreAll};
 ghost use Rattle.cell_sessions.specs.Sessions.{HasRun};
-ghost use Rattle.cell_sessions.specs.Underway.{IsWithinScript, progress_at};
+ghost use Rattle.solo_rounds.specs.Underway.{IsWithinScript, progress_at};
 
-use crate::progress::Progress;
 use crate::session::run_session;
 use cell_base::Shift;
 use cell_lock::{Pass, SharedCell};
 use outside_io::{Disk, Pace};
+use solo_rounds::Progress;
 use std::sync::Wait;
 use std::thread;
 use std::thread::Threads;

@@ -3,12 +3,12 @@ ghost use Rattle.std.specs.Prelude.{◌≡◌, ◌*◌, ◌≤◌, length, All};
 ghost use Rattle.cell_base.specs.declared.limits.TheConstants.{MAX_ASKS, MAX_STEPS};
 ghost use Rattle.cell_base.specs.Fits.{RequestFits};
 ghost use Rattle.cell_sessions.specs.Sessions.{HasRun};
-ghost use Rattle.cell_sessions.specs.Underway.{IsWithinScript};
+ghost use Rattle.solo_rounds.specs.Underway.{IsWithinScript};
 
-use crate::progress::Progress;
 use cell_base::{List, Request};
 use cell_lock::{Pass, SharedCell};
 use outside_io::{Disk, Pace};
+use solo_rounds::Progress;
 use std::sync::Wait;
 
 /// The session asks its present step until it has ended, or is answered a fault. Before each ask it keeps its pace. It takes no

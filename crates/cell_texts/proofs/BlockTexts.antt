@@ -1,4 +1,4 @@
--- The lines of a block, one behind the other, are its text.
+-- The lines of a block, one after the other, are its text.
 use Rattle.std.proofs.Common.{◌≡◌, Bool, true, false, ℕ, List, [], ◌∷◌, ◌++◌, length, map, refl, sym, ap, ◌∙◌, append-nil}
 use Rattle.std.specs.Prelude.{if◌then◌else◌}
 use Rattle.std.specs.List.{concat, flat_map}
@@ -29,7 +29,7 @@ module _ (cell : Cell) where
       concat-append (history_lines cell shift grants history) (left ∷ plan_lines cell plan)
       ∙ rw (unhalted, concat-map (entry_line cell) history, concat-map (step_line cell) plan) refl
 
-  -- behind a halt nothing follows
+  -- after a halt nothing follows
   pub halted_text : (parts : List Part) (shift grants : ℕ) (history : List Entry) (plan : List Request) → holds_halt history ≡ true
       → concat (history_lines cell shift grants history) ≡ text_of_record cell parts shift grants history plan
   halted_text parts shift grants history plan halted =

@@ -1,6 +1,7 @@
 -- What was read of a file, cut after one byte more than its limit, tells as much as the whole file.
 use Rattle.std.specs.Prelude.{IfSome}
-use Rattle.std.proofs.Common.{◌≡◌, inl, inr, ℕ, ◌+◌, ◌<◌, ◌≤◌, subst, List, length, take, Option, Some, None, IsSomeAnd, Result, Ok, Err, refl, sym, ◌∙◌, ap, arith, length-take}
+use Rattle.std.proofs.Common.{◌≡◌, inl, inr, ℕ, ◌+◌, ◌<◌, ◌≤◌, subst, List, length, take, Option, Some}
+use Rattle.std.proofs.Common.{None, IsSomeAnd, Result, Ok, Err, refl, sym, ◌∙◌, ap, arith, length-take}
 use Rattle.std.proofs.lemmas.Bool.{cases_lt, cond-true, lt-ltb}
 use Rattle.std.proofs.lemmas.List.{take_all}
 use Rattle.outside_io.specs.Files.{Names, IsReadOf}

@@ -1,8 +1,9 @@
 -- Lines that a sink takes in turn, and fails to take one of.
-use Rattle.std.proofs.Common.{◌≡◌, ℕ, ◌+◌, ◌<◌, ◌≤◌, arith, List, [], ◌∷◌, ◌++◌, length, map, drop, get_or, Option, subst, sym, ap, ◌∙◌, add-one, append_assoc, append-nil, drop-cons, refl}
+use Rattle.std.proofs.Common.{◌≡◌, ℕ, ◌+◌, ◌<◌, ◌≤◌, arith, List, [], ◌∷◌, ◌++◌, length, map, drop, get_or, Option}
+use Rattle.std.proofs.Common.{subst, sym, ap, ◌∙◌, add-one, append_assoc, append-nil, drop-cons, refl}
 use Rattle.std.proofs.lemmas.List.{map-append}
 use Rattle.outside_io.specs.Puts.{SinkTold, sink_told, TookAll, TookSome}
-use Rattle.outside_io.specs.PutLaws.{took_none, took_more, failed_before, failed_behind}
+use Rattle.outside_io.specs.PutLaws.{took_none, took_more, failed_before, failed_after}
 use Rattle.cell_base.specs.declared.cells.Cell.{Cell}
 use Rattle.cell_base.specs.declared.requests.Request.{Request}
 use Rattle.cell_base.specs.declared.shifts.Entry.{Entry}
@@ -12,13 +13,13 @@ use Rattle.std.proofs.lemmas.List.Elements.{All-head, All-tail}
 use Rattle.std.proofs.lemmas.List.{length-append, map-id}
 use Rattle.cell_texts.specs.Blocks.{Lines, history_lines, left_lines, planned_block}
 
--- of these items the first ones have their lines taken, and the rest not yet
+-- of these items a prefix has its lines taken, and the rest not yet
 pub record Underway {X : Type 0} (told : SinkTold) (line_for : X → List ℕ) (every rest : List X) : Type 0 where
   pub behind : List X
   pub parted : behind ++ rest ≡ every
   pub took : TookAll told (map line_for behind)
 
--- at an index, the item there and those behind it are the rest
+-- at an index, the item there and those after it are the rest
 pub rest_at : {X : Type 0} (items : List X) (i : ℕ) (d : X) → i < length items → drop i items ≡ get_or items i d ∷ drop (i + 1) items
 rest_at items i d within = rw add-one (drop-cons items i d within)
 
@@ -68,7 +69,7 @@ module _ {K : Type 0} (taken : K → Option (List ℕ)) (was_put : K → List �
         pub breaks_off : TookSome (told b c) (line ∷ []) → TookSome (told a c) (map line_for every)
         breaks_off part =
             subst (TookSome (told a c)) (sym (map-append line_for so_far.behind (item ∷ rest)) ∙ ap (map line_for) so_far.parted)
-            (failed_behind taken was_put faults a b c (map line_for so_far.behind) (line_for item ∷ map line_for rest) so_far.took
+            (failed_after taken was_put faults a b c (map line_for so_far.behind) (line_for item ∷ map line_for rest) so_far.took
             (failed_before taken was_put faults b c (line_for item ∷ []) (map line_for rest)
             (subst (λ (l : List ℕ). TookSome (told b c) (l ∷ [])) is part)))
 
@@ -128,7 +129,7 @@ module _ {K : Type 0} (taken : K → Option (List ℕ)) (was_put : K → List �
 
     module _ (c : K) (whole : TookAll (told a b) first) where
       pub failed_then : TookSome (told b c) then → TookSome (told a c) every
-      failed_then part = subst (TookSome (told a c)) joined (failed_behind taken was_put faults a b c first then whole part)
+      failed_then part = subst (TookSome (told a c)) joined (failed_after taken was_put faults a b c first then whole part)
 
       pub took_both : TookAll (told b c) then → TookAll (told a c) every
       took_both more = subst (TookAll (told a c)) joined (took_more taken was_put faults a b c first then whole more)

@@ -5,7 +5,8 @@ use Rattle.cell_base.specs.declared.cells.Cell.{Cell}
 use Rattle.cell_base.specs.declared.requests.Part.{Part}
 use Rattle.cell_base.specs.declared.requests.Request.{Request}
 use Rattle.cell_base.specs.declared.requests.Refusal.{Refusal}
-use Rattle.cell_base.specs.declared.requests.Refusal.TheVariants.{JobLoaded, NoSuchJob, NotProcessed, AtLast, NotLast, Idle, Saturated, NoBranch}
+use Rattle.cell_base.specs.declared.requests.Refusal.TheVariants.{JobLoaded, NoSuchJob, NotProcessed, AtLast}
+use Rattle.cell_base.specs.declared.requests.Refusal.TheVariants.{NotLast, Idle, Saturated, NoBranch}
 use Rattle.cell_base.specs.declared.requests.Reply.TheVariants.{Granted, Refused}
 use Rattle.cell_base.specs.declared.requests.Told.{Told}
 use Rattle.cell_base.specs.declared.requests.Told.TheVariants.{Answered, Halted}
@@ -17,7 +18,7 @@ use Rattle.cell_base.specs.Outcomes.{reply_to, state_after}
 use Rattle.cell_base.specs.Policy.{IsAdmitted}
 use Rattle.policy_laws.proofs.Admission.{admission_law, saturation_law}
 use Rattle.policy_laws.proofs.States.{IsAdmitted-empty}
-use Rattle.durable_cell.specs.Replayed.{AreDue}
+use Rattle.shift_recovery.specs.Replayed.{AreDue}
 use Rattle.record_text.specs.Fitting.{EntryFits, ToldFits, RefusalFits}
 
 module _ (cell : Cell) (fits : CellFits cell) where

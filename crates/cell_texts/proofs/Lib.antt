@@ -1,5 +1,6 @@
 -- Lemmas, grouped by subject.
 pub mod Added
+pub mod AskedSteps
 pub mod BlockTexts
 pub mod Cuts
 pub mod Delivered

@@ -1,6 +1,6 @@
 -- The record of a durable cell in which everything was asked under one number.
 use Rattle.std.specs.Prelude.{Some, None}
-use Rattle.std.specs.Option.{option_map}
+use Rattle.std.specs.Option.{option_map, option_to_list}
 use Rattle.std.specs.List.{concat}
 use Rattle.std.proofs.Common.{◌≡◌, inl, inr, ℕ, true, false, List, [], length, All, Option, refl, sym, ap, ◌∙◌, subst}
 use Rattle.std.proofs.lemmas.Bool.{true≢false}
@@ -67,13 +67,13 @@ module _ {D : Type 0} (number : ℕ) (durable : DurableState D) (kept : KeepsHis
       status = Done;
       pieces = block_of (record { cell = durable.cell; parts = parts durable }) number (length durable.opening) durable.history;
       added = grants number durable.history;
-      unsure = None;
+      unsure = [];
     }
     whole_outcome = λ i. record {
       status = Done;
       pieces = block_of (core_is i) number (after_is i) (history_is i);
       added = grants number (history_is i);
-      unsure = None;
+      unsure = [];
     }
 
     pub whole_record : IsRecordedOrHalted durable.cell number durable.opening (IsUnhaltedIn durable) (IsHaltedIn durable)
@@ -89,13 +89,15 @@ module _ {D : Type 0} (number : ℕ) (durable : DurableState D) (kept : KeepsHis
     })
 
     -- the disk stands for the grants of the record
-    pub whole_stands : (disk : DiskTold) → StandsForAdded disk durable.text durable.opening durable.added durable.unsure
-        → StandsForAdded disk durable.text durable.opening (grants number history) None
+    pub whole_stands : (disk : DiskTold) → StandsForAdded disk durable.text durable.opening durable.added (option_to_list durable.unsure)
+        → StandsForAdded disk durable.text durable.opening (grants number history) []
     whole_stands disk stands =
         let none : durable.unsure ≡ None =
         under.unsure ∙ ap (λ (o : Option Entry). option_map (grant_of number) o) (none_halted durable.history no_halt) in
-        subst (λ (unsure : Option Grant). StandsForAdded disk durable.text durable.opening (grants number history) unsure) none
-        (subst (λ (added : List Grant). StandsForAdded disk durable.text durable.opening added durable.unsure) added_is stands)
+        subst (λ (unsure : Option Grant). StandsForAdded disk durable.text durable.opening (grants number history)
+        (option_to_list unsure)) none
+        (subst (λ (added : List Grant). StandsForAdded disk durable.text durable.opening added (option_to_list durable.unsure))
+        added_is stands)
 
   -- ---- one did
 
@@ -104,13 +106,13 @@ module _ {D : Type 0} (number : ℕ) (durable : DurableState D) (kept : KeepsHis
       status = DeviceFault;
       pieces = history_lines durable.cell number (length durable.opening) durable.history;
       added = grants number durable.history;
-      unsure = unsure_grant number durable.history;
+      unsure = option_to_list (unsure_grant number durable.history);
     }
     halted_outcome = λ i. record {
       status = DeviceFault;
       pieces = history_lines (core_is i).cell number (after_is i) (history_is i);
       added = grants number (history_is i);
-      unsure = unsure_grant number (history_is i);
+      unsure = option_to_list (unsure_grant number (history_is i));
     }
 
     halted_at : (last : Entry) → halted_in durable.history ≡ Some last
@@ -128,7 +130,7 @@ module _ {D : Type 0} (number : ℕ) (durable : DurableState D) (kept : KeepsHis
             status = DeviceFault;
             pieces = history_lines durable.cell number (length durable.opening) durable.history;
             added = grants number durable.history;
-            unsure = option_map (grant_of number) (found i);
+            unsure = option_to_list (option_map (grant_of number) (found i));
           });
           text = ap (λ (o : Outcome). concat o.pieces) halted_outcome
               ∙ halted_text durable.cell (first_parts durable) number (length durable.opening) durable.history [] halt;
@@ -144,12 +146,13 @@ module _ {D : Type 0} (number : ℕ) (durable : DurableState D) (kept : KeepsHis
         by_found None none = absurd (true≢false (sym halt ∙ unhalted durable.history none))
         by_found (Some last) found = inr (halted_at last found)
 
-    pub halted_stands : (disk : DiskTold) → StandsForAdded disk durable.text durable.opening durable.added durable.unsure
-        → StandsForAdded disk durable.text durable.opening (grants number history) (unsure_grant number history)
+    pub halted_stands : (disk : DiskTold) → StandsForAdded disk durable.text durable.opening durable.added (option_to_list durable.unsure)
+        → StandsForAdded disk durable.text durable.opening (grants number history) (option_to_list (unsure_grant number history))
     halted_stands disk stands =
-        subst (λ (unsure : Option Grant). StandsForAdded disk durable.text durable.opening (grants number history) unsure)
+        subst (λ (unsure : Option Grant). StandsForAdded disk durable.text durable.opening (grants number history) (option_to_list unsure))
         unsure_is
-        (subst (λ (added : List Grant). StandsForAdded disk durable.text durable.opening added durable.unsure) added_is stands)
+        (subst (λ (added : List Grant). StandsForAdded disk durable.text durable.opening added (option_to_list durable.unsure))
+        added_is stands)
 
 -- a record of one kind of history is one of another
 pub recorded_so : (cell : Cell) (number : ℕ) (opening : List Grant) (W W' P P' : List Entry → Type 0)

@@ -1,4 +1,4 @@
--- Lines that are made of a first word, a second one and words behind them.
+-- Lines that are made of a first word, a second one and words after them.
 use Rattle.std.proofs.Common.{◌≡◌, ℕ, List, [], ◌∷◌, ◌++◌, sym, ap, ◌∙◌}
 use Rattle.record_text.proofs.Appending.{joined-append}
 use Rattle.record_text.specs.Lines.{line_of}

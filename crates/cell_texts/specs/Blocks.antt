@@ -37,8 +37,8 @@ unfoldable pub planned_block : Cell → ℕ → ℕ → List Entry → ℕ → L
 planned_block cell shift grants history left plan = history_lines cell shift grants history ++ left_lines cell left plan
 
 -- the number of the parts that a core holds, and their plan
-abbrev pub left_of : CoreState → Lines
-left_of core = left_lines core.cell (length core.parts) (plan_of core.cell core.parts)
+abbrev pub left_in_core : CoreState → Lines
+left_in_core core = left_lines core.cell (length core.parts) (plan_of core.cell core.parts)
 
 -- a block of the parts that a core holds, and of their plan
 abbrev pub block_of : CoreState → ℕ → ℕ → List Entry → Lines

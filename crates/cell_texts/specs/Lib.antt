@@ -1,7 +1,9 @@
+pub mod AskedSteps
 pub mod Blocks
 pub mod Clauses
 pub mod FaultNumbers
 pub mod JournalReads
+pub mod Numbers
 pub mod OneWay
 pub mod Parting
 pub mod RecordReads

@@ -1,5 +1,6 @@
 -- Bytes that are read as a record, and that they are read in one way.
-use Rattle.std.proofs.Common.{Option, Some, None, ◌≡◌, inl, inr, ℕ, ◌<◌, ◌≤◌, List, [], ◌∷◌, ◌++◌, length, Result, Ok, Err, sym, ◌∙◌, ap, subst, refl, arith, append_assoc}
+use Rattle.std.proofs.Common.{Option, Some, None, ◌≡◌, inl, inr, ℕ, ◌<◌, ◌≤◌, List, [], ◌∷◌, ◌++◌, length}
+use Rattle.std.proofs.Common.{Result, Ok, Err, sym, ◌∙◌, ap, subst, refl, arith, append_assoc}
 use Rattle.std.proofs.lemmas.List.{length-append}
 use Rattle.std.proofs.lemmas.Bool.{cases_lt}
 use Rattle.cell_base.specs.declared.cells.Cell.{Cell}
@@ -41,8 +42,8 @@ not_later : (cell : Cell) (bytes : List ℕ) (n m : ℕ) (a : IsBadLine cell byt
     → length a.before < length b.before → ⊥
 unfolding Longer
 not_later cell bytes n m a b less =
-    let so = longer a.before b.before a.line b.line a.behind b.behind (sym a.split ∙ b.split) less in
-    let some : 1 ≤ length a.behind = omega (arith, ap (λ (l : List (List ℕ)). length l) so.2, length-append so.0 (b.line ∷ b.behind)) in
+    let so = longer a.before b.before a.line b.line a.later b.later (sym a.split ∙ b.split) less in
+    let some : 1 ≤ length a.later = omega (arith, ap (λ (l : List (List ℕ)). length l) so.2, length-append so.0 (b.line ∷ b.later)) in
     a.bad some
     (front_of cell (a.before ++ a.line ∷ []) so.0
     (subst (IsFront cell) (so.1 ∙ sym (append_assoc a.before (a.line ∷ []) so.0)) b.front))

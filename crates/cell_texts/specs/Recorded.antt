@@ -1,6 +1,7 @@
 -- What was asked of a durable cell since it was opened: what is printed of it, and what is added.
 use Rattle.std.specs.Prelude.{◌≡◌, ℕ, true, false, List, [], None, Result, Ok, Err}
 use Rattle.std.specs.List.{All}
+use Rattle.std.specs.Option.{option_to_list}
 use Rattle.cell_base.specs.declared.shifts.Entry.{Entry}
 use Rattle.cell_base.specs.Fits.{RequestFits}
 use Rattle.cell_base.specs.Histories.{grants}
@@ -51,13 +52,13 @@ recorded_outcome (Whole asked) = record {
   status = Done;
   pieces = block_of asked.core asked.number asked.after asked.history;
   added = grants asked.number asked.history;
-  unsure = None;
+  unsure = [];
 }
 recorded_outcome (Halted asked) = record {
   status = DeviceFault;
   pieces = history_lines asked.core.cell asked.number asked.after asked.history;
   added = grants asked.number asked.history;
-  unsure = unsure_grant asked.number asked.history;
+  unsure = option_to_list (unsure_grant asked.number asked.history);
 }
 
 -- the same, or the early end

@@ -1,5 +1,5 @@
 -- A history that is asked after the grants of a journal: its record, and what it adds.
-use Rattle.std.specs.Prelude.{◌≡◌, ◌⊎◌, ℕ, List, [], ◌∷◌, ◌++◌, length, Some, None}
+use Rattle.std.specs.Prelude.{◌≡◌, ◌⊎◌, ℕ, List, [], ◌∷◌, ◌++◌, length}
 use Rattle.std.specs.List.{concat}
 use Rattle.cell_base.specs.declared.cells.Cell.{Cell}
 use Rattle.cell_base.specs.declared.requests.Told.TheVariants.{Halted}
@@ -31,7 +31,7 @@ pub record IsRecorded (cell : Cell) (number : ℕ) (opening : List Grant) (Goes 
         status = Done;
         pieces = planned_block cell number (length opening) history (length left) (plan_of cell left);
         added = grants number history;
-        unsure = None;
+        unsure = [];
       }
   pub text : let state = replay cell opening in concat outcome.pieces
       ≡ text_of_record cell state number (length opening) history (plan_of cell (after cell state history))
@@ -48,7 +48,7 @@ pub record IsHalted (cell : Cell) (number : ℕ) (opening : List Grant) (Goes : 
     status = DeviceFault;
     pieces = history_lines cell number (length opening) history;
     added = grants number history;
-    unsure = Some (grant_of number last);
+    unsure = grant_of number last ∷ [];
   }
   pub text : concat outcome.pieces ≡ text_of_record cell (replay cell opening) number (length opening) history []
 

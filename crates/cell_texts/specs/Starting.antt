@@ -1,5 +1,6 @@
 -- Whether the sessions of a shift start after the grants of a journal, which is so in one way.
-use Rattle.std.proofs.Common.{Some, inl, inr, ◌<◌, Result, Ok, Err, ◌≡◌, ℕ, ◌==◌, List, [], ◌∷◌, ◌++◌, length, take, All, refl, sym, ap, ◌∙◌, subst, arith, append_assoc, length-append, take-take}
+use Rattle.std.proofs.Common.{Some, inl, inr, ◌<◌, Result, Ok, Err, ◌≡◌, ℕ, ◌==◌, List, [], ◌∷◌, ◌++◌, length, take}
+use Rattle.std.proofs.Common.{All, refl, sym, ap, ◌∙◌, subst, arith, append_assoc, length-append, take-take}
 use Rattle.std.specs.Prelude.{codes, ◌&&◌}
 use Rattle.std.proofs.lemmas.List.{map-append, take_at}
 use Rattle.std.proofs.lemmas.List.Elements.{All-nil, All-cons, All-head, All-tail, filter-append}
@@ -11,7 +12,7 @@ use Rattle.cell_base.specs.declared.shifts.Shift.{Shift}
 use Rattle.cell_base.specs.Histories.{requests_of}
 use Rattle.cell_base.specs.Rounds.{IsSession}
 use Rattle.cell_base.specs.Scripts.{granted_to, script_of}
-use Rattle.cell_base.specs.Starts.{AreStarted, IsOtherShift}
+use Rattle.cell_base.specs.Starts.{AreFirstSteps, IsOtherShift}
 use Rattle.cell_texts.specs.Parting.{Longer, longer, same_place}
 use Rattle.cell_walks.specs.Observed.{Known}
 use Rattle.cell_walks.specs.Walks.{Test}
@@ -36,7 +37,7 @@ first_steps front rest script is =
     sym (take_at front rest (length front) refl) ∙ ap (take (length front)) is
     ∙ take-take (length front) (length (front ++ rest)) script (omega (arith, length-append front rest))
 
-started_front : (shift : Shift) (front rest : List Grant) → AreStarted shift (front ++ rest) → AreStarted shift front
+started_front : (shift : Shift) (front rest : List Grant) → AreFirstSteps shift (front ++ rest) → AreFirstSteps shift front
 started_front shift front rest started = record {
   each = λ session is.
       let parted = granted_after shift.number session front rest in
@@ -47,19 +48,19 @@ started_front shift front rest started = record {
 
 -- after grants of which one is another shift's they don't start
 pub other_not_started : (shift : Shift) (opening : List Grant) (session : ℕ) → IsOtherShift shift opening session
-    → AreStarted shift opening → ⊥
+    → AreFirstSteps shift opening → ⊥
 other_not_started shift opening session other started =
-    other.strays (started_front shift (other.before ++ other.stray ∷ []) other.behind
-    (subst (AreStarted shift) (other.parted ∙ sym (append_assoc other.before (other.stray ∷ []) other.behind)) started))
+    other.strays (started_front shift (other.before ++ other.stray ∷ []) other.later
+    (subst (AreFirstSteps shift) (other.parted ∙ sym (append_assoc other.before (other.stray ∷ []) other.later)) started))
 
 -- a grant of a session of another shift comes first in one way
 not_before : (shift : Shift) (opening : List Grant) (one two : ℕ) (a : IsOtherShift shift opening one) (b : IsOtherShift shift opening two)
     → length a.before < length b.before → ⊥
 unfolding Longer
 not_before shift opening one two a b less =
-    let so = longer a.before b.before a.stray b.stray a.behind b.behind (sym a.parted ∙ b.parted) less in
+    let so = longer a.before b.before a.stray b.stray a.later b.later (sym a.parted ∙ b.parted) less in
     a.strays (started_front shift (a.before ++ a.stray ∷ []) so.0
-    (subst (AreStarted shift) (so.1 ∙ sym (append_assoc a.before (a.stray ∷ []) so.0)) b.started))
+    (subst (AreFirstSteps shift) (so.1 ∙ sym (append_assoc a.before (a.stray ∷ []) so.0)) b.started))
 
 one_session : (shift : Shift) (opening : List Grant) (one two : ℕ) → IsOtherShift shift opening one → IsOtherShift shift opening two
     → one ≡ two
@@ -69,7 +70,7 @@ one_session shift opening one two a b = elim (cases_lt (length a.before) (length
     | inl less ↦ absurd (not_before shift opening two one b a less)
     | inr least ↦
         let stray : a.stray ≡ b.stray =
-        same_place a.before b.before a.stray b.stray a.behind b.behind (sym a.parted ∙ b.parted) (omega (arith, most, least)) in
+        same_place a.before b.before a.stray b.stray a.later b.later (sym a.parted ∙ b.parted) (omega (arith, most, least)) in
         a.session_is ∙ ap (λ (grant : Grant). grant.session) stray ∙ sym b.session_is
   ]
 ]
@@ -79,25 +80,26 @@ abbrev pub other_shift : ℕ → List ℕ
 other_shift session = refusal_text (codes "journal") (other_shift_finding session)
 
 -- the sessions start after the grants, or one of these is another shift's
-abbrev pub start_reads : Shift → List Grant → List ℕ → Result ⊤ ℕ → Type 0
-start_reads shift opening bytes (Ok at) = AreStarted shift opening
-start_reads shift opening bytes (Err session) = IsOtherShift shift opening session
+abbrev pub sessions_start : Shift → List Grant → List ℕ → Result ⊤ ℕ → Type 0
+sessions_start shift opening bytes (Ok at) = AreFirstSteps shift opening
+sessions_start shift opening bytes (Err session) = IsOtherShift shift opening session
 
-pub start_once : (shift : Shift) (opening : List Grant) (bytes : List ℕ) (first second : Result ⊤ ℕ) → start_reads shift opening bytes first
-    → start_reads shift opening bytes second → first ≡ second
+pub start_once : (shift : Shift) (opening : List Grant) (bytes : List ℕ) (first second : Result ⊤ ℕ)
+    → sessions_start shift opening bytes first
+    → sessions_start shift opening bytes second → first ≡ second
 start_once shift opening bytes (Ok a) (Ok b) one other = refl
 start_once shift opening bytes (Ok a) (Err b) one other = absurd (other_not_started shift opening b other one)
 start_once shift opening bytes (Err a) (Ok b) one other = absurd (other_not_started shift opening a one other)
 start_once shift opening bytes (Err a) (Err b) one other = ap Err (one_session shift opening a b one other)
 
 -- the start of the sessions, status 6
-abbrev pub start : Shift → List Grant → Test
-start shift opening = record {
+abbrev pub start_test : Shift → List Grant → Test
+start_test shift opening = record {
   Value = ⊤;
   Fault = ℕ;
   source = Known;
   subject = Journal;
-  reads = start_reads shift opening;
+  reads = sessions_start shift opening;
   one_way = start_once shift opening;
   line = λ session. Some (other_shift session);
 }

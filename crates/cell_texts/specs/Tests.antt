@@ -18,7 +18,7 @@ use Rattle.cell_walks.specs.Observed.{File, Word}
 use Rattle.cell_walks.specs.Walks.{Journal, Test, ToAdd, ToRead}
 use Rattle.cell_walks.specs.declared.early_end.Subject.TheVariants.{Cell as OfCell, Input}
 use Rattle.cell_texts.specs.FaultNumbers.{cell_finding, journal_finding, shift_finding}
-use Rattle.cell_texts.specs.Texts.{refusal_text, step_text}
+use Rattle.cell_texts.specs.Texts.{refusal_text, step_refused}
 use Rattle.cell_texts.specs.declared.readers.CellFile.{CellFile}
 use Rattle.cell_texts.specs.OneWay.{reads_by, once}
 use Rattle.cell_texts.specs.RecordReads.{record_line, record_once, record_reads}
@@ -91,7 +91,7 @@ record_file cell name = record {
 
 -- and of a word that is no step
 abbrev pub step_fault_line : StepFault → Option (List ℕ)
-step_fault_line fault = Some step_text
+step_fault_line fault = Some step_refused
 
 -- a word that is a step of the cell, status 5
 abbrev pub step : Cell → List ℕ → Test

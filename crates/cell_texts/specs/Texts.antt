@@ -7,7 +7,8 @@ use Rattle.cell_base.specs.declared.requests.JobId.{JobId}
 use Rattle.cell_base.specs.declared.places.Section.{Section}
 use Rattle.cell_base.specs.declared.places.Section.TheVariants.{Top, OfResource, OfJobType, OfSession}
 use Rattle.cell_base.specs.declared.places.Field.{Field}
-use Rattle.cell_base.specs.declared.places.Field.TheVariants.{Whole, Version, Resources, JobTypes, Name, Capacity, Order, Route, Next, Number, Patience, Sessions, Steps, Job, Kind, Path, Machine, Turns}
+use Rattle.cell_base.specs.declared.places.Field.TheVariants.{Whole, Version, Resources, JobTypes, Name, Capacity, Order, Route, Next}
+use Rattle.cell_base.specs.declared.places.Field.TheVariants.{Number, Patience, Sessions, Steps, Job, Kind, Path, Machine, Turns}
 use Rattle.record_text.specs.Lines.{line_of}
 use Rattle.shift_checker.specs.declared.verdict.Verdict.{Verdict}
 use Rattle.shift_checker.specs.declared.verdict.Verdict.TheVariants.{Yes, No}
@@ -80,8 +81,8 @@ abbrev pub bad_line_text : ℕ → List ℕ
 bad_line_text line = line_of (codes "record" ∷ codes "refused" ∷ decimal line ∷ [])
 
 -- the line of a word that is no step
-abbrev pub step_text : List ℕ
-step_text = codes "step refused" ++ 10 ∷ []
+abbrev pub step_refused : List ℕ
+step_refused = codes "step refused" ++ 10 ∷ []
 
 -- ---- verdicts
 

@@ -1,6 +1,7 @@
 //! What a refusal tells: a number for the fault, and its place and its count where it has them.
 ghost use Rattle.std.specs.Prelude.{◌≡◌};
-ghost use Rattle.cell_texts.specs.FaultNumbers.{at, cell_finding, counted, counted_at, journal_finding, other_shift_finding, plain, shift_finding};
+ghost use Rattle.cell_texts.specs.FaultNumbers.{at, cell_finding, counted, counted_at, journal_finding};
+ghost use Rattle.cell_texts.specs.FaultNumbers.{other_shift_finding, plain, shift_finding};
 
 use cell_base::Place;
 use cell_file::CellFault;

@@ -29,5 +29,5 @@ pub use readers::{
     AfterGrants, CellFile, CommandEnd, Found, Made, find_grants, read_cell, read_journal,
     read_record, read_shift,
 };
-pub use recorded::{Asked, Closed, Recorded, print_recorded, record_of};
+pub use recorded::{Asked, Closed, Recorded, give_back, print_recorded, record_of};
 pub use refusals::{at_journal_fault, at_other_shift, at_step_fault};

@@ -2,7 +2,8 @@
 ghost use Rattle.std.specs.Prelude.{◌≡◌, ◌+◌, ◌≤◌, ◌++◌, [], length, IfSome};
 ghost use Rattle.std.specs.Option.{option_map, option_map_or};
 ghost use Rattle.record_text.specs.Spaced.{spaced};
-ghost use Rattle.cell_texts.specs.Texts.{bad_line_text, field_word, field_words, finding_words, item_words, job_line, number_words, place_words, refusal_text, section_word, step_text, verdict_text, why_word};
+ghost use Rattle.cell_texts.specs.Texts.{bad_line_text, field_word, field_words, finding_words, item_words, job_line, number_words};
+ghost use Rattle.cell_texts.specs.Texts.{place_words, refusal_text, section_word, step_refused, verdict_text, why_word};
 ghost use Rattle.shift_checker.specs.declared.verdict.Verdict.TheVariants.{No};
 
 use crate::findings::Finding;
@@ -42,7 +43,7 @@ pub fn bad_line(number: u32) -> Line
 
 /// The line of a word that is no step.
 pub fn step_line() -> Line
-    ensures { result ≡ step_text }
+    ensures { result ≡ step_refused }
 {
     Line::of_word(b"step refused").end()
 }

@@ -1,7 +1,7 @@
 //! A journal that is opened to be added to.
 ghost use Rattle.std.specs.Prelude.{◌≡◌, ◌≤◌, length, Ok, IfOk, IfErr, IfSome};
 ghost use Rattle.durable_cell.specs.Openings.{fresh};
-ghost use Rattle.durable_cell.specs.Replayed.{opened_as};
+ghost use Rattle.shift_recovery.specs.Replayed.{opened_as};
 ghost use Rattle.durable_cell.specs.declared.replays.TheConstants.{MAX_ROOM};
 ghost use Rattle.cell_walks.specs.Clauses.{IsNotOpened, disk_told};
 ghost use Rattle.cell_texts.specs.Clauses.{CellFits, MAX_CELL_BYTES, known, to_add};

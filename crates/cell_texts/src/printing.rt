@@ -1,14 +1,12 @@
 //! Lines on their way to the sink, each one `put`.
 ghost use Rattle.std.specs.Prelude.{◌≡◌, [], ◌∷◌, map, OnOk, OnErr};
 ghost use Rattle.std.specs.List.{All, concat};
-ghost use Rattle.outside_io.specs.Causes.{HasCause};
-ghost use Rattle.outside_io.specs.Puts.{TookAll, TookSome, sink_told};
 ghost use Rattle.cell_base.specs.Plans.{plan_of};
 ghost use Rattle.refusal_reason.specs.Shown.{IsLine};
 ghost use Rattle.record_text.specs.Fitting.{EntryFits};
-ghost use Rattle.cell_walks.specs.Clauses.{IsDelivered, printed};
+ghost use Rattle.cell_walks.specs.Clauses.{HasCause, IsDelivered, TookAll, TookSome, printed, sink_told};
 ghost use Rattle.cell_walks.specs.declared.status.Status.TheVariants.{NoCommand};
-ghost use Rattle.cell_texts.specs.Blocks.{Lines, block_of, entry_line, left_of, step_line, history_lines, plan_lines};
+ghost use Rattle.cell_texts.specs.Blocks.{Lines, block_of, entry_line, left_in_core, step_line, history_lines, plan_lines};
 
 use admission_core::Core;
 use cell_base::{Cell, Entry};
@@ -123,8 +121,8 @@ pub fn print_block<K: Sink>(
 /// Puts how many parts are left in a core, and the plan that empties it, up to the first line that the sink doesn't take. It takes no
 /// memory.
 pub fn print_left<K: Sink>(out: &mut K, core: Core) -> Result<(), Failed>
-    ensures whole { OnOk result (TookAll (sink_told K.taken K.was_put K.faults out.old out.new) (left_of core)) }
-    ensures part { OnErr result (TookSome (sink_told K.taken K.was_put K.faults out.old out.new) (left_of core)) }
+    ensures whole { OnOk result (TookAll (sink_told K.taken K.was_put K.faults out.old out.new) (left_in_core core)) }
+    ensures part { OnErr result (TookSome (sink_told K.taken K.was_put K.faults out.old out.new) (left_in_core core)) }
     ensures cause { HasCause (K.faults out.old) (K.faults out.new) result }
 {
     if let Err(failed) = print_line(out, &left_line(core.parts_left())) {

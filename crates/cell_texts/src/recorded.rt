@@ -1,13 +1,15 @@
 //! What was asked of a durable cell since it was opened, and its record: a drain and a run end alike.
-ghost use Rattle.std.specs.Prelude.{◌≡◌, IfOk};
+ghost use Rattle.std.specs.Prelude.{◌≡◌, [], Err, IfOk};
 ghost use Rattle.cell_base.specs.Scripts.{holds_halt};
-ghost use Rattle.durable_cell.specs.Replayed.{AreDue};
+ghost use Rattle.shift_recovery.specs.Replayed.{AreDue};
 ghost use Rattle.cell_walks.specs.Allowed.{StandsForAdded};
 ghost use Rattle.cell_walks.specs.Clauses.{IsDelivered, disk_told, sink_told};
-ghost use Rattle.cell_texts.specs.Clauses.{EntriesFit, IsAskedUnder, IsHaltedIn, IsRecordedOrHalted, IsUnhaltedIn, recorded_or_early, recorded_outcome};
+ghost use Rattle.cell_texts.specs.Clauses.{EntriesFit, IsAskedUnder, IsFresh, IsHaltedIn, IsRecordedOrHalted};
+ghost use Rattle.cell_texts.specs.Clauses.{IsUnhaltedIn, recorded_or_early, recorded_outcome};
 ghost use Rattle.cell_texts.specs.declared.recorded.Recorded.TheVariants.{Whole, Halted};
 
 use crate::printing::{print_block, print_history};
+use crate::readers::Made;
 use admission_core::Core;
 use cell_base::{Entry, List, Told};
 use cell_walks::{EarlyEnd, Status, finish_early};
@@ -71,6 +73,25 @@ pub fn record_of<D: Disk>(durable: Durable<D>, number: u32) -> Closed<D>
     }
     Closed {
         recorded: Recorded::Whole(asked),
+        disk,
+    }
+}
+
+/// Gives the disk of a durable cell back of which nothing was asked, with the end of the command in the place of a record.
+pub fn give_back<D: Disk>(durable: Durable<D>, end: EarlyEnd) -> Made<Recorded, D>
+    requires fresh { IsFresh durable }
+    ensures made { result.made ≡ Err end }
+    ensures stands { StandsForAdded (disk_told D.reads_as D.may_leave D.moment D.left_since D.faults durable.entry result.disk)
+        durable.text durable.opening [] [] }
+{
+    let Finished {
+        disk,
+        core: _,
+        history: _,
+        after: _,
+    } = durable.finish();
+    Made {
+        made: Err(end),
         disk,
     }
 }

@@ -1,17 +1,18 @@
 -- What an outcome that a walk allows leaves of the disk.
 use Rattle.std.specs.Prelude.{IfSome, IsSomeAnd}
 use Rattle.std.proofs.Common.{◌≡◌, ◌⊎◌, inl, inr, ℕ, List, ◌++◌, Ok, Err, ap, subst, ◌∙◌, refl}
-use Rattle.std.specs.Option.{option_to_list}
 use Rattle.cell_base.specs.declared.cells.Cell.{Cell}
 use Rattle.cell_base.specs.declared.shifts.Grant.{Grant}
-use Rattle.durable_cell.specs.Replayed.{opened_as}
+use Rattle.shift_recovery.specs.Replayed.{opened_as}
 use Rattle.move_journal.specs.Blanks.{IsBlank}
 use Rattle.shift_recovery.specs.declared.faults.JournalFault.{JournalFault}
-use Rattle.cell_walks.specs.Allowed.{AllowsFrom, IsAllowed, IsLeft, IsOpenedAs, IsUnopened, Reached, reached_by, Stopped, Passed, NotOpened, OpeningFailed, OpeningRefused, OpeningStarved, JournalOpened}
+use Rattle.cell_walks.specs.Allowed.{AllowsFrom, IsAllowed, IsLeft, IsOpenedAs, IsUnopened, Reached, reached_by, Stopped}
+use Rattle.cell_walks.specs.Allowed.{Passed, NotOpened, OpeningFailed, OpeningRefused, OpeningStarved, JournalOpened}
 use Rattle.cell_walks.specs.DiskTold.{IsOnlyRead, StoodFor}
 use Rattle.cell_walks.specs.Observed.{Observed}
 use Rattle.cell_walks.specs.Outcomes.{Outcome, early}
-use Rattle.cell_walks.specs.Promises.{HoldsRefused, ReachesJournal, AnswersFrom, AnswersNow, OpensLast, KeepsGrants, OnlyReads, OpensNone, OpensOnce, StandsWith}
+use Rattle.cell_walks.specs.Promises.{HoldsRefused, ReachesJournal, AnswersFrom, AnswersNow, OpensLast}
+use Rattle.cell_walks.specs.Promises.{KeepsGrants, OnlyReads, OpensNone, OpensOnce, StandsWith}
 use Rattle.cell_walks.specs.Walks.{Journal, Purpose, ToRead, ToAdd, Walk, Tests, Opens, Answers}
 use Rattle.cell_walks.specs.declared.early_end.EarlyEnd.TheVariants.{DeviceFailed}
 use Rattle.cell_walks.proofs.Laws.{one_of, opened_one}
@@ -145,7 +146,7 @@ module _ (seen : Observed) (outcome : Outcome) where
 
   module _ (now : IfSome seen.disk.reads seen.disk.leaves) where
     abbrev since : List Grant
-    since = outcome.added ++ option_to_list outcome.unsure
+    since = outcome.added ++ outcome.unsure
 
     read_keeps : IsOnlyRead seen.disk → (walk : Walk) → KeepsGrants seen outcome walk
     read_keeps only (Tests test next) = λ value tells. read_keeps only (next value)

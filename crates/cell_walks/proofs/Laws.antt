@@ -2,12 +2,14 @@
 use Rattle.std.specs.Prelude.{IfSome, IsSomeAnd}
 use Rattle.std.proofs.Common.{Some, ◌≡◌, ◌⊎◌, inl, inr, ℕ, List, Result, Ok, Err, sym, ap, subst, ◌∙◌, refl}
 use Rattle.cell_base.specs.declared.shifts.Grant.{Grant}
-use Rattle.durable_cell.specs.Replayed.{opened_as}
+use Rattle.shift_recovery.specs.Replayed.{opened_as}
 use Rattle.shift_recovery.specs.declared.faults.JournalFault.{JournalFault}
-use Rattle.cell_walks.specs.Allowed.{AllowsFrom, IsOpenedAs, Reached, reached_by, IsUnread, ByFault, ByMemory, ByRefusal, Stopped, Passed, NotOpened, OpeningFailed, OpeningRefused, OpeningStarved, JournalOpened}
+use Rattle.cell_walks.specs.Allowed.{AllowsFrom, IsOpenedAs, Reached, reached_by, IsUnread, ByFault, ByMemory, ByRefusal, Stopped}
+use Rattle.cell_walks.specs.Allowed.{Passed, NotOpened, OpeningFailed, OpeningRefused, OpeningStarved, JournalOpened}
 use Rattle.cell_walks.specs.Observed.{Observed, Shows, Tells, certain}
 use Rattle.cell_walks.specs.Outcomes.{Outcome, early}
-use Rattle.cell_walks.specs.Promises.{Accepts, AnswersFrom, IsRefused, Refuses, UnlessOutside, ReadFailed, DiskFailed, MemoryFailed, Decided}
+use Rattle.cell_walks.specs.Promises.{Accepts, AnswersFrom, IsRefused, Refuses, UnlessOutside}
+use Rattle.cell_walks.specs.Promises.{ReadFailed, DiskFailed, MemoryFailed, Decided}
 use Rattle.cell_walks.specs.Walks.{refusal_by, refusal_of, Journal, Test, Walk, Tests, Opens, Answers}
 use Rattle.cell_walks.specs.declared.early_end.EarlyEnd.{EarlyEnd}
 use Rattle.cell_walks.specs.declared.early_end.EarlyEnd.TheVariants.{Refused}

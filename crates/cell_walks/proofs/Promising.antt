@@ -8,7 +8,9 @@ use Rattle.outside_io.specs.PutLaws.{some_is_prefix}
 use Rattle.cell_walks.specs.Allowed.{Unasked}
 use Rattle.cell_walks.specs.Observed.{Observed, certain, shown}
 use Rattle.cell_walks.specs.Outcomes.{Cut, Outcome, Whole, early}
-use Rattle.cell_walks.specs.Promises.{Accepts, AreThere, DiskServes, Ends, HasAnswered, HasFailedReading, IsAnswered, IsCut, IsEndedBy, IsRefused, OpensNone, Promises, ReadsAll, Refuses, TakesAll, UnlessOutside, ReadFailed, DiskFailed, MemoryFailed, Decided}
+use Rattle.cell_walks.specs.Promises.{Accepts, AreThere, DiskServes, Ends, HasAnswered, HasFailedReading, IsAnswered}
+use Rattle.cell_walks.specs.Promises.{IsCut, IsEndedBy, IsRefused, OpensNone, Promises, ReadsAll, Refuses, TakesAll}
+use Rattle.cell_walks.specs.Promises.{UnlessOutside, ReadFailed, DiskFailed, MemoryFailed, Decided}
 use Rattle.cell_walks.specs.Statuses.{IsTaken, early_line, early_status, subject_status}
 use Rattle.cell_walks.specs.Walks.{Walk}
 use Rattle.cell_walks.specs.declared.early_end.EarlyEnd.{EarlyEnd}
@@ -17,7 +19,9 @@ use Rattle.cell_walks.specs.declared.early_end.Refusal.{Refusal}
 use Rattle.cell_walks.specs.declared.early_end.Subject.{Subject}
 use Rattle.cell_walks.specs.declared.early_end.Subject.TheVariants.{Words, Cell, Input, Journal, Command}
 use Rattle.cell_walks.specs.declared.status.Status.{Status}
-use Rattle.cell_walks.specs.declared.status.Status.TheVariants.{Done, Denied, NoCommand, ReadFault, CellRefused, InputRefused, JournalRefused, DeviceFault, SinkFault, NoMemory, CommandRefused}
+use Rattle.cell_walks.specs.declared.status.Status.TheVariants.{Done, Denied, NoCommand, ReadFault, CellRefused}
+use Rattle.cell_walks.specs.declared.status.Status.TheVariants.{InputRefused, JournalRefused, DeviceFault}
+use Rattle.cell_walks.specs.declared.status.Status.TheVariants.{SinkFault, NoMemory, CommandRefused}
 use Rattle.cell_walks.proofs.DiskLaws.{disk_so, early_so, keeps_so, left_so, read_so, refused_reads}
 use Rattle.cell_walks.proofs.Laws.{accepted_answers, caused, refused_so}
 use Rattle.cell_walks.proofs.Walked.{read_untouched}

@@ -5,8 +5,8 @@ use Rattle.std.proofs.lemmas.List.Elements.{All-nil}
 use Rattle.cell_base.specs.Fits.{RequestFits}
 use Rattle.cell_base.specs.declared.cells.Cell.{Cell}
 use Rattle.cell_base.specs.declared.shifts.Grant.{Grant}
-use Rattle.durable_cell.specs.Replayed.{AreDue, opened_as, replayed_reading}
-use Rattle.durable_cell.proofs.Replaying.{due_replayed}
+use Rattle.shift_recovery.specs.Replayed.{AreDue, opened_as, replayed_reading}
+use Rattle.shift_recovery.proofs.Replaying.{due_replayed}
 use Rattle.move_journal.specs.Blanks.{IsBlank}
 use Rattle.move_journal.specs.Journals.{StandsFor}
 use Rattle.move_journal.proofs.Uniqueness.{journal_of, one_journal}

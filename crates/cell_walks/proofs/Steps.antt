@@ -4,7 +4,8 @@ use Rattle.std.proofs.Common.{◌≡◌, ℕ, List, Option, Some, None, Err, ref
 use Rattle.cell_base.specs.declared.shifts.Grant.{Grant}
 use Rattle.outside_io.specs.Causes.{Rose}
 use Rattle.outside_io.specs.Files.{IsThere, Names}
-use Rattle.cell_walks.specs.Allowed.{AllowsFrom, ByFault, ByMemory, ByRefusal, IsAllowed, IsEndedAt, IsLeft, IsNotOpened, IsUnread, NotOpened, Passed, Reached, Stopped}
+use Rattle.cell_walks.specs.Allowed.{AllowsFrom, ByFault, ByMemory, ByRefusal, IsAllowed, IsEndedAt, IsLeft}
+use Rattle.cell_walks.specs.Allowed.{IsNotOpened, IsUnread, NotOpened, Passed, Reached, Stopped}
 use Rattle.cell_walks.specs.DiskTold.{DiskTold, IsUntouched, no_disk}
 use Rattle.cell_walks.specs.Observed.{FilesTold, Known, Observed, Shows, Source, Word, File, files_told, observed}
 use Rattle.cell_walks.specs.Outcomes.{Outcome, early}

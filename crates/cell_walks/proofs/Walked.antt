@@ -1,13 +1,12 @@
 -- What is observed in one place, and what an outcome leaves of a disk.
 use Rattle.std.specs.Prelude.{IfSome, IsSomeAnd}
-use Rattle.std.specs.Option.{option_to_list}
-use Rattle.std.proofs.Common.{◌≡◌, ◌⊎◌, inl, inr, ℕ, List, [], ◌∷◌, ◌++◌, length, Option, Some, None, sym, subst, arith, append_assoc, append-nil}
+use Rattle.std.proofs.Common.{◌≡◌, ◌⊎◌, inl, inr, ℕ, List, [], ◌++◌, length, Option}
+use Rattle.std.proofs.Common.{Some, None, sym, subst, arith, append_assoc, append-nil}
 use Rattle.std.proofs.Math.Seq.{take-append_seam}
 use Rattle.std.proofs.lemmas.List.{take_all}
 use Rattle.outside_io.specs.Causes.{Rose}
 use Rattle.cell_base.specs.declared.shifts.Grant.{Grant}
-use Rattle.durable_cell.specs.Kept.{StandsForFirst}
-use Rattle.move_journal.specs.Journals.{StandsFor}
+use Rattle.move_journal.specs.Journals.{StandsForPrefix, StandsFor}
 use Rattle.cell_walks.specs.Allowed.{IsUnread, StandsForAdded}
 use Rattle.cell_walks.specs.DiskTold.{DiskTold, IsAlways, IsNow, IsOnlyRead, IsUntouched, StillStandsFor, StoodFor}
 use Rattle.cell_walks.specs.Observed.{FilesTold, Source, Word, File, Known, IsThereAt, Shows, Tells}
@@ -73,10 +72,10 @@ always_weaker disk P Q weaker is = by_told disk.reads is
     by_told (Some file) is = λ left at. weaker left (is left at)
 
 module _ (disk : DiskTold) (text : List ℕ) (grants : List Grant) (stood : StoodFor disk text grants) where
-  none_of : (since : List Grant) (file : List ℕ) → StandsFor file text grants → StandsForFirst text grants since file
+  none_of : (since : List Grant) (file : List ℕ) → StandsFor file text grants → StandsForPrefix text grants since file
   none_of since file stands = (0, subst (StandsFor file text) (sym (append-nil grants)) stands)
 
-  all_of : (since : List Grant) (file : List ℕ) → StandsFor file text (grants ++ since) → StandsForFirst text grants since file
+  all_of : (since : List Grant) (file : List ℕ) → StandsFor file text (grants ++ since) → StandsForPrefix text grants since file
   all_of since file stands = (
     length since,
     subst (λ (gs : List Grant). StandsFor file text (grants ++ gs)) (sym (take_all (length since) since (omega arith)))
@@ -86,39 +85,38 @@ module _ (disk : DiskTold) (text : List ℕ) (grants : List Grant) (stood : Stoo
   -- what stands for them still stands for them and a prefix of any others
   pub still_with : (since : List Grant) → StillStandsFor disk text grants → StandsWith disk text grants since
   still_with since is = (
-    now_weaker disk (λ file. StandsFor file text grants) (StandsForFirst text grants since) (none_of since) is.0,
-    always_weaker disk (λ file. StandsFor file text grants) (StandsForFirst text grants since) (none_of since) is.1,
+    now_weaker disk (λ file. StandsFor file text grants) (StandsForPrefix text grants since) (none_of since) is.0,
+    always_weaker disk (λ file. StandsFor file text grants) (StandsForPrefix text grants since) (none_of since) is.1,
   )
 
   module _ (added : List Grant) where
-    first_of : (more : List Grant) (file : List ℕ) → StandsFor file text (grants ++ added) → StandsForFirst text grants (added ++ more) file
+    first_of : (more : List Grant) (file : List ℕ) → StandsFor file text (grants ++ added)
+        → StandsForPrefix text grants (added ++ more) file
     first_of more file stands = (
       length added,
       subst (λ (gs : List Grant). StandsFor file text (grants ++ gs)) (sym (take-append_seam added more)) stands,
     )
 
-    unsure_of : (unsure : Option Grant) (file : List ℕ)
-        → StandsFor file text (grants ++ added) ⊎ IsSomeAnd unsure (λ last. StandsFor file text (grants ++ added ++ last ∷ []))
-        → StandsForFirst text grants (added ++ option_to_list unsure) file
-    unsure_of unsure file (inl stands) = first_of (option_to_list unsure) file stands
-    unsure_of None file (inr stands) = absurd stands
-    unsure_of (Some last) file (inr stands) =
-        all_of (added ++ last ∷ []) file (subst (StandsFor file text) (append_assoc grants added (last ∷ [])) stands)
+    unsure_of : (unsure : List Grant) (file : List ℕ)
+        → StandsFor file text (grants ++ added) ⊎ StandsFor file text (grants ++ added ++ unsure)
+        → StandsForPrefix text grants (added ++ unsure) file
+    unsure_of unsure file (inl stands) = first_of unsure file stands
+    unsure_of unsure file (inr stands) =
+        all_of (added ++ unsure) file (subst (StandsFor file text) (append_assoc grants added unsure) stands)
 
-    entry_or : (since : List Grant) (file : List ℕ) → disk.leaves file ⊎ StandsForFirst text grants since file
-        → StandsForFirst text grants since file
+    entry_or : (since : List Grant) (file : List ℕ) → disk.leaves file ⊎ StandsForPrefix text grants since file
+        → StandsForPrefix text grants since file
     entry_or since file (inl left) = none_of since file (stood.1 file left)
     entry_or since file (inr first) = first
 
     -- and so does what stands for them and those that were added
-    pub added_with : (unsure : Option Grant) → StandsForAdded disk text grants added unsure
-        → StandsWith disk text grants (added ++ option_to_list unsure)
+    pub added_with : (unsure : List Grant) → StandsForAdded disk text grants added unsure
+        → StandsWith disk text grants (added ++ unsure)
     added_with unsure is =
-        let since : List Grant = added ++ option_to_list unsure in (
+        let since : List Grant = added ++ unsure in (
           now_weaker disk
-              (λ file. StandsFor file text (grants ++ added)
-              ⊎ IsSomeAnd unsure (λ last. StandsFor file text (grants ++ added ++ last ∷ [])))
-              (StandsForFirst text grants since) (unsure_of unsure) is.now,
-          always_weaker disk (λ file. disk.leaves file ⊎ StandsForFirst text grants since file) (StandsForFirst text grants since)
+              (λ file. StandsFor file text (grants ++ added) ⊎ StandsFor file text (grants ++ added ++ unsure))
+              (StandsForPrefix text grants since) (unsure_of unsure) is.now,
+          always_weaker disk (λ file. disk.leaves file ⊎ StandsForPrefix text grants since file) (StandsForPrefix text grants since)
               (entry_or since) is.any_moment,
         )

@@ -1,11 +1,10 @@
 -- Which outcomes a walk allows, by what is observed.
-use Rattle.std.specs.Prelude.{◌≡◌, ◌⊎◌, ℕ, List, [], ◌∷◌, ◌++◌, Option, Some, IfSome, IsSomeAnd, Ok, Err}
-use Rattle.std.specs.Option.{option_to_list}
+use Rattle.std.specs.Prelude.{◌≡◌, ◌⊎◌, ℕ, List, [], ◌∷◌, ◌++◌, Some, IfSome, Ok, Err}
+use Rattle.std.specs.List.{All}
 use Rattle.outside_io.specs.Causes.{Rose}
 use Rattle.cell_base.specs.declared.shifts.Grant.{Grant}
-use Rattle.durable_cell.specs.Kept.{StandsForFirst}
-use Rattle.durable_cell.specs.Replayed.{AreDue, opened_as}
-use Rattle.move_journal.specs.Journals.{StandsFor}
+use Rattle.move_journal.specs.Journals.{StandsForPrefix, StandsFor}
+use Rattle.shift_recovery.specs.Replayed.{AreDue, opened_as}
 use Rattle.shift_recovery.specs.declared.faults.JournalFault.{JournalFault}
 use Rattle.cell_walks.specs.DiskTold.{DiskTold, IsAlways, IsNow, IsOnlyRead, IsUntouched, AddsNothing}
 use Rattle.outside_io.specs.Files.{IsThere}
@@ -17,14 +16,13 @@ use Rattle.cell_walks.specs.declared.early_end.EarlyEnd.TheVariants.{NotRead, De
 
 -- ---- the disk
 
--- The disk stands for the opening grants and those that were added, without the one whose writing failed or with it, and so does each file
--- that a crash now leaves; a crash since entry left what one at entry might have left, or the opening grants and a prefix of the others;
--- and a writing failed only where the disk did.
-pub record StandsForAdded (disk : DiskTold) (text : List ℕ) (opening added : List Grant) (unsure : Option Grant) : Type 0 where
-  pub now : IsNow disk (λ file. StandsFor file text (opening ++ added)
-      ⊎ IsSomeAnd unsure (λ last. StandsFor file text (opening ++ added ++ last ∷ [])))
-  pub any_moment : IsAlways disk (λ file. disk.leaves file ⊎ StandsForFirst text opening (added ++ option_to_list unsure) file)
-  pub cause : IfSome unsure (λ last. Rose disk.faults disk.faults_after)
+-- The disk stands for the opening grants and those that were added, with none or with all of those whose writing failed, and so does each
+-- file that a crash now leaves; a crash since entry left what one at entry might have left, or the opening grants and a prefix of the
+-- others; and a writing failed only where the disk did.
+pub record StandsForAdded (disk : DiskTold) (text : List ℕ) (opening added unsure : List Grant) : Type 0 where
+  pub now : IsNow disk (λ file. StandsFor file text (opening ++ added) ⊎ StandsFor file text (opening ++ added ++ unsure))
+  pub any_moment : IsAlways disk (λ file. disk.leaves file ⊎ StandsForPrefix text opening (added ++ unsure) file)
+  pub cause : All (λ grant. Rose disk.faults disk.faults_after) unsure
 
 -- how far a command has come with its disk: it was not asked, it is only read, or it stands for the grants that were found on it
 pub data Reached : Type 0 where
@@ -109,5 +107,6 @@ AllowsFrom seen outcome reached (Opens journal next) =
     (λ grants. AllowsFrom seen outcome (reached_by journal.purpose journal.text grants) (next grants))
 AllowsFrom seen outcome reached (Answers allows) = allows seen.input outcome × IsLeft reached seen.disk outcome
 
+-- the outcome is one that the walk allows
 abbrev pub IsAllowed : Observed → Walk → Outcome → Type 0
 IsAllowed seen walk outcome = AllowsFrom seen outcome Unasked walk

@@ -1,6 +1,7 @@
 -- What is observed of the outside in one call of the program.
 use Rattle.std.specs.Prelude.{ℕ, List, [], Option, Some, IfSome, IsSomeAnd, ⊤}
 use Rattle.outside_io.specs.Files.{Names, IsThere}
+use Rattle.outside_io.specs.Source.{SourceTold}
 use Rattle.cell_walks.specs.DiskTold.{DiskTold}
 
 -- what each name holds, whether the files are sound, and their counts of faults before and after
@@ -15,23 +16,21 @@ abbrev pub files_told : {F : Type 0} → (F → Option Names) → (F → Type 0)
 files_told holds is_sound faults old new =
     record { names = holds old; is_sound = is_sound old; faults = faults old; faults_after = faults new }
 
--- what a command reads line by line while it answers: its lines, where they are told, and the counts of faults
-pub record InputTold : Type 0 where
-  pub lines : Option (List (List ℕ))
-  pub faults : ℕ
-  pub faults_after : ℕ
-
 pub record Observed : Type 1 where
   pub files : FilesTold
-  pub input : InputTold
+  pub input : SourceTold
   pub disk : DiskTold
 
--- a command that reads no input
-abbrev pub no_input : InputTold
-no_input = record { lines = Some []; faults = 0; faults_after = 0 }
+-- the input of a command that reads none
+abbrev pub no_input : SourceTold
+no_input = record { given = Some []; given_after = Some []; ended = ⊤; faults = 0; faults_after = 0 }
 
+abbrev pub observed_with : FilesTold → SourceTold → DiskTold → Observed
+observed_with files input disk = record { files = files; input = input; disk = disk }
+
+-- the same, where no input is read
 abbrev pub observed : FilesTold → DiskTold → Observed
-observed files disk = record { files = files; input = no_input; disk = disk }
+observed files disk = observed_with files no_input disk
 
 -- where a test looks: at a word of the command line, a file, or at nothing but what was read before
 pub data Source : Type 0 where

@@ -1,5 +1,5 @@
 -- What a command comes to: its status, what it puts, and what it adds to its journal.
-use Rattle.std.specs.Prelude.{◌≡◌, ℕ, List, [], ◌∷◌, Option, None}
+use Rattle.std.specs.Prelude.{◌≡◌, ℕ, List, [], ◌∷◌}
 use Rattle.outside_io.specs.Causes.{Rose}
 use Rattle.outside_io.specs.Puts.{SinkTold, TookAll, TookSome}
 use Rattle.cell_base.specs.declared.shifts.Grant.{Grant}
@@ -8,16 +8,16 @@ use Rattle.cell_walks.specs.declared.early_end.EarlyEnd.{EarlyEnd}
 use Rattle.cell_walks.specs.declared.status.Status.{Status}
 use Rattle.cell_walks.specs.declared.status.Status.TheVariants.{Done, SinkFault}
 
--- Its status; what is put, piece by piece; the grants that are added to the journal, in turn; and the one after them whose writing failed.
+-- Its status; what is put, piece by piece; the grants that are added to the journal, in turn; and those after them whose writing failed.
 pub record Outcome : Type 0 where
   pub status : Status
   pub pieces : List (List ℕ)
   pub added : List Grant
-  pub unsure : Option Grant
+  pub unsure : List Grant
 
 -- a command that prints these lines and adds nothing
 abbrev pub printed : Status → List (List ℕ) → Outcome
-printed status lines = record { status = status; pieces = lines; added = []; unsure = None }
+printed status lines = record { status = status; pieces = lines; added = []; unsure = [] }
 
 abbrev pub done : List (List ℕ) → Outcome
 done lines = printed Done lines

@@ -1,13 +1,12 @@
 -- What every walk promises: each promise follows of the outcomes that the walk allows, whatever the command.
 use Rattle.std.specs.Prelude.{Some, ◌≡◌, ◌⊎◌, ◌≤◌, ℕ, List, [], ◌∷◌, ◌++◌, length, take, Ok, Err, IsSomeAnd, ⊤}
 use Rattle.std.specs.List.{concat}
-use Rattle.std.specs.Option.{option_to_list}
 use Rattle.outside_io.specs.Causes.{Rose}
 use Rattle.outside_io.specs.Puts.{SinkTold, TookAll}
 use Rattle.outside_io.specs.Sink.{AppendsPrefix}
 use Rattle.cell_base.specs.declared.shifts.Grant.{Grant}
-use Rattle.durable_cell.specs.Kept.{StandsForFirst}
-use Rattle.durable_cell.specs.Replayed.{AreDue, opened_as}
+use Rattle.move_journal.specs.Journals.{StandsForPrefix}
+use Rattle.shift_recovery.specs.Replayed.{AreDue, opened_as}
 use Rattle.shift_recovery.specs.declared.faults.JournalFault.{JournalFault}
 use Rattle.cell_walks.specs.Allowed.{StandsForAdded, IsAllowed, IsLeft, IsOpenedAs, Reached, Unasked, reached_by}
 use Rattle.cell_walks.specs.DiskTold.{AddsNothing, DiskTold, IsAlways, IsNow, IsOnlyRead, IsUntouched, StoodFor}
@@ -48,6 +47,7 @@ AnswersFrom seen outcome reached (Opens journal next) =
     × AnswersFrom seen outcome (reached_by journal.purpose journal.text grants) (next grants)
 AnswersFrom seen outcome reached (Answers allows) = allows seen.input outcome × IsLeft reached seen.disk outcome
 
+-- the outcome is an answer of the walk: each of its tests passed before it
 abbrev pub IsAnswered : Observed → Walk → Outcome → Type 0
 IsAnswered seen walk outcome = AnswersFrom seen outcome Unasked walk
 
@@ -103,7 +103,7 @@ OnlyReads (Answers allows) = ⊤
 
 -- it stands for the grants and a prefix of the others, and so does each file that a crash now or since entry leaves
 abbrev pub StandsWith : DiskTold → List ℕ → List Grant → List Grant → Type 0
-StandsWith disk text grants since = IsNow disk (StandsForFirst text grants since) × IsAlways disk (StandsForFirst text grants since)
+StandsWith disk text grants since = IsNow disk (StandsForPrefix text grants since) × IsAlways disk (StandsForPrefix text grants since)
 
 -- A disk that stood for grants, with the text of the journal that is opened, stands for them and a prefix of those that the outcome
 -- adds: with an early end, for them alone.
@@ -112,7 +112,7 @@ KeepsGrants seen outcome (Tests test next) =
     (value : test.Value) → Tells seen.files test.source (λ bytes. test.reads bytes (Ok value)) → KeepsGrants seen outcome (next value)
 KeepsGrants seen outcome (Opens journal next) =
     (grants : List Grant) → StoodFor seen.disk journal.text grants
-    → StandsWith seen.disk journal.text grants (outcome.added ++ option_to_list outcome.unsure)
+    → StandsWith seen.disk journal.text grants (outcome.added ++ outcome.unsure)
 KeepsGrants seen outcome (Answers allows) = ⊤
 
 -- its tests pass for certain up to a journal that the disk tells, and that is refused

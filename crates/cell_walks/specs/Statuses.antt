@@ -5,7 +5,9 @@ use Rattle.cell_walks.specs.declared.early_end.EarlyEnd.TheVariants.{NotRead, De
 use Rattle.cell_walks.specs.declared.early_end.Subject.{Subject}
 use Rattle.cell_walks.specs.declared.early_end.Subject.TheVariants.{Words, Cell, Input, Journal, Command}
 use Rattle.cell_walks.specs.declared.status.Status.{Status}
-use Rattle.cell_walks.specs.declared.status.Status.TheVariants.{Done, Denied, NoCommand, ReadFault, CellRefused, InputRefused, JournalRefused, DeviceFault, SinkFault, NoMemory, CommandRefused}
+use Rattle.cell_walks.specs.declared.status.Status.TheVariants.{Done, Denied, NoCommand, ReadFault, CellRefused}
+use Rattle.cell_walks.specs.declared.status.Status.TheVariants.{InputRefused, JournalRefused, DeviceFault}
+use Rattle.cell_walks.specs.declared.status.Status.TheVariants.{SinkFault, NoMemory, CommandRefused}
 
 -- | Number | Status         | When                                                          |
 -- |      0 | Done           | the command did what it is for                                |
@@ -19,18 +21,18 @@ use Rattle.cell_walks.specs.declared.status.Status.TheVariants.{Done, Denied, No
 -- |      8 | SinkFault      | the output failed                                             |
 -- |      9 | NoMemory       | want of memory                                                |
 -- |     10 | CommandRefused | what was read stands for something that can't be done         |
-abbrev pub number_of : Status → ℕ
-number_of Done = 0
-number_of Denied = 1
-number_of NoCommand = 2
-number_of ReadFault = 3
-number_of CellRefused = 4
-number_of InputRefused = 5
-number_of JournalRefused = 6
-number_of DeviceFault = 7
-number_of SinkFault = 8
-number_of NoMemory = 9
-number_of CommandRefused = 10
+abbrev pub status_number : Status → ℕ
+status_number Done = 0
+status_number Denied = 1
+status_number NoCommand = 2
+status_number ReadFault = 3
+status_number CellRefused = 4
+status_number InputRefused = 5
+status_number JournalRefused = 6
+status_number DeviceFault = 7
+status_number SinkFault = 8
+status_number NoMemory = 9
+status_number CommandRefused = 10
 
 -- the status of a refusal
 abbrev pub subject_status : Subject → Status

@@ -3,7 +3,8 @@ use Rattle.std.specs.Prelude.{◌≡◌, ℕ, List, Option, Some, None, Result}
 use Rattle.cell_base.specs.declared.cells.Cell.{Cell}
 use Rattle.cell_base.specs.declared.shifts.Grant.{Grant}
 use Rattle.shift_recovery.specs.declared.faults.JournalFault.{JournalFault}
-use Rattle.cell_walks.specs.Observed.{InputTold, Source}
+use Rattle.outside_io.specs.Source.{SourceTold}
+use Rattle.cell_walks.specs.Observed.{Source}
 use Rattle.cell_walks.specs.Outcomes.{Outcome}
 use Rattle.cell_walks.specs.declared.early_end.EarlyEnd.{EarlyEnd}
 use Rattle.cell_walks.specs.declared.early_end.EarlyEnd.TheVariants.{WantOfMemory, Refused}
@@ -54,4 +55,4 @@ pub data Walk : Type 1 where
   -- the journal is opened, and the walk goes on with the grants that it stands for
   Opens : (journal : Journal) → (List Grant → Walk) → Walk
   -- each of these outcomes may come, by the input that is read while it answers
-  Answers : (InputTold → Outcome → Type 0) → Walk
+  Answers : (SourceTold → Outcome → Type 0) → Walk

@@ -1,10 +1,9 @@
 //! Calls of the whole controller in memory, in each of which one call of the outside may be made to fail.
 
+use crate::call_end::{CallEnd, written};
 use crate::command::journal_of;
 use crate::folder::Folder;
 use crate::late_pace::LatePace;
-use crate::told::{Told, written};
-use crate::torn_sink::TornSink;
 use anyhow::{Result, bail};
 use cell_base::List;
 use cell_program::{Ended, cell_main};
@@ -13,6 +12,7 @@ use std::alloc::Global;
 use std::rt::Clock;
 use std::sync::Wait;
 use std::thread::Threads;
+use torn_sinks::TornSink;
 
 /// The one call of the outside that is to fail; puts and reads are numbered from 1. Of a torn put the sink takes the first
 /// half of the piece.
@@ -71,7 +71,7 @@ impl<'a, R: Print + Clock + Threads + Wait + Sync> Caller<'a, R> {
     }
 
     /// Calls the controller with these words.
-    pub fn call(&self, words: &[String], failing: Failing) -> Result<Told> {
+    pub fn call(&self, words: &[String], failing: Failing) -> Result<CallEnd> {
         let mut calls = List::new(self.alloc);
         if let Failing::Device(call) = failing {
             push(&mut calls, call)?;
@@ -81,7 +81,7 @@ impl<'a, R: Print + Clock + Threads + Wait + Sync> Caller<'a, R> {
     }
 
     /// Calls it over this disk.
-    pub fn call_on(&self, words: &[String], disk: MemDisk, failing: Failing) -> Result<Told> {
+    pub fn call_on(&self, words: &[String], disk: MemDisk, failing: Failing) -> Result<CallEnd> {
         let mut puts = List::new(self.alloc);
         let mut reads = List::new(self.alloc);
         match failing {
@@ -91,16 +91,16 @@ impl<'a, R: Print + Clock + Threads + Wait + Sync> Caller<'a, R> {
             Failing::TornPut(put) => {
                 let mut out = TornSink::new(self.alloc, put.saturating_sub(1));
                 let ended = self.end_over(words, disk, reads, &mut out)?;
-                return Told::new(self.alloc, ended, out.bytes());
+                return CallEnd::new(self.alloc, ended, out.bytes());
             }
         }
         let mut out = MemSink::new(self.alloc, puts);
         let ended = self.end_over(words, disk, reads, &mut out)?;
-        Told::new(self.alloc, ended, out.bytes())
+        CallEnd::new(self.alloc, ended, out.bytes())
     }
 
     /// Prints both and ends where a call ended otherwise than with this status, text and journal.
-    pub fn check(&self, told: &Told, status: u8, text: &[u8], left: &[u8]) -> Result<()> {
+    pub fn check(&self, told: &CallEnd, status: u8, text: &[u8], left: &[u8]) -> Result<()> {
         if told.is(status, text, left) {
             return Ok(());
         }
@@ -109,7 +109,7 @@ impl<'a, R: Print + Clock + Threads + Wait + Sync> Caller<'a, R> {
     }
 
     /// Prints what was wanted and how a call ended, and ends.
-    pub fn end_otherwise(&self, wanted: &str, told: &Told) -> Result<()> {
+    pub fn end_otherwise(&self, wanted: &str, told: &CallEnd) -> Result<()> {
         let told = told.written(self.alloc)?;
         println!(self.rt; "wanted\n{wanted}told\n{told}")?;
         bail!("a call ended otherwise")

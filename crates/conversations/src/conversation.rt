@@ -4,6 +4,7 @@ use crate::command::runs_at_once;
 use crate::cut::Cut;
 use anyhow::{Result, bail};
 use std::alloc::Global;
+use std::str;
 
 /// The words of one call, what it is to print, its status, and what it is to leave of its journal.
 #[derive(Drop)]
@@ -13,9 +14,9 @@ pub struct Conversation {
     cut: Option<Cut>,
     words: Vec<String>,
     // What is to be printed; where any lines may stand in it, what comes before the first of them, and then each piece
-    // behind some.
+    // after some.
     printed: String,
-    behind: Vec<String>,
+    later: Vec<String>,
     status: u8,
     // The file that the journal is to be left as, where the script names one.
     left: Option<String>,
@@ -30,7 +31,7 @@ impl Conversation {
             cut: None,
             words: Vec::new(alloc),
             printed: String::new(alloc),
-            behind: Vec::new(alloc),
+            later: Vec::new(alloc),
             status: 0,
             left: None,
         })
@@ -47,19 +48,26 @@ impl Conversation {
         Ok(())
     }
 
-    /// Adds a line of what is to be printed; `...` stands for any lines.
+    /// Adds a line of what is to be printed; `...` stands for any lines, and `\hex DIGITS` for these bytes, which are a text.
     pub fn add_printed(&mut self, line: &str) -> Result<()> {
-        if line == "..." {
-            self.behind.push(String::new(self.alloc))?;
+        if let Some(digits) = line.strip_prefix("\\hex ") {
+            let Ok(bytes) = hex::decode(self.alloc, digits) else {
+                bail!("no hexadecimal bytes");
+            };
+            self.printed.push_str(str::from_utf8(bytes.as_slice())?)?;
             return Ok(());
         }
-        match self.behind.last_mut() {
-            Some(behind) => add_line(behind, line),
+        if line == "..." {
+            self.later.push(String::new(self.alloc))?;
+            return Ok(());
+        }
+        match self.later.last_mut() {
+            Some(piece) => add_line(piece, line),
             None => add_line(&mut self.printed, line),
         }
     }
 
-    /// Ends with this exit status, behind which the file may stand that the journal is left as.
+    /// Ends with this exit status, after which the file may stand that the journal is left as.
     pub fn end(&mut self, end: &str) -> Result<()> {
         let status = match end.split_once(" leaves ") {
             Some((status, file)) => {
@@ -97,13 +105,13 @@ impl Conversation {
 
     /// Whether lines are left open of what a run prints, since its sessions ask at the same time.
     pub fn is_open_run(&self) -> bool {
-        runs_at_once(self.words.as_slice()) && !self.behind.is_empty()
+        runs_at_once(self.words.as_slice()) && !self.later.is_empty()
     }
 
     /// How many lines are written of what is to be printed.
     pub fn lines(&self) -> u64 {
         let mut lines = lines_in(self.printed.as_str());
-        for piece in &self.behind {
+        for piece in &self.later {
             lines = lines.saturating_add(lines_in(piece.as_str()));
         }
         lines
@@ -118,12 +126,12 @@ impl Conversation {
         let Some(mut rest) = text.strip_prefix(self.printed.as_bytes()) else {
             return false;
         };
-        let Some((last, pieces)) = self.behind.split_last() else {
+        let Some((last, pieces)) = self.later.split_last() else {
             return rest.is_empty();
         };
         for piece in pieces {
-            match behind_piece(rest, piece.as_bytes()) {
-                Some(behind) => rest = behind,
+            match after_piece(rest, piece.as_bytes()) {
+                Some(later) => rest = later,
                 None => return false,
             }
         }
@@ -136,7 +144,7 @@ impl Conversation {
     /// What is to be printed with which status, as the script has it.
     pub fn written(&self) -> Result<String> {
         let mut text = String::from_str(self.alloc, self.printed.as_str())?;
-        for piece in &self.behind {
+        for piece in &self.later {
             text.push_str("...\n")?;
             text.push_str(piece.as_str())?;
         }
@@ -156,12 +164,12 @@ fn add_line(text: &mut String, line: &str) -> Result<()> {
     Ok(())
 }
 
-// What comes behind a piece, where it first stands at the beginning of a line.
-fn behind_piece<'a>(text: &'a [u8], piece: &[u8]) -> Option<&'a [u8]> {
+// What comes after a piece, where it first stands at the beginning of a line.
+fn after_piece<'a>(text: &'a [u8], piece: &[u8]) -> Option<&'a [u8]> {
     let mut rest = text;
     for line in text.split_inclusive(|byte| *byte == b'\n') {
-        if let Some(behind) = rest.strip_prefix(piece) {
-            return Some(behind);
+        if let Some(later) = rest.strip_prefix(piece) {
+            return Some(later);
         }
         rest = rest.get(line.len()..)?;
     }

@@ -2,18 +2,15 @@
 //! then leaves of the journal stands for the grants that were answered, or has the next one. The same call goes on from it
 //! to where it ends without a failure.
 
+use crate::call_end::CallEnd;
 use crate::caller::{Caller, Failing};
-use crate::command::may_write;
-use crate::told::Told;
+use crate::command::{answers_frames, may_write};
 use anyhow::{Context, Result, bail};
 use outside_io::{CallKind, Disk, DiskCall, MemDisk};
 use std::rt::Clock;
 use std::str;
 use std::sync::Wait;
 use std::thread::Threads;
-
-/// The most calls of each kind that are made to fail in their turn: those of a journal in the making and of some 30 grants.
-const MOST_CALLS: u64 = 64;
 
 const KINDS: [CallKind; 4] = [
     CallKind::Len,
@@ -26,10 +23,10 @@ const KINDS: [CallKind; 4] = [
 pub fn play_device<R: Print + Clock + Threads + Wait + Sync>(
     caller: &Caller<'_, R>,
     words: &[String],
-    whole: &Told,
+    whole: &CallEnd,
 ) -> Result<()> {
     for kind in KINDS {
-        for nth in 1..=MOST_CALLS {
+        for nth in 1..=u64::MAX {
             let call = DiskCall { kind, nth };
             let is_made = fail_call(caller, words, whole, call).context(format_args!(
                 "where {kind:?} {nth} fails"
@@ -46,7 +43,7 @@ pub fn play_device<R: Print + Clock + Threads + Wait + Sync>(
 fn fail_call<R: Print + Clock + Threads + Wait + Sync>(
     caller: &Caller<'_, R>,
     words: &[String],
-    whole: &Told,
+    whole: &CallEnd,
     call: DiskCall,
 ) -> Result<bool> {
     let mut told = caller.call(words, Failing::Device(call))?;
@@ -74,10 +71,15 @@ fn fails_next(disk: &mut MemDisk, kind: CallKind) -> bool {
 fn check_failed<R: Print + Clock + Threads + Wait + Sync>(
     caller: &Caller<'_, R>,
     words: &[String],
-    whole: &Told,
-    told: &Told,
+    whole: &CallEnd,
+    told: &CallEnd,
 ) -> Result<()> {
-    let answered = answered_before_halt(whole.text.as_slice(), told);
+    let before = plan_on(caller, words, caller.disk(caller.journal(words))?)?;
+    let answered = if answers_frames(words) {
+        acknowledged(whole.text.as_slice(), told, grants_of_any(&before))
+    } else {
+        answered_before_halt(whole.text.as_slice(), told)
+    };
     if answered.is_none() {
         let left = if may_write(words) {
             told.left()
@@ -86,50 +88,44 @@ fn check_failed<R: Print + Clock + Threads + Wait + Sync>(
         };
         caller.check(told, 7, b"device fault\n", left)?;
     }
-    let before = plan_on(caller, words, caller.disk(caller.journal(words))?)?;
     for pick in [0u64, 1] {
         let Ok(disk) = told.disk.crash(caller.alloc(), pick) else {
             bail!("want of memory");
         };
-        let behind = plan_on(caller, words, disk)?;
+        let plan = plan_on(caller, words, disk)?;
         match answered {
-            Some(answered) => check_grants(&before, &behind, answered)?,
-            None => caller.check(
-                &behind,
-                before.status,
-                before.text.as_slice(),
-                behind.left(),
-            )?,
+            Some(answered) => check_grants(&before, &plan, answered)?,
+            None => caller.check(&plan, before.status, before.text.as_slice(), plan.left())?,
         }
-        go_on(caller, words, whole, behind)?;
+        go_on(caller, words, whole, plan)?;
     }
     Ok(())
 }
 
-/// Behind the grants of before the journal has those that were answered, and at most one more.
-pub fn check_grants(before: &Told, behind: &Told, answered: u64) -> Result<()> {
+/// After the grants of before the journal has those that were answered, and at most one more.
+pub fn check_grants(before: &CallEnd, plan: &CallEnd, answered: u64) -> Result<()> {
     let answered = grants_of(before)?.saturating_add(answered);
-    let kept = grants_of(behind)?;
+    let kept = grants_of(plan)?;
     if kept != answered && kept != answered.saturating_add(1) {
         bail!("{answered} grants were answered, and the journal has {kept}");
     }
     Ok(())
 }
 
-// Behind this plan the call ends with the same status as without a failure, and leaves the same journal.
+// After this plan the call ends with the same status as without a failure, and leaves the same journal.
 fn go_on<R: Print + Clock + Threads + Wait + Sync>(
     caller: &Caller<'_, R>,
     words: &[String],
-    whole: &Told,
-    behind: Told,
+    whole: &CallEnd,
+    plan: CallEnd,
 ) -> Result<()> {
-    let Told { disk, .. } = behind;
+    let CallEnd { disk, .. } = plan;
     let told = caller.call_on(words, disk, Failing::Nothing)?;
     caller.check(&told, whole.status, told.text.as_slice(), whole.left())
 }
 
 // How many grants were answered before the entry that halted, where that entry stands in the place of a grant.
-fn answered_before_halt(whole: &[u8], told: &Told) -> Option<u64> {
+fn answered_before_halt(whole: &[u8], told: &CallEnd) -> Option<u64> {
     let begun = told.text.strip_suffix(b"halted\n".as_slice())?;
     let rest = whole.strip_prefix(begun)?;
     if told.status != 7 || !rest.starts_with(b"granted\n") {
@@ -138,12 +134,31 @@ fn answered_before_halt(whole: &[u8], told: &Told) -> Option<u64> {
     Some(told.grants())
 }
 
-/// The plan behind the journal on a disk, for the cell that these words name.
+// How many grants were answered since the journal was opened, where the failure stands in the place of an answer.
+fn acknowledged(whole: &[u8], told: &CallEnd, first: u64) -> Option<u64> {
+    let rest = whole.strip_prefix(told.text.as_slice())?;
+    if told.status != 7 || !rest.starts_with(b"ack ") {
+        return None;
+    }
+    let text = str::from_utf8(told.text.as_slice()).ok()?;
+    let mut known = first;
+    for line in text.lines() {
+        known = line.strip_prefix("ack ")?.parse::<u64>().ok()?;
+    }
+    Some(known.saturating_sub(first))
+}
+
+// The same of what may be no plan.
+fn grants_of_any(plan: &CallEnd) -> u64 {
+    grants_of(plan).unwrap_or(0)
+}
+
+/// The plan after the journal on a disk, for the cell that these words name.
 pub fn plan_on<R: Print + Clock + Threads + Wait + Sync>(
     caller: &Caller<'_, R>,
     words: &[String],
     disk: MemDisk,
-) -> Result<Told> {
+) -> Result<CallEnd> {
     let [_, cell, ..] = words else {
         bail!("a command without a cell");
     };
@@ -154,8 +169,8 @@ pub fn plan_on<R: Print + Clock + Threads + Wait + Sync>(
     caller.call_on(words.as_slice(), disk, Failing::Nothing)
 }
 
-// How many grants a plan stands behind.
-fn grants_of(plan: &Told) -> Result<u64> {
+// How many grants a plan stands after.
+fn grants_of(plan: &CallEnd) -> Result<u64> {
     let text = str::from_utf8(plan.text.as_slice())?;
     let head = text.lines().next().unwrap_or("");
     match head.strip_prefix("shift 0 after ") {

@@ -11,10 +11,10 @@
 //!
 //! `draft` has the lines within a file that have a meaning of their own.
 
+use crate::call_end::CallEnd;
 use crate::cut::Cut;
 use crate::draft::Draft;
 use crate::folder::Folder;
-use crate::told::Told;
 use anyhow::{Context, Result, bail};
 use std::alloc::Global;
 
@@ -24,7 +24,7 @@ pub struct ScriptFiles {
     alloc: Global,
     folder: Folder,
     draft: Option<Draft>,
-    last: Option<Told>,
+    last: Option<CallEnd>,
 }
 
 impl ScriptFiles {
@@ -44,11 +44,11 @@ impl ScriptFiles {
     }
 
     /// The last conversation ended like this.
-    pub fn keep_told(&mut self, told: Told) {
+    pub fn keep_told(&mut self, told: CallEnd) {
         self.last = Some(told);
     }
 
-    /// Begins a file by the words behind its sign. Where they tell how a file is cut, that is answered.
+    /// Begins a file by the words after its sign. Where they tell how a file is cut, that is answered.
     pub fn begin(&mut self, words: &str) -> Result<Option<Cut>> {
         self.end()?;
         let (name, how) = words.split_once(' ').unwrap_or((words, ""));

@@ -1,30 +1,36 @@
-//! A run whose sessions ask at the same time, played with single calls of its journal's device failing. It halts, what a crash then
+//! A run whose sessions ask at the same time, played with writes and syncs of its journal's device failing. It halts, what a crash then
 //! leaves of the journal stands for the grants that were answered or has one more, and the run goes on from it to the same end.
 
+use crate::call_end::CallEnd;
 use crate::caller::{Caller, Failing};
 use crate::device::{check_grants, plan_on};
-use crate::told::Told;
 use anyhow::{Context, Result, bail};
 use outside_io::{CallKind, DiskCall};
 use std::rt::Clock;
 use std::sync::Wait;
 use std::thread::Threads;
 
-/// The writes and the syncs that fail: those of the first grants on a blank disk, and some behind them.
-const CALLS: [u64; 8] = [5, 6, 7, 8, 101, 102, 333, 334];
+// A write or a sync fails where this divides its number. It is odd, so that each half of the writing of a grant fails.
+const EACH: u64 = 7;
 
-/// Plays a run on no journal that ended like this with these calls failing.
+// The first sync of the first grant, and its second write: on a blank disk four syncs and three writes come before it.
+const FIRST: u64 = 5;
+
+/// Plays a run on no journal that ended like this with such calls failing, up to the last write. Each grant has two syncs and two writes.
 pub fn play_halts<R: Print + Clock + Threads + Wait + Sync>(
     caller: &Caller<'_, R>,
     words: &[String],
-    whole: &Told,
+    whole: &CallEnd,
 ) -> Result<()> {
+    let end = whole.grants().saturating_mul(2).saturating_add(4);
     for kind in [CallKind::Write, CallKind::Sync] {
-        for nth in CALLS {
-            let call = DiskCall { kind, nth };
-            fail_call(caller, words, whole, call).context(format_args!(
-                "where {kind:?} {nth} fails"
-            ))?;
+        for nth in FIRST..end {
+            if nth % EACH == 0 {
+                let call = DiskCall { kind, nth };
+                fail_call(caller, words, whole, call).context(format_args!(
+                    "where {kind:?} {nth} fails"
+                ))?;
+            }
         }
     }
     Ok(())
@@ -33,7 +39,7 @@ pub fn play_halts<R: Print + Clock + Threads + Wait + Sync>(
 fn fail_call<R: Print + Clock + Threads + Wait + Sync>(
     caller: &Caller<'_, R>,
     words: &[String],
-    whole: &Told,
+    whole: &CallEnd,
     call: DiskCall,
 ) -> Result<()> {
     let told = caller.call(words, Failing::Device(call))?;
@@ -45,22 +51,22 @@ fn fail_call<R: Print + Clock + Threads + Wait + Sync>(
             bail!("want of memory");
         };
         let before = plan_on(caller, words, caller.disk(caller.journal(words))?)?;
-        let behind = plan_on(caller, words, disk)?;
-        check_grants(&before, &behind, told.grants())?;
-        go_on(caller, words, whole, behind)?;
+        let plan = plan_on(caller, words, disk)?;
+        check_grants(&before, &plan, told.grants())?;
+        go_on(caller, words, whole, plan)?;
     }
     Ok(())
 }
 
-// Behind this plan the run comes to the same end.
+// After this plan the run comes to the same end.
 fn go_on<R: Print + Clock + Threads + Wait + Sync>(
     caller: &Caller<'_, R>,
     words: &[String],
-    whole: &Told,
-    behind: Told,
+    whole: &CallEnd,
+    plan: CallEnd,
 ) -> Result<()> {
-    let Told { disk, .. } = behind;
-    let Told { disk, .. } = caller.call_on(words, disk, Failing::Nothing)?;
+    let CallEnd { disk, .. } = plan;
+    let CallEnd { disk, .. } = caller.call_on(words, disk, Failing::Nothing)?;
     let ended = plan_on(caller, words, disk)?;
     let wanted = plan_on(caller, words, caller.disk(whole.left())?)?;
     caller.check(&ended, wanted.status, wanted.text.as_slice(), ended.left())

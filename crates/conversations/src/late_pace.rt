@@ -9,7 +9,7 @@ use std::time::Duration;
 /// The asks of a session before which it doesn't rest.
 const FIRST_ASKS: u64 = 16;
 
-/// A session rests for a millisecond before each ask behind its first ones, so that one that waits for another session doesn't
+/// A session rests for a millisecond before each ask after its first ones, so that one that waits for another session doesn't
 /// spend its patience at once.
 #[derive(Drop)]
 pub struct LatePace<'a, C> {

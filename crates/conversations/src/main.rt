@@ -2,6 +2,7 @@
 //! ends with status 1 where one of them didn't go as written.
 #![tactic(auto)]
 
+mod call_end;
 mod caller;
 mod command;
 mod conversation;
@@ -14,8 +15,6 @@ mod halts;
 mod late_pace;
 mod play;
 mod script;
-mod told;
-mod torn_sink;
 
 use anyhow::{Context, Result, bail};
 use caller::{Caller, Failing};

@@ -2,29 +2,26 @@
 //! which the sink takes nothing or a first part, each read, and each call of the journal's device. Of a run whose lines are left
 //! open some calls of the device fail.
 
+use crate::call_end::CallEnd;
 use crate::caller::{Caller, Failing};
-use crate::command::{files_of, has_journal, may_write};
+use crate::command::{files_of, has_journal, may_write, piece_bytes};
 use crate::conversation::Conversation;
 use crate::cut::Cut;
 use crate::device::play_device;
 use crate::folder::Folder;
 use crate::halts::play_halts;
-use crate::told::Told;
 use anyhow::{Context, Result, bail};
 use std::alloc::Global;
 use std::rt::Clock;
 use std::sync::Wait;
 use std::thread::Threads;
 
-/// The most puts of a conversation that are made to fail in their turn.
-const MOST_PUTS: usize = 60;
-
 /// Ends with what was wanted and told where a conversation doesn't go as written, in the call that ended like this, or in
 /// another one of which a part fails.
 pub fn check<R: Print + Clock + Threads + Wait + Sync>(
     caller: &Caller<'_, R>,
     conversation: &Conversation,
-    told: &Told,
+    told: &CallEnd,
 ) -> Result<()> {
     if !conversation.is_met_by(told.status, told.text.as_slice()) {
         return caller.end_otherwise(conversation.written()?.as_str(), told);
@@ -63,9 +60,9 @@ pub fn check_cuts<R: Print + Clock + Threads + Wait + Sync>(
 fn check_left<R: Print + Clock + Threads + Wait + Sync>(
     caller: &Caller<'_, R>,
     conversation: &Conversation,
-    told: &Told,
+    told: &CallEnd,
 ) -> Result<()> {
-    let Told { status, text, .. } = told;
+    let CallEnd { status, text, .. } = told;
     if let Some(name) = conversation.file_left() {
         match caller.folder().bytes_of(name.as_str()) {
             Some(left) => caller.check(told, *status, text.as_slice(), left)?,
@@ -84,33 +81,70 @@ fn check_left<R: Print + Clock + Threads + Wait + Sync>(
 fn play_puts<R: Print + Clock + Threads + Wait + Sync>(
     caller: &Caller<'_, R>,
     words: &[String],
-    whole: &Told,
+    whole: &CallEnd,
 ) -> Result<()> {
-    let mut taken = Vec::new(caller.alloc());
     let mut put = 0u64;
-    let lines = whole.text.split_inclusive(|byte| *byte == b'\n');
-    for line in lines.take(MOST_PUTS) {
+    let mut taken = 0usize;
+    for _ in 0..whole.text.len() {
+        let rest = whole.text.get(taken..).unwrap_or(b"");
+        if rest.is_empty() {
+            break;
+        }
         put = put.wrapping_add(1);
-        let told = caller.call(words, Failing::Put(put))?;
-        caller
-            .check(&told, 8, taken.as_slice(), whole.left())
-            .context(format_args!("where put {put} fails"))?;
-        let (first, rest) = line.split_at(line.len() / 2);
-        taken.extend_from_slice(first)?;
-        let told = caller.call(words, Failing::TornPut(put))?;
-        caller
-            .check(&told, 8, taken.as_slice(), whole.left())
-            .context(format_args!("where put {put} is torn"))?;
-        taken.extend_from_slice(rest)?;
+        play_put(caller, words, whole, put, taken)?;
+        let piece = first_piece(rest, piece_bytes(words, whole.status));
+        play_torn_put(caller, words, whole, put, taken.wrapping_add(piece / 2))?;
+        taken = taken.wrapping_add(piece);
     }
     Ok(())
+}
+
+// How many bytes the first piece of a text has: so many, or the first line.
+fn first_piece(text: &[u8], bytes: Option<usize>) -> usize {
+    match bytes {
+        Some(bytes) => bytes.min(text.len()),
+        None => {
+            let line = text.split_inclusive(|byte| *byte == b'\n').next();
+            line.unwrap_or(text).len()
+        }
+    }
+}
+
+// Plays it with this put failing: so many bytes were taken before it.
+fn play_put<R: Print + Clock + Threads + Wait + Sync>(
+    caller: &Caller<'_, R>,
+    words: &[String],
+    whole: &CallEnd,
+    put: u64,
+    taken: usize,
+) -> Result<()> {
+    let told = caller.call(words, Failing::Put(put))?;
+    let text = whole.text.get(..taken).unwrap_or(b"");
+    caller
+        .check(&told, 8, text, whole.left())
+        .context(format_args!("where put {put} fails"))
+}
+
+// Plays it with this put torn: so many bytes were taken with the first half of its piece.
+fn play_torn_put<R: Print + Clock + Threads + Wait + Sync>(
+    caller: &Caller<'_, R>,
+    words: &[String],
+    whole: &CallEnd,
+    put: u64,
+    taken: usize,
+) -> Result<()> {
+    let told = caller.call(words, Failing::TornPut(put))?;
+    let text = whole.text.get(..taken).unwrap_or(b"");
+    caller
+        .check(&told, 8, text, whole.left())
+        .context(format_args!("where put {put} is torn"))
 }
 
 // Plays it with either read failing: that is told, but where the call had ended before this read or has no such file.
 fn play_reads<R: Print + Clock + Threads + Wait + Sync>(
     caller: &Caller<'_, R>,
     words: &[String],
-    whole: &Told,
+    whole: &CallEnd,
 ) -> Result<()> {
     for read in 1..3u64 {
         let told = caller.call(words, Failing::Read(read))?;

@@ -13,10 +13,10 @@
 //!
 //! Files stay from one conversation to the next. In what is printed a line `...` stands for any lines.
 
+use crate::call_end::CallEnd;
 use crate::conversation::Conversation;
 use crate::files::ScriptFiles;
 use crate::folder::Folder;
-use crate::told::Told;
 use anyhow::{Result, bail};
 use std::alloc::Global;
 use std::mem;
@@ -55,7 +55,7 @@ impl Script {
     }
 
     /// The conversation that was read last ended like this.
-    pub fn keep_told(&mut self, told: Told) {
+    pub fn keep_told(&mut self, told: CallEnd) {
         self.files.keep_told(told);
     }
 

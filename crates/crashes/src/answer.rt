@@ -56,7 +56,7 @@ fn refusal(why: JournalFault) -> Answer {
     }
 }
 
-// Whether the grants are the first ones.
+// Whether the grants are a prefix of all.
 fn are_first(grants: &[Grant]) -> bool {
     for (index, grant) in grants.iter().enumerate() {
         if *grant != grant_at(index as u64) {

@@ -1,4 +1,4 @@
-//! Disks of which one call fails, and go on behind it.
+//! Disks of which one call fails, and go on after it.
 
 use crate::held::{HELD, Held, LONG};
 use crate::life::{During, Life, go_on, live};
@@ -47,7 +47,7 @@ fn fail_calls_of(alloc: Global, held: Held, kind: CallKind) -> Result<u64> {
     bail!("{name}: a life of {MOST_CALLS} calls of {kind:?}");
 }
 
-// Something failed exactly where the call did. The disk is opened again behind it.
+// Something failed exactly where the call did. The disk is opened again after it.
 fn faulty_life(alloc: Global, held: Held, call: DiskCall) -> Result<During> {
     let mut fails = List::new(alloc);
     if fails.try_push(call).is_err() {

@@ -9,12 +9,12 @@ use std::alloc::Global;
 pub enum Start {
     /// These bytes.
     Bytes(&'static [u8]),
-    /// A journal of the first so many grants, in which the gate behind them has this value: 1 is open.
+    /// A journal of the first so many grants, in which the gate after them has this value: 1 is open.
     Journal { grants: u64, gate: u8 },
 }
 
 impl Start {
-    /// The bytes, with so many of one value behind them.
+    /// The bytes, with so many of one value after them.
     pub fn followed_by(self, alloc: Global, count: usize, fill: u8) -> Result<Vec<u8>> {
         let mut bytes = match self {
             Start::Bytes(bytes) => bytes.to_vec(alloc)?,
@@ -27,7 +27,7 @@ impl Start {
     }
 }
 
-/// A journal of the first so many grants, with this gate behind them.
+/// A journal of the first so many grants, with this gate after them.
 pub fn journal(alloc: Global, grants: u64, gate: u8) -> Result<Vec<u8>> {
     let mut bytes = b"\x01RUNCELL1\x00\x00\x00\xbe".to_vec(alloc)?;
     bytes.extend_from_slice(CELL)?;

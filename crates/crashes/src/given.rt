@@ -20,7 +20,7 @@ const GIVEN: [Given; 7] = [
     Given(Start::Journal { grants: 5, gate: 2 }, Answer::Grants(5)),
 ];
 
-// A file with so many bytes of any kind behind it, and what is answered.
+// A file with so many bytes of any kind after it, and what is answered.
 #[derive(Clone, Copy)]
 struct Followed(Start, usize, Answer);
 
@@ -45,7 +45,7 @@ const FOLLOWED: [Followed; 6] = [
     Followed(Start::Journal { grants: 0, gate: 0 }, 30, Answer::Grants(0)),
 ];
 
-// The bytes of any kind, each of which fills what stands behind in its turn.
+// The bytes of any kind, each of which fills what comes after the file in its turn.
 const FILLS: [u8; 5] = [0, 1, 2, b'R', 255];
 
 /// Recovers the given files, and answers how many.
@@ -59,7 +59,7 @@ pub fn check_given(alloc: Global) -> Result<u64> {
     Ok(files)
 }
 
-// The files with bytes of any kind behind them.
+// The files with bytes of any kind after them.
 fn check_followed(alloc: Global) -> Result<u64> {
     let mut files = 0u64;
     for Followed(start, count, answer) in FOLLOWED {
@@ -73,7 +73,7 @@ fn check_fills(alloc: Global, start: Start, count: usize, answer: Answer) -> Res
     for fill in FILLS {
         let bytes = start.followed_by(alloc, count, fill)?;
         check_bytes(alloc, &bytes, ROOM, answer).context(format_args!(
-            "{start:?} with {count} bytes {fill} behind"
+            "{start:?} with {count} bytes {fill} after"
         ))?;
     }
     Ok(())

@@ -41,7 +41,7 @@ pub fn live(alloc: Global, disk: SilentDisk, held: Option<u64>) -> Result<Life> 
     go_through(opened, held)
 }
 
-// The life behind recovery.
+// The life after recovery.
 fn go_through(opened: Opened<SilentDisk>, held: Option<u64>) -> Result<Life> {
     match opened {
         Opened::Fresh(blank) => make(blank),
@@ -133,7 +133,7 @@ pub fn go_on<D: Disk + Drop>(
     let mut journal = journal_of(opened)?;
     let grants = journal.len();
     if let Err(fault) = append_next(&mut journal)? {
-        bail!("{fault:?} behind {grants} grants");
+        bail!("{fault:?} after {grants} grants");
     }
     let again = answer_on(alloc, journal.into_disk(), CELL, ROOM);
     same(again, Answer::Grants(grants.saturating_add(1)))

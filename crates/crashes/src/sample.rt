@@ -1,24 +1,9 @@
-//! The cell and the grants of which the journals are made.
+//! The grants of which the journals are made, on the cell `CROSSING`.
 
 use cell_base::{Grant, JobId, Request, ResId, TypeId};
 
-/// The text of the cell: two machines, and two types that go over them in both orders.
-pub const CELL: &[u8; 190] = b"version = 1
-[[resource]]
-name = \"M1\"
-capacity = 1
-order = 1
-[[resource]]
-name = \"M2\"
-capacity = 1
-order = 2
-[[type]]
-name = \"A\"
-route = [\"M1\", \"M2\"]
-[[type]]
-name = \"Z\"
-route = [\"M2\", \"M1\"]
-";
+/// The text of the cell.
+pub use small_cells::CROSSING as CELL;
 
 /// How many grants a journal may have where a table doesn't say otherwise.
 pub const ROOM: u64 = 1_000;

@@ -1,39 +1,14 @@
 //! That memory is had, and that a plan comes to its end, on a cell of one machine.
 use crate::{Drainer, plan};
 use admission_core::Core;
-use cell_base::{
-    Cell, JobId, JobType, List, Name, NoMemory, Reply, Request, ResId, Resource, Step, TypeId,
-    cell_fits, request_fits,
-};
+use cell_base::{JobId, Reply, Request, ResId, TypeId, cell_fits, request_fits};
+use small_cells::cell_of_one;
 use std::alloc::Global;
 use std::test::Fail;
 
-fn list_of<T: Drop>(alloc: Global, value: T) -> Result<List<T>, NoMemory> {
-    let mut list = List::new(alloc);
-    list.try_push(value)?;
-    Ok(list)
-}
-
 /// A machine of one unit, on which a part of one type has come to its only stage.
 fn loaded_core(alloc: Global) -> Result<Core, Fail> {
-    let machine = Resource {
-        name: Name::read(b"M1").ok_or("a name")?,
-        capacity: 1,
-        order: 1,
-    };
-    let step = Step {
-        on: ResId(0),
-        works: true,
-    };
-    let job_type = JobType {
-        name: Name::read(b"A").ok_or("a name")?,
-        route: list_of(alloc, step)?,
-        next: list_of(alloc, List::new(alloc))?,
-    };
-    let cell = Cell {
-        resources: list_of(alloc, machine)?,
-        types: list_of(alloc, job_type)?,
-    };
+    let cell = cell_of_one(alloc)?;
     let load = Request::Load {
         job: JobId(7),
         kind: TypeId(0),

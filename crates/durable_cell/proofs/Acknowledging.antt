@@ -1,7 +1,8 @@
 -- What is acknowledged is on each image, and stays there.
 use Rattle.std.specs.Prelude.{Option, None, IfSome}
 use Rattle.std.specs.Option.{option_to_list}
-use Rattle.std.proofs.Common.{◌≡◌, ◌⊎◌, inl, inr, ⊎_elim, ℕ, zero, suc, ◌≤◌, List, [], ◌∷◌, ◌++◌, length, take, refl, sym, ◌∙◌, ap, subst, arith}
+use Rattle.std.proofs.Common.{◌≡◌, ◌⊎◌, inl, inr, ⊎_elim, ℕ, zero, suc, ◌≤◌, List, []}
+use Rattle.std.proofs.Common.{◌∷◌, ◌++◌, length, take, refl, sym, ◌∙◌, ap, subst, arith}
 use Rattle.std.proofs.lemmas.List.{length-append, take_all, take_at, take-append-le}
 use Rattle.cell_base.specs.declared.shifts.Entry.{Entry}
 use Rattle.cell_base.specs.declared.shifts.Grant.{Grant}
@@ -19,7 +20,7 @@ le_or zero b = inl (omega arith)
 le_or (suc a) zero = inr (omega arith)
 le_or (suc a) (suc b) = ⊎_elim (λ le. inl (omega (arith, le))) (λ le. inr (omega (arith, le))) (le_or a b)
 
--- so many first ones of a list, of which the list has that many, are first ones of a longer list
+-- a prefix with at least so many elements, where the list has so many, is one of a longer list
 takes_more : (added : List Grant) (grant : Grant) (n count : ℕ) → count ≤ n → count ≤ length added
     → (k : ℕ) × (count ≤ k) × (take k (added ++ grant ∷ []) ≡ take n added)
 takes_more added grant n count enough few = by_order (le_or n (length added))
@@ -92,7 +93,7 @@ module _ {D : Type 0} (reads_as : D → Option (List ℕ)) (may_leave : D → Li
       (λ c. ⊎_elim (λ before. inl (inl before))
       (λ after. inr (stands c (with_grant durable.text durable.opening durable.added grant c after)))))
 
-  -- what was on each image is there still when a grant is written behind it
+  -- what was on each image is there still when a grant is written after it
   still_more : (durable new : DurableState D) (grant : Grant) → durable.unsure ≡ None
       → KeepsDisk reads_as may_leave moment left_since faults durable
       → Appends reads_as may_leave moment left_since faults durable.disk new.disk durable.text grant

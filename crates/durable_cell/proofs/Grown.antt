@@ -16,10 +16,12 @@ use Rattle.admission_core.specs.CoreState.{CoreState}
 use Rattle.move_journal.specs.Kept.{JournalState}
 use Rattle.move_journal.specs.declared.journal.AppendFault.{AppendFault}
 use Rattle.move_journal.specs.declared.journal.AppendFault.TheVariants.{Halted, Device}
+use Rattle.cell_base.proofs.Histories.{after-push}
 use Rattle.durable_cell.specs.Asked.{is_halt, halted_at, halted_in, grant_of, unsure_grant, with_entry, GoesOn}
 use Rattle.durable_cell.specs.DurableState.{DurableState, first_parts, parts, marked, seen}
 use Rattle.durable_cell.specs.Kept.{KeepsHistory, KeepsParts, asked_by, asked_in}
-use Rattle.durable_cell.proofs.Halts.{after-push, legal-push, halted_in-push, halted_at-none, halted_at-last, halted_has_entry, beside_none, beside_some}
+use Rattle.durable_cell.proofs.Halts.{legal-push, halted_in-push, halted_at-none, halted_at-last}
+use Rattle.durable_cell.proofs.Halts.{halted_has_entry, beside_none, beside_some}
 
 -- the grants of one entry ask what it asked
 grants_of_one : (shift : ℕ) (entry : Entry) → map asked_by (grants shift (entry ∷ [])) ≡ map asked_in (granted_entries (entry ∷ []))

@@ -13,12 +13,7 @@ use Rattle.cell_base.specs.declared.shifts.Entry.{Entry}
 use Rattle.cell_base.specs.Histories.{was_halted, state_after_entry, after, IsToldRightly, IsLegal}
 use Rattle.durable_cell.specs.Asked.{is_halt, halted_at, halted_in}
 
-pub after-push : (cell : Cell) (parts : List Part) (entries : List Entry) (entry : Entry)
-    → after cell parts (entries ++ entry ∷ []) ≡ state_after_entry cell (after cell parts entries) entry.request entry.told
-after-push cell parts [] entry = refl
-after-push cell parts (first ∷ entries) entry = after-push cell (state_after_entry cell parts first.request first.told) entries entry
-
--- a history without a halt has none in its first entry, and none behind it
+-- a history without a halt has none in its first entry, and none after it
 no_halt : (first : Entry) (entries : List Entry) → halted_in (first ∷ entries) ≡ None → (is_halt first ≡ false) × (halted_in entries ≡ None)
 no_halt first entries is = by_test (is_halt first) (halted_in entries) is
   where

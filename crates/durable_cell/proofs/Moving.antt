@@ -1,7 +1,8 @@
 -- A disk on which one grant more was written, or whose writing failed.
 use Rattle.std.specs.Prelude.{Option, Some, None, IfSome, MatchOption}
 use Rattle.std.specs.Option.{option_to_list}
-use Rattle.std.proofs.Common.{◌≡◌, ◌⊎◌, inl, inr, ⊎_elim, ℕ, zero, suc, ◌≤◌, List, [], ◌∷◌, ◌++◌, length, take, refl, sym, ◌∙◌, ap, subst, arith, append_assoc}
+use Rattle.std.proofs.Common.{◌≡◌, ◌⊎◌, inl, inr, ⊎_elim, ℕ, zero, suc, ◌≤◌, List, [], ◌∷◌, ◌++◌}
+use Rattle.std.proofs.Common.{length, take, refl, sym, ◌∙◌, ap, subst, arith, append_assoc}
 use Rattle.std.proofs.lemmas.List.{append-nil, take_all, take_at, take-append-le}
 use Rattle.cell_base.specs.declared.shifts.Entry.{Entry}
 use Rattle.cell_base.specs.declared.shifts.Grant.{Grant}
@@ -10,11 +11,11 @@ use Rattle.outside_io.specs.Disk.{Turns, LeavesOnly}
 use Rattle.outside_io.specs.Moments.{widened, followed}
 use Rattle.outside_io.specs.Telling.{where_told, told, turned_back}
 use Rattle.move_journal.specs.Disks.{Shows}
-use Rattle.move_journal.specs.Journals.{StandsFor, IsBeforeOrAfter}
+use Rattle.move_journal.specs.Journals.{StandsFor, IsBeforeOrAfter, StandsForPrefix}
 use Rattle.durable_cell.specs.DurableState.{DurableState}
-use Rattle.durable_cell.specs.Kept.{KeepsDisk, StandsForFirst, StandsNow, grants_since}
+use Rattle.durable_cell.specs.Kept.{KeepsDisk, StandsNow, grants_since}
 
--- one run of calls behind another: a disk that told goes on telling
+-- one run of calls after another: a disk that told goes on telling
 pub turns_on : (a b c : Option (List ℕ)) → Turns a b (λ _ _. Unit {0}) → Turns b c (λ _ _. Unit {0}) → Turns a c (λ _ _. Unit {0})
 turns_on None None None first second = tt
 turns_on None None (Some z) first second = absurd second
@@ -23,7 +24,7 @@ turns_on (Some x) None c first second = absurd first
 turns_on (Some x) (Some y) None first second = absurd second
 turns_on (Some x) (Some y) (Some z) first second = tt
 
--- the first ones of a list are those of a longer one
+-- a prefix of a list is one of a longer list
 takes_short : (added : List Grant) (grant : Grant) (n : ℕ) → (k : ℕ) × (take k (added ++ grant ∷ []) ≡ take n added)
 takes_short added grant n = by_order (le_or n (length added))
   where
@@ -36,14 +37,14 @@ takes_short added grant n = by_order (le_or n (length added))
     by_order (inl le) = (n, take-append-le n added (grant ∷ []) le)
     by_order (inr le) = (length added, take_at added (grant ∷ []) (length added) refl ∙ sym (take_all n added le))
 
-first_of_more : (text : List ℕ) (opening added : List Grant) (grant : Grant) (file : List ℕ) → StandsForFirst text opening added file
-    → StandsForFirst text opening (added ++ grant ∷ []) file
+first_of_more : (text : List ℕ) (opening added : List Grant) (grant : Grant) (file : List ℕ) → StandsForPrefix text opening added file
+    → StandsForPrefix text opening (added ++ grant ∷ []) file
 first_of_more text opening added grant file stands =
     let k = takes_short added grant stands.0 in
     (k.0, subst (λ (gs : List Grant). StandsFor file text (opening ++ gs)) (sym k.1) stands.1)
 
 either_first : (text : List ℕ) (opening added : List Grant) (grant : Grant) (file : List ℕ)
-    → IsBeforeOrAfter text (opening ++ added) grant file → StandsForFirst text opening (added ++ grant ∷ []) file
+    → IsBeforeOrAfter text (opening ++ added) grant file → StandsForPrefix text opening (added ++ grant ∷ []) file
 either_first text opening added grant file (inl before) = (
   length added,
   subst (λ (gs : List Grant). StandsFor file text (opening ++ gs)) (sym (take_at added (grant ∷ [])
@@ -57,7 +58,7 @@ either_first text opening added grant file (inr after) =
           (omega arith)))) after,
     )
 
--- one grant more behind those of the opening and those added
+-- one grant more after those of the opening and those added
 pub with_grant : (text : List ℕ) (opening added : List Grant) (grant : Grant) (file : List ℕ)
     → StandsFor file text ((opening ++ added) ++ grant ∷ []) → StandsFor file text (opening ++ (added ++ grant ∷ []))
 with_grant text opening added grant file stands = subst (λ (gs : List Grant). StandsFor file text gs)
@@ -78,15 +79,15 @@ module _ {D : Type 0} (reads_as : D → Option (List ℕ)) (may_leave : D → Li
 
   moments_more : (first disk new : D) (text : List ℕ) (opening added since longer : List Grant) (grant : Grant) → since ≡ added
       → longer ≡ added ++ grant ∷ []
-      → LeavesOnly moment left_since first disk (StandsForFirst text opening since)
+      → LeavesOnly moment left_since first disk (StandsForPrefix text opening since)
       → LeavesOnly moment left_since disk new (IsBeforeOrAfter text (opening ++ added) grant)
-      → LeavesOnly moment left_since first new (StandsForFirst text opening longer)
+      → LeavesOnly moment left_since first new (StandsForPrefix text opening longer)
   moments_more first disk new text opening added since longer grant is_since is_longer before after =
-      let P : List ℕ → Type 0 = StandsForFirst text opening (added ++ grant ∷ []) in
-      let wider : (file : List ℕ) → StandsForFirst text opening since file → P file =
+      let P : List ℕ → Type 0 = StandsForPrefix text opening (added ++ grant ∷ []) in
+      let wider : (file : List ℕ) → StandsForPrefix text opening since file → P file =
       λ file stands. first_of_more text opening added grant file
-      (subst (λ (gs : List Grant). StandsForFirst text opening gs file) is_since stands) in
-      subst (λ (gs : List Grant). LeavesOnly moment left_since first new (StandsForFirst text opening gs))
+      (subst (λ (gs : List Grant). StandsForPrefix text opening gs file) is_since stands) in
+      subst (λ (gs : List Grant). LeavesOnly moment left_since first new (StandsForPrefix text opening gs))
       (sym is_longer)
       (followed moment left_since first disk new P (widened moment left_since first disk _ P before wider)
       (widened moment left_since disk new _ P after (either_first text opening added grant)))
@@ -122,10 +123,10 @@ module _ {D : Type 0} (reads_as : D → Option (List ℕ)) (may_leave : D → Li
   appended_moments : (durable : DurableState D) (new : D) (longer : List Grant) (grant : Grant) → durable.unsure ≡ None
       → longer ≡ durable.added ++ grant ∷ [] → KeepsDisk reads_as may_leave moment left_since faults durable
       → Appends durable.disk new durable.text grant
-      → IfSome (reads_as new) (λ _. LeavesOnly moment left_since durable.found new (StandsForFirst durable.text durable.opening longer))
+      → IfSome (reads_as new) (λ _. LeavesOnly moment left_since durable.found new (StandsForPrefix durable.text durable.opening longer))
   appended_moments durable new longer grant none is_longer keeps appends =
       where_told (reads_as new) (λ _. LeavesOnly moment left_since durable.found new
-      (StandsForFirst durable.text durable.opening longer)) (λ now is_now.
+      (StandsForPrefix durable.text durable.opening longer)) (λ now is_now.
       let old = told_before durable new grant now none keeps appends is_now in
       moments_more durable.found durable.disk new durable.text durable.opening durable.added (grants_since durable) longer grant
       (since_is durable none) is_longer

@@ -12,15 +12,15 @@ use Rattle.outside_io.specs.Disk.{Turns, LeavesOnly}
 use Rattle.outside_io.specs.Moments.{widened, followed}
 use Rattle.outside_io.specs.Telling.{where_told, told, turned_back}
 use Rattle.move_journal.specs.Blanks.{IsBlank}
-use Rattle.move_journal.specs.Journals.{StandsFor}
+use Rattle.move_journal.specs.Journals.{StandsFor, StandsForPrefix}
 use Rattle.move_journal.specs.Kept.{JournalState}
 use Rattle.shift_recovery.specs.Reads.{OnlyReads}
 use Rattle.durable_cell.specs.declared.replays.TheConstants.{MAX_ROOM}
 use Rattle.durable_cell.specs.DurableState.{seen}
-use Rattle.durable_cell.specs.Kept.{KeepsHistory, KeepsDisk, KeepsParts, StandsNow, StandsForFirst}
+use Rattle.durable_cell.specs.Kept.{KeepsHistory, KeepsDisk, KeepsParts, StandsNow}
 use Rattle.durable_cell.specs.Made.{IsJournalOf, IsUnmade}
 use Rattle.durable_cell.specs.Openings.{fresh}
-use Rattle.durable_cell.specs.Replayed.{AreDue}
+use Rattle.shift_recovery.specs.Replayed.{AreDue}
 use Rattle.durable_cell.specs.Restored.{IsCore}
 use Rattle.durable_cell.proofs.Grown.{kept_is}
 use Rattle.durable_cell.proofs.Moving.{turns_on}
@@ -105,7 +105,7 @@ module _ {D : Type 0} (reads_as : D → Option (List ℕ)) (may_leave : D → Li
       with_none file st = subst (λ (gs : List Grant). StandsFor file text gs) (sym (append-nil grants)) st
 
       First : List ℕ → Type 0
-      First file = StandsForFirst text grants [] file
+      First file = StandsForPrefix text grants [] file
 
       Stands : List ℕ → Type 0
       Stands file = StandsNow (fresh cell text entry found journal.disk grants limit) file

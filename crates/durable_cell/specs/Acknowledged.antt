@@ -6,7 +6,7 @@ use Rattle.move_journal.specs.Journals.{StandsFor}
 use Rattle.durable_cell.specs.DurableState.{DurableState}
 use Rattle.durable_cell.specs.Kept.{StandsNow, StandsThen, grants_since}
 
--- the file stands for the grants of the opening and the first ones since, at least so many
+-- the file stands for the grants of the opening and a prefix of those since, at least so many of them
 abbrev pub HasFirst : {D : Type 0} → DurableState D → ℕ → List ℕ → Type 0
 HasFirst durable count file = (n : ℕ) × (count ≤ n) × StandsFor file durable.text (durable.opening ++ take n (grants_since durable))
 
@@ -28,7 +28,7 @@ abbrev pub HasStill : {D : Type 0} → (D → Option (List ℕ)) → (D → ℕ)
 HasStill reads_as moment left_since old new =
     (then count : ℕ) → HasSince reads_as moment left_since old then count → HasSince reads_as moment left_since new then count
 
--- What a call does to the disk. Each image at each moment of the call stands for what stood before it, or for what stands behind it, as
+-- What a call does to the disk. Each image at each moment of the call stands for what stood before it, or for what stands after it, as
 -- do the disk itself and each image at the return. From then on each image has all that was added, and what each image had it has still.
 pub record MovesSafely {D : Type 0} (reads_as : D → Option (List ℕ)) (may_leave : D → List ℕ → Type 0) (moment : D → ℕ)
     (left_since : D → ℕ → List ℕ → Type 0) (old new : DurableState D) : Type 0 where

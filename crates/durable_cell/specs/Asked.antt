@@ -41,7 +41,7 @@ unsure_grant shift entries = option_map (grant_of shift) (halted_in entries)
 abbrev pub entry : ℕ → Request → Told → Entry
 entry session request told = record { session = session; request = request; told = told }
 
--- one entry more, decided in this shift, behind a history without a halt, and the disk after it
+-- one entry more, decided in this shift, after a history without a halt, and the disk after it
 abbrev pub with_entry : {D : Type 0} → DurableState D → D → ℕ → Entry → DurableState D
 with_entry durable disk shift e = record durable {
   disk = disk;

@@ -24,11 +24,11 @@ pub record DurableState (D : Type 0) : Type 0 where
   pub unsure : Option Grant
   pub limit : ℕ
 
--- the parts behind the grants of the opening
+-- the parts after the grants of the opening
 abbrev pub first_parts : {D : Type 0} → DurableState D → List Part
 first_parts durable = replay durable.cell durable.opening
 
--- the parts behind the history
+-- the parts after the history
 abbrev pub parts : {D : Type 0} → DurableState D → List Part
 parts durable = after durable.cell (first_parts durable) durable.history
 

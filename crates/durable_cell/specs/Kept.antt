@@ -1,5 +1,6 @@
 -- What a durable cell keeps.
-use Rattle.std.specs.Prelude.{◌≡◌, ◌⊎◌, ℕ, ◌+◌, ◌*◌, ◌≤◌, false, Option, None, IfSome, MatchOption, List, [], ◌∷◌, ◌++◌, length, map, take, ⊤}
+use Rattle.std.specs.Prelude.{◌≡◌, ◌⊎◌, ℕ, ◌+◌, ◌*◌, ◌≤◌, false, Option, None, IfSome}
+use Rattle.std.specs.Prelude.{MatchOption, List, [], ◌∷◌, ◌++◌, length, map, ⊤}
 use Rattle.std.specs.Option.{option_map, option_to_list}
 use Rattle.atomic_table.specs.declared.badge.Badge.{Badge}
 use Rattle.cell_base.specs.declared.requests.Request.{Request}
@@ -11,13 +12,13 @@ use Rattle.admission_core.specs.CoreState.{CoreState}
 use Rattle.outside_io.specs.Causes.{Rose}
 use Rattle.outside_io.specs.Disk.{Turns, LeavesOnly}
 use Rattle.move_journal.specs.Disks.{Shows}
-use Rattle.move_journal.specs.Journals.{StandsFor}
+use Rattle.move_journal.specs.Journals.{StandsFor, StandsForPrefix}
 use Rattle.move_journal.specs.Kept.{JournalState}
 use Rattle.shift_recovery.specs.Reads.{OnlyReads}
 use Rattle.durable_cell.specs.declared.replays.TheConstants.{MAX_ROOM}
 use Rattle.durable_cell.specs.Asked.{halted_in}
 use Rattle.durable_cell.specs.DurableState.{DurableState, first_parts, parts}
-use Rattle.durable_cell.specs.Replayed.{AreDue}
+use Rattle.shift_recovery.specs.Replayed.{AreDue}
 
 -- who asked for what
 abbrev pub asked_by : Grant → ℕ × Request
@@ -37,7 +38,7 @@ pub record KeepsHistory {D : Type 0} (durable : DurableState D) : Type 0 where
   pub unsure : option_map asked_by durable.unsure ≡ option_map asked_in (halted_in durable.history)
   pub within : length durable.history ≤ durable.limit
 
--- the grants since the opening, and behind them the one whose writing failed
+-- the grants since the opening, and after them the one whose writing failed
 abbrev pub grants_since : {D : Type 0} → DurableState D → List Grant
 grants_since durable = durable.added ++ option_to_list durable.unsure
 
@@ -50,16 +51,12 @@ StandsNow durable file = StandsFor file durable.text (durable.opening ++ durable
 abbrev pub StandsThen : {D : Type 0} → DurableState D → DurableState D → List ℕ → Type 0
 StandsThen old new file = StandsNow old file ⊎ StandsNow new file
 
--- the file stands for these grants, and some first ones of those since
-abbrev pub StandsForFirst : List ℕ → List Grant → List Grant → List ℕ → Type 0
-StandsForFirst text opening since file = (n : ℕ) × StandsFor file text (opening ++ take n since)
-
--- the file stands for the grants of the opening and the first ones since
+-- the file stands for the grants of the opening and a prefix of those since
 abbrev pub StandsBetween : {D : Type 0} → DurableState D → List ℕ → Type 0
-StandsBetween durable file = StandsForFirst durable.text durable.opening (grants_since durable) file
+StandsBetween durable file = StandsForPrefix durable.text durable.opening (grants_since durable) file
 
 -- The disk tells where it told. Its count rose exactly where a writing failed. What it reads as and what a crash now may leave stand for
--- all that was granted. It was only read until it was found; and each image at each moment since then stands for a first part of what was
+-- all that was granted. It was only read until it was found; and each image at each moment since then stands for a prefix of what was
 -- granted.
 pub record KeepsDisk {D : Type 0} (reads_as : D → Option (List ℕ)) (may_leave : D → List ℕ → Type 0) (moment : D → ℕ)
     (left_since : D → ℕ → List ℕ → Type 0) (faults : D → ℕ) (durable : DurableState D) : Type 0 where
@@ -70,7 +67,7 @@ pub record KeepsDisk {D : Type 0} (reads_as : D → Option (List ℕ)) (may_leav
   pub read : OnlyReads reads_as may_leave moment left_since durable.entry durable.found
   pub any_moment : IfSome (reads_as durable.disk) (λ _. LeavesOnly moment left_since durable.found durable.disk (StandsBetween durable))
 
--- The badges have the two earlier disks, the core stands behind the history, the journal runs until a writing fails, and no shelf gets
+-- The badges have the two earlier disks, the core stands after the history, the journal runs until a writing fails, and no shelf gets
 -- full.
 pub record KeepsParts {D : Type 0} (durable : DurableState D) (entry found : Badge D) (core : CoreState) (journal : JournalState D)
     (history_spare added_spare : ℕ) : Type 0 where

@@ -6,6 +6,6 @@ pub mod Kept
 pub mod Made
 pub mod Moments
 pub mod Openings
-pub mod Replayed
 pub mod Reserved
 pub mod Restored
+pub mod Clauses

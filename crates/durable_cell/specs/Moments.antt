@@ -12,7 +12,7 @@ use Rattle.durable_cell.specs.Kept.{KeepsDisk, StandsBetween}
 
 module _ {D : Type 0} (reads_as : D → Option (List ℕ)) (may_leave : D → List ℕ → Type 0) (moment : D → ℕ)
     (left_since : D → ℕ → List ℕ → Type 0) (faults : D → ℕ) where
-  -- each image was one of then, or stands for a first part of what was granted
+  -- each image was one of then, or stands for a prefix of what was granted
   pub since_entry : (durable : DurableState D) → KeepsDisk reads_as may_leave moment left_since faults durable
       → IfSome (reads_as durable.disk) (λ _. LeavesOnly moment left_since durable.entry durable.disk
       (λ file. may_leave durable.entry file ⊎ StandsBetween durable file))
@@ -25,7 +25,7 @@ module _ {D : Type 0} (reads_as : D → Option (List ℕ)) (may_leave : D → Li
       P : List ℕ → Type 0
       P file = may_leave durable.entry file ⊎ StandsBetween durable file
 
-  -- so where each image of then stood for the grants of the opening, each image since stands for a first part of what was granted
+  -- so where each image of then stood for the grants of the opening, each image since stands for a prefix of what was granted
   pub since_entry_stood : (durable : DurableState D) → KeepsDisk reads_as may_leave moment left_since faults durable
       → ((c : List ℕ) → may_leave durable.entry c → StandsFor c durable.text durable.opening)
       → IfSome (reads_as durable.disk) (λ _. LeavesOnly moment left_since durable.entry durable.disk (StandsBetween durable))

@@ -40,7 +40,7 @@ IsAnswer (Refused disk why) opened = opened ≡ Err why
 IsAnswer (Device disk) opened = ⊤
 IsAnswer (Memory disk) opened = ⊤
 
--- what is opened stands behind these grants, and the disk is not refused
+-- what is opened stands after these grants, and the disk is not refused
 abbrev pub IsFound : {D : Type 0} → List Grant → Opening D → Type 0
 IsFound grants (Open durable) = durable.opening ≡ grants
 IsFound grants (Refused disk why) = ⊥

@@ -14,7 +14,7 @@ use Rattle.durable_cell.specs.declared.stored.Stored.{Stored}
 use Rattle.durable_cell.specs.declared.stored.Stored.TheVariants as stored
 use Rattle.durable_cell.specs.declared.restored.Restored.{Restored}
 use Rattle.durable_cell.specs.declared.restored.Restored.TheVariants.{Open, Refused, Device, Memory}
-use Rattle.durable_cell.specs.Replayed.{AreDue, replayed}
+use Rattle.shift_recovery.specs.Replayed.{AreDue, replayed}
 
 -- the disk, with a journal or without
 abbrev pub disk_stored : {D : Type 0} → Stored D → D
@@ -42,7 +42,7 @@ IsFound grants (Refused disk why) = ⊥
 IsFound grants (Device disk) = ⊤
 IsFound grants (Memory disk) = ⊤
 
--- the core stands behind the grants: they fit the cell, each is granted in its turn, and there is room for them
+-- the core stands after the grants: they fit the cell, each is granted in its turn, and there is room for them
 pub record IsCore (cell : Cell) (room : ℕ) (core : CoreState) (grants : List Grant) : Type 0 where
   pub state : core ≡ record { cell = cell; parts = replay cell grants }
   pub due : AreDue cell grants

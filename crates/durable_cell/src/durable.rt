@@ -1,19 +1,11 @@
 //! The durable cell.
 ghost use Rattle.std.specs.Prelude.{◌≡◌, ◌≤◌, ℕ, List as Sequence, Some, length, IfOk, IfSome};
-ghost use Rattle.cell_base.specs.declared.shifts.Grant.{Grant};
-ghost use Rattle.cell_base.specs.Fits.{CellFits, RequestFits};
-ghost use Rattle.cell_base.specs.Histories.{IsLegal};
-ghost use Rattle.cell_base.specs.Outcomes.{reply_to};
-ghost use Rattle.cell_base.specs.Policy.{IsAdmitted};
-ghost use Rattle.cell_base.specs.declared.requests.Reply.TheVariants.{Granted};
-ghost use Rattle.move_journal.specs.Journals.{StandsFor};
+ghost use Rattle.durable_cell.specs.Clauses.{AreDue, CellFits, Grant, Granted, IsAdmitted, IsLegal, IsReserved, RequestFits, StandsFor};
+ghost use Rattle.durable_cell.specs.Clauses.{first_parts, opened_as, parts, reply_to};
 ghost use Rattle.durable_cell.specs.Acknowledged.{HasSince, MovesSafely};
 ghost use Rattle.durable_cell.specs.Asked.{Answers, GoesOn, HasAskCause, WritesGrants, entry};
-ghost use Rattle.durable_cell.specs.DurableState.{first_parts, parts};
 ghost use Rattle.durable_cell.specs.Kept.{KeepsHistory, KeepsDisk};
-ghost use Rattle.durable_cell.specs.Reserved.{IsReserved};
 ghost use Rattle.durable_cell.specs.Openings.{IsNew, IsAnswer, IsFound, HasCause, Leaves};
-ghost use Rattle.durable_cell.specs.Replayed.{AreDue, opened_as};
 
 use crate::marks::mark_of;
 use crate::{AskFault, Finished, MAX_ROOM, Opening, Restored, restore};
@@ -81,7 +73,7 @@ fn reserve<D: Disk>(
 }
 
 impl<D: Disk> Durable<D> {
-    /// The cell behind the grants that stand on a disk with this cell text, if there are at most `room` of them. At most `limit`
+    /// The cell after the grants that stand on a disk with this cell text, if there are at most `room` of them. At most `limit`
     /// requests may be decided. A disk that holds no journal gets one of no grants, as the last step.
     pub fn open(
         alloc: Global,
@@ -233,7 +225,7 @@ impl<D: Disk> Durable<D> {
         self.history.len()
     }
 
-    /// The core, behind the history.
+    /// The core, after the history.
     pub fn core(&self) -> &Core
         ensures core { result.now ≡ record { cell = self.now.cell; parts = parts self.now } }
         ensures admitted { IsAdmitted self.now.cell (parts self.now) }

@@ -1,20 +1,22 @@
 //! A cell whose grants are on a disk: the core and the journal in one type, so that neither is ahead of the other.
 //!
-//! ```text
-//! let mut durable = match Durable::open(alloc, cell, cell_text, disk, room, limit) {
-//!     Opening::Open(durable) => durable,         // behind the grants that stand on the disk
-//!     Opening::Refused { disk, why } => ..,      // the file is damaged, of another cell, or of another program
-//!     Opening::Device { disk } => ..,
-//!     Opening::Memory { disk } => ..,
-//! };
-//! let reply = durable.ask(shift, session, &request)?;   // a grant is stable before it is answered
-//! let Finished { disk, core, history, after } = durable.finish();
+//! ```rust
+//! match Durable::open(alloc, cell, b"cell", disk, 8, 5) {
+//!     Opening::Open(durable) => Ok(durable),         // after the grants that stand on the disk
+//!     Opening::Refused { .. } => Err(Fail::from("no journal of this cell")),
+//!     Opening::Device { .. } => Err(Fail::from("the device failed")),
+//!     Opening::Memory { .. } => Err(Fail::from("no memory")),
+//! }
+//! // for each request, of a session in a shift
+//! let reply = durable.ask(1, 2, request);            // a grant is stable before it is answered
+//! // in the end
+//! let finished = durable.finish();                   // the disk, the core, the history and the grants
 //! ```
 //!
 //! `open` recovers what stands on the disk, replays it, takes all memory, and last makes a journal where there is none. `ask`
 //! decides a request by the core; a request that is granted is written to the journal, and only then is it applied and
 //! answered. So whatever moment a crash comes at, from the one at which the disk was found, what it leaves stands for the
-//! grants of the opening and the first ones since, and each grant that was answered is among them; `open` finds these again.
+//! grants of the opening and a prefix of those since, and each grant that was answered is among them; `open` finds these again.
 //! Where nothing is granted the disk is not touched. Where the writing fails the history ends with a halt: nobody knows whether
 //! that one grant is on the disk, the core goes on without it, and every later `ask` is answered `Halted`, until the disk is
 //! opened again.

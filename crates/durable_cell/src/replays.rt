@@ -1,7 +1,7 @@
 //! The replay of a journal's grants.
 ghost use Rattle.std.specs.Prelude.{◌≡◌, ◌≤◌, [], length, Ok, Err, OnOk, MatchResult};
 ghost use Rattle.cell_base.specs.Histories.{replay};
-ghost use Rattle.durable_cell.specs.Replayed.{is_due, AreDue, replayed};
+ghost use Rattle.shift_recovery.specs.Replayed.{is_due, AreDue, replayed};
 
 use admission_core::Core;
 use cell_base::{Grant, Reply, Request, request_fits};
@@ -11,7 +11,7 @@ use shift_recovery::JournalFault;
 /// The most grants of a journal for which there may be room, and the most entries of a history.
 pub const MAX_ROOM: u64 = 2_097_152;
 
-/// Brings a core from the empty state to the one behind the grants of a journal with this cell text. The first grant that does
+/// Brings a core from the empty state to the one after the grants of a journal with this cell text. The first grant that does
 /// not fit the cell, or is not granted in its turn, is damage at its gate; what the core then holds is not to be used.
 pub fn replay(core: &mut Core, cell_text: &[u8], grants: &[Grant]) -> Result<(), JournalFault>
     requires empty { core.old.parts ≡ [] }

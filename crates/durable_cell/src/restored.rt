@@ -4,7 +4,7 @@ ghost use Rattle.cell_base.specs.declared.shifts.Grant.{Grant};
 ghost use Rattle.cell_base.specs.Fits.{CellFits};
 ghost use Rattle.move_journal.specs.Journals.{StandsFor};
 ghost use Rattle.shift_recovery.specs.Reads.{OnlyReads};
-ghost use Rattle.durable_cell.specs.Replayed.{AreDue, opened_as};
+ghost use Rattle.shift_recovery.specs.Replayed.{AreDue, opened_as};
 ghost use Rattle.durable_cell.specs.Restored.{disk_of, IsAnswer, IsFound, HasCore, Holds, HasRestoringCause, IsReplay};
 
 use crate::{MAX_ROOM, Stored, replay};
@@ -18,7 +18,7 @@ use std::alloc::Global;
 /// What a disk restores.
 #[derive(Drop)]
 pub enum Restored<D: Disk> {
-    /// A core in the state behind these grants. A disk that holds no journal has none.
+    /// A core in the state after these grants. A disk that holds no journal has none.
     Open {
         core: Core,
         stored: Stored<D>,

@@ -38,7 +38,7 @@ impl<D: Disk> Stored<D> {
     }
 
     /// The journal; where there is none, one of no grants is made. An `Err` hands the disk back; the device failed.
-    pub(crate) fn into_journal(self, cell_text: &[u8]) -> Result<Journal<D>, D>
+    pub fn into_journal(self, cell_text: &[u8]) -> Result<Journal<D>, D>
         requires { length cell_text.now ≤ MAX_CELL_TEXT }
         ensures { (grants : Sequence Grant) → IsStored D.reads_as D.may_leave cell_text.now grants self
             → IsMade D.reads_as D.may_leave D.moment D.left_since D.faults (disk_stored self) cell_text.now grants result }

@@ -1,10 +1,8 @@
 //! What no clause says: that memory is had, and that a durable cell may go to another thread. The cell has one machine.
 use crate::{AskFault, Durable, Opening};
-use cell_base::{
-    Cell, JobId, JobType, List, Name, Refusal, Reply, Request, ResId, Resource, Step, TypeId,
-    cell_fits, request_fits,
-};
+use cell_base::{JobId, List, Refusal, Reply, Request, ResId, TypeId, cell_fits, request_fits};
 use outside_io::{CallKind, Disk, DiskCall, MemDisk};
+use small_cells::cell_of_one;
 use std::alloc::Global;
 use std::test::Fail;
 
@@ -54,25 +52,6 @@ fn sent<D: Disk + Send>(durable: Durable<D>) -> Durable<D> {
     may_be_sent(durable)
 }
 
-/// A machine of one unit, and a type whose route is that machine.
-fn cell_of_one(alloc: Global) -> Result<Cell, Fail> {
-    let (mut resources, mut types) = (List::new(alloc), List::new(alloc));
-    let (mut route, mut next) = (List::new(alloc), List::new(alloc));
-    let (on, works) = (ResId(0), true);
-    route.try_push(Step { on, works })?;
-    next.try_push(List::new(alloc))?;
-    let name = Name::read(b"A").ok_or("a name")?;
-    types.try_push(JobType { name, route, next })?;
-    let name = Name::read(b"M1").ok_or("a name")?;
-    let (capacity, order) = (1, 1);
-    resources.try_push(Resource {
-        name,
-        capacity,
-        order,
-    })?;
-    Ok(Cell { resources, types })
-}
-
 fn opened(alloc: Global, disk: MemDisk) -> Result<Durable<MemDisk>, Fail> {
     let cell = cell_of_one(alloc)?;
     if !cell_fits(&cell) {
@@ -80,14 +59,19 @@ fn opened(alloc: Global, disk: MemDisk) -> Result<Durable<MemDisk>, Fail> {
     }
     match Durable::open(alloc, cell, b"cell", disk, 8, 5) {
         Opening::Open(durable) => Ok(durable),
-        _ => Err(Fail::from("not opened")),
+        Opening::Refused { .. } => Err(Fail::from("no journal of this cell")),
+        Opening::Device { .. } => Err(Fail::from("the device failed")),
+        Opening::Memory { .. } => Err(Fail::from("no memory")),
     }
 }
 
 fn answers_as_listed(durable: &mut Durable<MemDisk>, asks: &[(Request, Answer)]) -> bool {
     for (request, answer) in asks {
-        let fits = request_fits(durable.core().cell(), request);
-        if !fits || durable.ask(1, 2, request) != *answer {
+        if !request_fits(durable.core().cell(), request) {
+            return false;
+        }
+        let reply = durable.ask(1, 2, request);
+        if reply != *answer {
             return false;
         }
     }

@@ -1,4 +1,5 @@
 -- Lemmas, grouped by subject.
+mod Between
 pub mod Fields
 pub mod ReadBack
 mod Rows

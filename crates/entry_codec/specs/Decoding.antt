@@ -1,5 +1,6 @@
 -- The grant of which bytes are the record.
-use Rattle.std.specs.Prelude.{ℕ, ◌+◌, ◌==◌, Bool, ◌&&◌, if◌then◌else◌, nat_eq, Option, Some, None, option_and_then, List, [], ◌∷◌, slice_index}
+use Rattle.std.specs.Prelude.{ℕ, ◌+◌, ◌==◌, Bool, ◌&&◌, if◌then◌else◌, nat_eq, Option}
+use Rattle.std.specs.Prelude.{Some, None, option_and_then, List, [], ◌∷◌, slice_index}
 use Rattle.std.specs.Int.{from_be_bytes, w16, w32}
 use lib.Pointwise.{pointwise}
 use Rattle.cell_base.specs.declared.requests.JobId.{JobId}

@@ -1,14 +1,13 @@
 //! A record read as a grant. The table of a record's bytes stands at the head of `encoder`.
 //!
-//! The numbers are read at their offsets, and the bytes are then compared with the record of the grant that they
-//! make: so nothing but its one record is read as a grant.
-ghost use Rattle.std.specs.Prelude.{◌≡◌, ◌≢◌, ◌≤◌, IfSome, IfNone};
+//! The numbers are read at their offsets, and the bytes between them are tested to be those of a record: so nothing but
+//! its one record is read as a grant.
+ghost use Rattle.std.specs.Prelude.{◌≡◌, ◌≢◌, ◌≤◌, ◌&&◌, nat_eq, slice_index, Some, IfSome, IfNone};
 ghost use Rattle.cell_base.specs.declared.shifts.Grant.{Grant};
-ghost use Rattle.entry_codec.specs.Records.{record_of, request_has_record, HasRecord, IsInRange};
+ghost use Rattle.entry_codec.specs.Records.{record_of, HasRecord, IsInRange};
 ghost use Rattle.entry_codec.specs.Decoding as spec;
-ghost use Rattle.entry_codec.specs.Decoding.{grant_of};
+ghost use Rattle.entry_codec.specs.Decoding.{grant_of, grant_with, is_record_of};
 
-use crate::encoder::record_for;
 use cell_base::{Grant, JobId, MAX_BRANCHES, Request, ResId, TypeId};
 
 /// The grant whose record the bytes are; none where they are no record.
@@ -21,13 +20,12 @@ pub fn decode(bytes: &[u8; 16]) -> Option<Grant>
         → bytes.now ≢ record_of grant) }
 {
     let request = request_in(bytes)?;
-    let grant = Grant {
-        shift: number_4(bytes, 4),
-        session: number_2(bytes, 2),
-        request,
-    };
-    if has_record(&grant.request) && record_for(grant) == *bytes {
-        Some(grant)
+    if is_record(bytes, &request) {
+        Some(Grant {
+            shift: number_4(bytes, 4),
+            session: number_2(bytes, 2),
+            request,
+        })
     } else {
         None
     }
@@ -59,14 +57,26 @@ fn request_in(bytes: &[u8; 16]) -> Option<Request>
     }
 }
 
-// Whether grants of the request have a record.
-fn has_record(request: &Request) -> bool
-    ensures { result ≡ request_has_record request.now }
+// Whether the bytes are the record of a grant of the request that stands in them: its branch is one, and the bytes in which no
+// number stands are those of its kind.
+fn is_record(bytes: &[u8; 16], request: &Request) -> bool
+    requires { spec.request_in bytes.now ≡ Some request.now }
+    ensures { result ≡ is_record_of (grant_with bytes.now request.now) bytes.now }
 {
     match *request {
-        Request::Move { branch, .. } => u64::from(branch) < MAX_BRANCHES,
-        _ => true,
+        Request::Load { .. } => is_plain(bytes),
+        Request::Process { .. } => is_plain(bytes) && number_4(bytes, 8) == 0,
+        Request::Move { branch, .. } => u64::from(branch) < MAX_BRANCHES && is_plain(bytes),
+        Request::Unload { .. } => is_plain(bytes) && number_2(bytes, 14) == 0,
+        Request::Place { .. } => bytes[1] <= 1,
     }
+}
+
+// Whether there is neither a flag nor more than one number after the job.
+fn is_plain(bytes: &[u8; 16]) -> bool
+    ensures { result ≡ (nat_eq (slice_index bytes.now 1) 0 && nat_eq (spec.number_2 bytes.now 12) 0) }
+{
+    bytes[1] == 0 && number_2(bytes, 12) == 0
 }
 
 fn number_2(bytes: &[u8; 16], at: usize) -> u16

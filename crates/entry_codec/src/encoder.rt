@@ -29,7 +29,7 @@ pub fn encode(grant: &Grant) -> [u8; 16]
     record_for(*grant)
 }
 
-pub(crate) fn record_for(grant: Grant) -> [u8; 16]
+fn record_for(grant: Grant) -> [u8; 16]
     ensures record { result ≡ record_of grant }
     ensures in_range { IsInRange grant }
 {

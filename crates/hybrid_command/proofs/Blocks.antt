@@ -1,4 +1,4 @@
--- A history with the lines behind it is a block.
+-- A history with the lines after it is a block.
 use Rattle.std.proofs.Common.{◌≡◌, ℕ, List, ◌++◌, refl}
 use Rattle.cell_base.specs.declared.cells.Cell.{Cell}
 use Rattle.cell_base.specs.declared.requests.Request.{Request}

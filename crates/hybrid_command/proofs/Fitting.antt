@@ -5,7 +5,8 @@ use Rattle.cell_base.specs.declared.cells.Cell.{Cell}
 use Rattle.cell_base.specs.declared.requests.Part.{Part}
 use Rattle.cell_base.specs.declared.requests.Request.{Request}
 use Rattle.cell_base.specs.declared.requests.Refusal.{Refusal}
-use Rattle.cell_base.specs.declared.requests.Refusal.TheVariants.{JobLoaded, NoSuchJob, NotProcessed, AtLast, NotLast, Idle, Saturated, NoBranch}
+use Rattle.cell_base.specs.declared.requests.Refusal.TheVariants.{JobLoaded, NoSuchJob, NotProcessed, AtLast}
+use Rattle.cell_base.specs.declared.requests.Refusal.TheVariants.{NotLast, Idle, Saturated, NoBranch}
 use Rattle.cell_base.specs.declared.requests.Told.TheVariants.{Answered}
 use Rattle.cell_base.specs.Fits.{CellFits, RequestFits}
 use Rattle.policy_laws.proofs.States.{IsAdmitted-empty}

@@ -1,4 +1,4 @@
--- The first step of a plan, and the plan behind it.
+-- The first step of a plan, and the plan after it.
 use Rattle.std.proofs.Common.{◌≡◌, suc, ◌+◌, Bool, true, false, not, cond, Option, Some, None, List, ◌∷◌, refl, ap, subst, ◌∙◌, arith}
 use Rattle.std.specs.Option.{option_map}
 use Rattle.std.proofs.lemmas.Option.{none-some, same_Some}
@@ -9,7 +9,7 @@ use Rattle.cell_base.specs.declared.requests.Request.{Request}
 use Rattle.cell_base.specs.declared.requests.Request.TheVariants.{Process, Move, Unload}
 use Rattle.cell_base.specs.Stages.{is_last, stage_of}
 use Rattle.cell_base.specs.Fits.{RequestFits}
-use Rattle.cell_base.specs.Plans.{next_part, place_of, step_of, work}
+use Rattle.cell_base.specs.Plans.{next_part, resource_of_part, step_of, work}
 use Rattle.cell_base.specs.Policy.{is_admitted}
 use Rattle.step_text.specs.Steps.{IsStep}
 use Rattle.banker_check.specs.Hybrid.{state_after_h}
@@ -32,7 +32,7 @@ module _ (cell : Cell) (parts : List Part) (step : Request) (is : plan_h cell pa
   step_of-onward part = on part.done (is_last cell (stage_of part))
     where
       on : (done last : Bool)
-          → Onward (cond (not done) (Process (record { 0 = place_of cell part })) (cond last (Unload part.job) (Move part.job 0)))
+          → Onward (cond (not done) (Process (record { 0 = resource_of_part cell part })) (cond last (Unload part.job) (Move part.job 0)))
       on false last fits = fits
       on true true fits = fits
       on true false fits = fits
@@ -45,7 +45,8 @@ module _ (cell : Cell) (parts : List Part) (step : Request) (is : plan_h cell pa
   is_step = at (is_admitted cell parts) is
     where
       at : (b : Bool)
-          → cond b (option_map (step_of cell) (next_part cell parts)) (option_map (step_of cell) (find (goes_first cell parts) parts)) ≡ Some step
+          → cond b (option_map (step_of cell) (next_part cell parts))
+          (option_map (step_of cell) (find (goes_first cell parts) parts)) ≡ Some step
           → Onward step
       at true e = of_part (next_part cell parts) e
       at false e = of_part (find (goes_first cell parts) parts) e

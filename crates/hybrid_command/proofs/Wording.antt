@@ -7,7 +7,7 @@ use Rattle.record_text.specs.Lines.{line_of}
 use Rattle.record_text.specs.Spaced.{spaced}
 use Rattle.record_text.proofs.Appending.{joined-append}
 
--- words behind a space
+-- words after a space
 spaced-joined : (word : List ℕ) (words : List (List ℕ)) → spaced (word ∷ words) ≡ 32 ∷ joined (word ∷ words)
 spaced-joined word words = ap (λ bytes. 32 ∷ bytes) (sym (joined-append word [] words))
 

@@ -18,9 +18,9 @@ pub record IsHybridRecord (cell : Cell) (shift : Shift) (lines : List (List ℕ)
   pub history : List HybridEntry
   pub rounds : IsHybridRoundRobin cell [] shift history
   pub kept : IsHybrid cell (after_h cell [] history)
-  pub drains : let behind = after_h cell [] history in DrainsHybrid cell behind (plan_h_of cell behind)
-  pub printed : let behind = after_h cell [] history in
-      lines ≡ hybrid_block cell shift.number history (length behind) (plan_h_of cell behind)
+  pub drains : let left = after_h cell [] history in DrainsHybrid cell left (plan_h_of cell left)
+  pub printed : let left = after_h cell [] history in
+      lines ≡ hybrid_block cell shift.number history (length left) (plan_h_of cell left)
 
 -- that record is printed
 abbrev pub IsHybridShift : Cell → Shift → Outcome → Type 0

@@ -41,8 +41,8 @@ unfoldable pub hybrid_block : Cell → ℕ → List HybridEntry → ℕ → List
 hybrid_block cell shift history left plan = history_lines cell shift history ++ left_lines cell left plan
 
 -- the number of the parts that a hybrid holds, and their plan
-abbrev pub left_of : HybridState → Lines
-left_of hybrid = left_lines hybrid.cell (length hybrid.parts) (plan_h_of hybrid.cell hybrid.parts)
+abbrev pub left_in_hybrid : HybridState → Lines
+left_in_hybrid hybrid = left_lines hybrid.cell (length hybrid.parts) (plan_h_of hybrid.cell hybrid.parts)
 
 -- a block of the parts that a hybrid holds, and of their plan
 abbrev pub block_of : HybridState → ℕ → List HybridEntry → Lines

@@ -11,7 +11,7 @@ use cell_texts::{CommandEnd, read_cell, read_shift};
 use cell_walks::{EarlyEnd, Status, finish_early};
 use hybrid_rounds::{HybridEntry, ask_in_rounds};
 use outside_io::{Disk, Files, Sink};
-use shift_commands::steps_of;
+use solo_rounds::steps_of;
 use std::alloc::Global;
 
 /// Runs `hybrid CELL SHIFT`. All memory is taken before the first session asks.

@@ -1,7 +1,8 @@
 //! A hybrid's lines on their way to the sink, each one `put`. No memory is taken.
-ghost use Rattle.std.specs.Prelude.{◌≡◌, [], ◌∷◌, map, OnOk, OnErr};
+ghost use Rattle.std.specs.Prelude.{[], ◌∷◌, map, OnOk, OnErr};
 ghost use Rattle.cell_walks.specs.Clauses.{HasCause, TookAll, TookSome, sink_told};
-ghost use Rattle.hybrid_command.specs.Clauses.{EntryFits, HistoryFits, block_of, entry_line, history_lines, left_of, plan_h_of, plan_lines, step_line, taken};
+ghost use Rattle.hybrid_command.specs.Clauses.{EntryFits, HistoryFits, block_of, entry_line, history_lines};
+ghost use Rattle.hybrid_command.specs.Clauses.{left_in_hybrid, plan_h_of, plan_lines, step_line, taken};
 
 use crate::lines::entry_line;
 use crate::planning::take_step;
@@ -83,8 +84,8 @@ fn print_entry<K: Sink>(out: &mut K, cell: &Cell, entry: &HybridEntry) -> Result
 
 // Puts the number of the parts that are left, and their plan.
 fn print_left<K: Sink>(out: &mut K, hybrid: &mut Hybrid) -> Result<(), Failed>
-    ensures whole { OnOk result (TookAll (sink_told K.taken K.was_put K.faults out.old out.new) (left_of hybrid.old)) }
-    ensures part { OnErr result (TookSome (sink_told K.taken K.was_put K.faults out.old out.new) (left_of hybrid.old)) }
+    ensures whole { OnOk result (TookAll (sink_told K.taken K.was_put K.faults out.old out.new) (left_in_hybrid hybrid.old)) }
+    ensures part { OnErr result (TookSome (sink_told K.taken K.was_put K.faults out.old out.new) (left_in_hybrid hybrid.old)) }
     ensures cause { HasCause (K.faults out.old) (K.faults out.new) result }
 {
     if let Err(failed) = print_line(out, &left_line(hybrid.parts_left())) {

@@ -1,4 +1,4 @@
--- Histories of requests that a hybrid decided, and the state behind them.
+-- Histories of requests that a hybrid decided, and the state after them.
 use Rattle.std.specs.Prelude.{◌≡◌, List, [], ◌∷◌, map, ⊤}
 use Rattle.cell_base.specs.declared.cells.Cell.{Cell}
 use Rattle.cell_base.specs.declared.requests.Part.{Part}
@@ -12,7 +12,7 @@ use Rattle.banker_check.specs.declared.replies.HybridReply.TheVariants.{Granted,
 use Rattle.banker_check.specs.Hybrid.{reply_h, state_after_h}
 use Rattle.hybrid_rounds.specs.declared.entries.HybridEntry.{HybridEntry}
 
--- the state behind a history
+-- the state after a history
 abbrev pub after_h : Cell → List Part → List HybridEntry → List Part
 after_h cell parts [] = parts
 after_h cell parts (entry ∷ entries) = after_h cell (state_after_h cell parts entry.request) entries

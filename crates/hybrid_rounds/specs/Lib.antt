@@ -1,3 +1,4 @@
+pub mod Clauses
 pub mod Histories
 pub mod Rounds
 pub mod Underway

@@ -1,16 +1,14 @@
 -- Rounds over a hybrid that are under way.
-use Rattle.std.specs.Prelude.{◌≡◌, ℕ, ◌+◌, ◌<◌, false, Some, List, [], ◌∷◌, ◌++◌, length, slice_get}
-use Rattle.std.specs.List.{All, AllPairs}
+use Rattle.std.specs.Prelude.{◌≡◌, ℕ, Some, List, [], ◌∷◌, ◌++◌, slice_get}
+use Rattle.std.specs.List.{All}
 use Rattle.cell_base.specs.declared.cells.Cell.{Cell}
 use Rattle.cell_base.specs.declared.requests.Part.{Part}
 use Rattle.cell_base.specs.declared.requests.Request.{Request}
 use Rattle.cell_base.specs.declared.requests.Told.TheVariants.{Answered}
-use Rattle.cell_base.specs.declared.shifts.Entry.{Entry}
 use Rattle.cell_base.specs.declared.shifts.Shift.{Shift}
 use Rattle.cell_base.specs.Fits.{RequestFits}
-use Rattle.cell_base.specs.Rounds.{IsSession, Precedes, turns_behind}
-use Rattle.cell_base.specs.Scripts.{Progress, holds_halt, progress_after}
-use Rattle.cell_sessions.specs.Underway.{IsAt}
+use Rattle.cell_base.specs.Scripts.{Progress, progress_after}
+use Rattle.solo_rounds.specs.Underway.{AreUnderway}
 use Rattle.banker_check.specs.Hybrid.{reply_h, state_after_h}
 use Rattle.banker_check.specs.HybridState.{HybridState}
 use Rattle.hybrid_rounds.specs.declared.entries.HybridEntry.{HybridEntry}
@@ -24,14 +22,6 @@ pub record AsksHybrid (old new : HybridState) (session : ℕ) (script : List Req
   pub entry : later ≡ before ++ record { session = session; request = request; told = reply_h old.cell old.parts request } ∷ []
   pub state : new ≡ record old { parts = state_after_h old.cell old.parts request }
   pub goes_on : next ≡ progress_after at (Answered (taken_reply (reply_h old.cell old.parts request)))
-
--- the entries of rounds that bring the sessions where they stand, of which the first `done` have had their asks of this turn
-pub record AreUnderway (shift : Shift) (entries : List Entry) (progress : List Progress) (turn done : ℕ) : Type 0 where
-  pub unhalted : holds_halt entries ≡ false
-  pub each : (k : ℕ) → k < length shift.scripts → IsAt shift entries progress turn done k
-  pub sessions : All (λ entry. IsSession shift entry.session) entries
-  pub rising : AllPairs Precedes (turns_behind [] entries)
-  pub earlier : All (λ t. Precedes t (record { turn = turn; session = done + 1 })) (turns_behind [] entries)
 
 -- a history of rounds from the parts `start` to the parts `now`
 pub record IsUnderway (shift : Shift) (cell : Cell) (start now : List Part) (history : List HybridEntry)

@@ -1,19 +1,14 @@
 //! The rounds, and the turns in them.
 ghost use Rattle.std.specs.Prelude.{◌≡◌, ℕ, ◌+◌, ◌*◌, ◌<◌, ◌≤◌, List, [], length, All};
 ghost use Rattle.std.specs.Bool.{OnTrue, OnFalse};
-ghost use Rattle.cell_base.specs.declared.requests.Part.{Part};
-ghost use Rattle.cell_base.specs.declared.limits.TheConstants.{MAX_STEPS, MAX_PATIENCE};
-ghost use Rattle.cell_base.specs.Fits.{RequestFits, ShiftFits, steps_of};
-ghost use Rattle.cell_sessions.specs.Underway.{IsReady, HaveEnded, asks_left, HasEndedAt};
-ghost use Rattle.hybrid_rounds.specs.Histories.{after_h};
-ghost use Rattle.hybrid_rounds.specs.declared.entries.HybridEntry.{HybridEntry};
-ghost use Rattle.hybrid_rounds.specs.Rounds.{IsHybridRoundRobin};
-ghost use Rattle.hybrid_rounds.specs.Underway.{AsksHybrid, IsUnderway};
+ghost use Rattle.hybrid_rounds.specs.Clauses.{AsksHybrid, HasEndedAt, HaveEnded, HybridEntry, IsHybridRoundRobin, IsReady};
+ghost use Rattle.hybrid_rounds.specs.Clauses.{IsUnderway, MAX_PATIENCE, MAX_STEPS, Part, RequestFits, ShiftFits};
+ghost use Rattle.hybrid_rounds.specs.Clauses.{after_h, asks_left, steps_of};
 
 use crate::entries::{HybridEntry, taken_reply};
 use banker_check::Hybrid;
 use cell_base::{List, MAX_SESSIONS, Request, Shelf, Shift};
-use cell_sessions::Progress;
+use solo_rounds::Progress;
 
 const SESSIONS: usize = MAX_SESSIONS as usize;
 

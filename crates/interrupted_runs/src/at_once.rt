@@ -2,7 +2,7 @@
 //!
 //! Session 1 isn't let to its first ask before session 2 has come to its second one, and session 2 not to its second ask before session 1
 //! has come to its own. A body that ran one session after the other, in whatever order, would hold the first of them up to the limit of
-//! the pace. Behind the first two refusals nothing holds the sessions, so the other two stand in either order.
+//! the pace. After the first two refusals nothing holds the sessions, so the other two stand in either order.
 
 use crate::call::{blank_disk, run};
 use crate::held_pace::HeldPace;

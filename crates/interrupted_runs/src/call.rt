@@ -1,23 +1,30 @@
 //! A command of the controller, over objects in memory.
 
-use crate::sample::CELL;
 use anyhow::{Context, Result, bail};
 use cell_base::List;
 use cell_program::{Ended, cell_main};
 use outside_io::{DiskCall, FreePace, MemDisk, MemFiles, MemSink, Pace};
+use small_cells::CROSSING;
 use std::alloc::Global;
 use std::sync::Wait;
 use std::thread::Threads;
 
-/// How a command ended: its status, what it printed, and the disk behind it.
+/// How a command ended: its status, what it printed, and the disk after it.
 #[derive(Drop)]
-pub struct Told {
+pub struct CallEnd {
     pub status: u8,
     pub text: String,
     pub disk: MemDisk,
 }
 
-impl Told {
+impl CallEnd {
+    /// The end of a call that printed these bytes.
+    pub fn new(alloc: Global, ended: Ended<MemDisk>, printed: &[u8]) -> Result<CallEnd> {
+        let Ended { status, disk } = ended;
+        let text = String::from_utf8_lossy(alloc, printed)?;
+        Ok(CallEnd { status, text, disk })
+    }
+
     /// Ends with what was told in place of this.
     pub fn is_to_be(&self, status: u8, text: &str) -> Result<()> {
         if self.status != status || self.text.as_str() != text {
@@ -35,30 +42,66 @@ pub fn run<R: Threads + Wait + Sync, P: Pace + Sync>(
     shift: &str,
     disk: MemDisk,
     pace: &P,
-) -> Result<Told> {
+) -> Result<CallEnd> {
     call(
         rt,
         alloc,
         &["run", "cell", "file", "journal"],
-        shift,
+        shift.as_bytes(),
         disk,
         pace,
     )
 }
 
-/// Prints the plan behind a journal.
-pub fn plan<R: Threads + Wait + Sync>(rt: &R, alloc: Global, disk: MemDisk) -> Result<Told> {
-    call(rt, alloc, &["plan", "cell", "journal"], "", disk, &FreePace)
+/// Prints the plan after a journal.
+pub fn plan<R: Threads + Wait + Sync>(rt: &R, alloc: Global, disk: MemDisk) -> Result<CallEnd> {
+    call(
+        rt,
+        alloc,
+        &["plan", "cell", "journal"],
+        b"",
+        disk,
+        &FreePace,
+    )
+}
+
+/// Hands frames to a standby.
+pub fn follow<R: Threads + Wait + Sync>(
+    rt: &R,
+    alloc: Global,
+    frames: &[u8],
+    disk: MemDisk,
+) -> Result<CallEnd> {
+    call(
+        rt,
+        alloc,
+        &["follow", "cell", "file", "journal"],
+        frames,
+        disk,
+        &FreePace,
+    )
+}
+
+/// The frames of a journal's grants.
+pub fn feed<R: Threads + Wait + Sync>(rt: &R, alloc: Global, disk: MemDisk) -> Result<Vec<u8>> {
+    let words = owned(alloc, &["feed", "cell", "journal", "0"])?;
+    let mut files = files_with(alloc, b"")?;
+    let mut out = MemSink::new(alloc, List::new(alloc));
+    let Ended { status, .. } = cell_main(rt, alloc, &words, &mut files, &mut out, disk, &FreePace);
+    if status != 0 {
+        bail!("no frames, status {status}");
+    }
+    Ok(out.bytes().to_vec(alloc)?)
 }
 
 /// Judges a record.
-pub fn check<R: Threads + Wait + Sync>(rt: &R, alloc: Global, record: &str) -> Result<Told> {
+pub fn check<R: Threads + Wait + Sync>(rt: &R, alloc: Global, record: &str) -> Result<CallEnd> {
     let disk = blank_disk(alloc, List::new(alloc))?;
     call(
         rt,
         alloc,
         &["check", "cell", "file"],
-        record,
+        record.as_bytes(),
         disk,
         &FreePace,
     )
@@ -74,21 +117,20 @@ pub fn crash(alloc: Global, disk: &MemDisk, pick: u64) -> Result<MemDisk> {
     disk.crash(alloc, pick).ok().context("no memory")
 }
 
-// Calls the controller with these words. `cell` is the cell, and `file` is this text.
+// Calls the controller with these words. `cell` is the cell, and `file` has these bytes.
 fn call<R: Threads + Wait + Sync, P: Pace + Sync>(
     rt: &R,
     alloc: Global,
     words: &[&str],
-    file: &str,
+    file: &[u8],
     disk: MemDisk,
     pace: &P,
-) -> Result<Told> {
+) -> Result<CallEnd> {
     let words = owned(alloc, words)?;
     let mut files = files_with(alloc, file)?;
     let mut out = MemSink::new(alloc, List::new(alloc));
-    let Ended { status, disk } = cell_main(rt, alloc, &words, &mut files, &mut out, disk, pace);
-    let text = String::from_utf8_lossy(alloc, out.bytes())?;
-    Ok(Told { status, text, disk })
+    let ended = cell_main(rt, alloc, &words, &mut files, &mut out, disk, pace);
+    CallEnd::new(alloc, ended, out.bytes())
 }
 
 fn owned(alloc: Global, words: &[&str]) -> Result<Vec<String>> {
@@ -99,9 +141,10 @@ fn owned(alloc: Global, words: &[&str]) -> Result<Vec<String>> {
     Ok(owned)
 }
 
-fn files_with(alloc: Global, file: &str) -> Result<MemFiles> {
+/// The cell as `cell`, and these bytes as `file`.
+pub fn files_with(alloc: Global, file: &[u8]) -> Result<MemFiles> {
     let mut files = MemFiles::new(alloc, List::new(alloc));
-    if files.add("cell", CELL).is_err() || files.add("file", file.as_bytes()).is_err() {
+    if files.add("cell", CROSSING).is_err() || files.add("file", file).is_err() {
         bail!("no memory");
     }
     Ok(files)

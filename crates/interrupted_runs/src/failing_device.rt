@@ -1,9 +1,9 @@
 //! A device of which a sync fails within the second grant of a shift.
 //!
 //! The syncs of a run on a blank disk are the one of recovery, three that make the journal, and two a grant: the record
-//! behind its closed gate is made stable by the first, and the opened gate by the second.
+//! after its closed gate is made stable by the first, and the opened gate by the second.
 
-use crate::call::{Told, blank_disk, crash, plan, run};
+use crate::call::{CallEnd, blank_disk, crash, plan, run};
 use crate::sample::TWO_STEPS;
 use anyhow::{Context, Result, bail};
 use cell_base::List;
@@ -42,10 +42,10 @@ fn failing_disk(alloc: Global, nth: u64) -> Result<MemDisk> {
     blank_disk(alloc, fails)
 }
 
-fn count_crashes<R: Threads + Wait + Sync>(rt: &R, alloc: Global, told: &Told) -> Result<Left> {
+fn count_crashes<R: Threads + Wait + Sync>(rt: &R, alloc: Global, told: &CallEnd) -> Result<Left> {
     let mut left = Left { one: 0, two: 0 };
     for pick in 0..4u64 {
-        let grants = planned_behind(rt, alloc, crash(alloc, &told.disk, pick)?);
+        let grants = planned_after(rt, alloc, crash(alloc, &told.disk, pick)?);
         match grants.context(format_args!("image {pick}"))? {
             1 => left.one = left.one.wrapping_add(1),
             2 => left.two = left.two.wrapping_add(1),
@@ -55,8 +55,8 @@ fn count_crashes<R: Threads + Wait + Sync>(rt: &R, alloc: Global, told: &Told) -
     Ok(left)
 }
 
-// The number of grants behind which a plan is made for a disk.
-fn planned_behind<R: Threads + Wait + Sync>(rt: &R, alloc: Global, disk: MemDisk) -> Result<u64> {
+// The number of grants after which a plan is made for a disk.
+fn planned_after<R: Threads + Wait + Sync>(rt: &R, alloc: Global, disk: MemDisk) -> Result<u64> {
     let told = plan(rt, alloc, disk)?;
     let text = told.text.as_str();
     if told.status != 0 {

@@ -1,4 +1,4 @@
-//! Looks at the plan under a lock, on the empty cell and behind a load.
+//! Looks at the plan under a lock, on the empty cell and after a load.
 
 use crate::call::{blank_disk, run};
 use crate::sample::LOAD;
@@ -24,5 +24,5 @@ pub fn check_looks<R: Threads + Wait + Sync>(rt: &R, alloc: Global) -> Result<()
     check_look(rt, alloc, blank, None, LOAD_PART).context("on a blank disk")?;
     let blank = blank_disk(alloc, List::new(alloc))?;
     let loaded = run(rt, alloc, LOAD, blank, &FreePace)?;
-    check_look(rt, alloc, loaded.disk, Some(WORK), WORK).context("behind a load")
+    check_look(rt, alloc, loaded.disk, Some(WORK), WORK).context("after a load")
 }

@@ -1,25 +1,7 @@
-//! The cell, and the shifts that run on it.
+//! The shifts that run on the cell `CROSSING`.
 
 use anyhow::{Result, bail};
 use cell_base::{Grant, JobId, Request, ResId, TypeId};
-
-/// Two machines, and two types that go over them in both orders.
-pub const CELL: &[u8] = b"version = 1
-[[resource]]
-name = \"M1\"
-capacity = 1
-order = 1
-[[resource]]
-name = \"M2\"
-capacity = 1
-order = 2
-[[type]]
-name = \"A\"
-route = [\"M1\", \"M2\"]
-[[type]]
-name = \"Z\"
-route = [\"M2\", \"M1\"]
-";
 
 /// A shift that loads a part alone.
 pub const LOAD: &str = "version = 1
@@ -53,6 +35,15 @@ patience = 20
 steps = [\"load 7 A\", \"process M1\", \"move 7\", \"process M2\", \"unload 7\"]
 [[session]]
 steps = [\"load 8 Z\", \"process M2\", \"move 8\", \"process M1\", \"unload 8\"]
+";
+
+/// A shift of one session that takes two parts through the cell, one after the other, in ten steps.
+pub const TWO_PARTS: &str = "version = 1
+number = 1
+patience = 1
+[[session]]
+steps = [\"load 7 A\", \"process M1\", \"move 7\", \"process M2\", \"unload 7\",
+    \"load 8 Z\", \"process M2\", \"move 8\", \"process M1\", \"unload 8\"]
 ";
 
 /// A shift of two machines that find no part.
@@ -111,7 +102,7 @@ pub fn request_of(text: &str) -> Result<Request> {
     bail!("no step of these shifts: {text}")
 }
 
-/// Whether these are first grants of the one session.
+/// Whether these are a prefix of the one session's grants.
 pub fn are_first(grants: &[Grant]) -> bool {
     grants.len() <= 5
         && grants.iter().zip(&STEPS).all(|(grant, (_, request))| {

@@ -31,7 +31,7 @@ pub fn shown_in(alloc: Global, text: &str) -> Result<Shown> {
     };
     for line in text.lines() {
         if shown.halted.is_some() {
-            bail!("a line behind a halt: {line}");
+            bail!("a line after a halt: {line}");
         }
         if let Some(asked) = line.strip_suffix(" granted") {
             shown.granted.push(grant_of(asked)?)?;

@@ -1,6 +1,6 @@
 //! Runs on disks that stop after so many calls, and the runs that go on with what a crash leaves of them.
 
-use crate::call::{Told, blank_disk, check, crash, run};
+use crate::call::{CallEnd, blank_disk, check, crash, run};
 use crate::sample::are_first;
 use crate::shown::{Shown, shown_in};
 use crate::stored::grants_on;
@@ -75,7 +75,7 @@ fn stop_run<R: Threads + Wait + Sync>(
 }
 
 // What a run printed, which ended with status 0, by a halt, or before the first ask.
-fn shown_of(alloc: Global, stopped: Stopped, told: &Told) -> Result<Shown> {
+fn shown_of(alloc: Global, stopped: Stopped, told: &CallEnd) -> Result<Shown> {
     let (status, text) = (told.status, told.text.as_str());
     let shown = shown_in(alloc, text)?;
     let has_ended = match status {
@@ -89,19 +89,19 @@ fn shown_of(alloc: Global, stopped: Stopped, told: &Told) -> Result<Shown> {
     Ok(shown)
 }
 
-// The disk that a crash leaves has the grants that were shown, and the shift goes on behind them.
+// The disk that a crash leaves has the grants that were shown, and the shift goes on after them.
 fn check_crash<R: Threads + Wait + Sync>(
     rt: &R,
     alloc: Global,
     stopped: Stopped,
-    told: &Told,
+    told: &CallEnd,
     shown: &Shown,
     pick: u64,
 ) -> Result<()> {
     let grants = grants_on(alloc, crash(alloc, &told.disk, pick)?)?;
     if !shown.may_leave(grants.as_slice()) || stopped.is_alone && !are_first(grants.as_slice()) {
         let text = told.text.as_str();
-        bail!("{grants:?} behind\n{text}", grants = grants.as_slice());
+        bail!("{grants:?} after\n{text}", grants = grants.as_slice());
     }
     go_on(rt, alloc, stopped, told, crash(alloc, &told.disk, pick)?)
 }
@@ -111,7 +111,7 @@ fn go_on<R: Threads + Wait + Sync>(
     rt: &R,
     alloc: Global,
     stopped: Stopped,
-    first: &Told,
+    first: &CallEnd,
     disk: MemDisk,
 ) -> Result<()> {
     let again = run(rt, alloc, stopped.shift, disk, &FreePace)?;

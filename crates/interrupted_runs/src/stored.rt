@@ -1,10 +1,10 @@
 //! The grants that stand on a disk.
 
-use crate::sample::CELL;
 use anyhow::{Result, bail};
 use cell_base::{Grant, List};
 use outside_io::Disk;
 use shift_recovery::{Opened, recover};
+use small_cells::CROSSING;
 use std::alloc::Global;
 
 // More grants than any shift here has.
@@ -12,7 +12,7 @@ const ROOM: u64 = 100;
 
 /// Recovers a disk. One without a journal has no grants.
 pub fn grants_on<D: Disk + Drop>(alloc: Global, disk: D) -> Result<List<Grant>> {
-    match recover(alloc, disk, CELL, ROOM) {
+    match recover(alloc, disk, CROSSING, ROOM) {
         Opened::Fresh(_) => Ok(List::new(alloc)),
         Opened::Found { grants, .. } => Ok(grants),
         _ => bail!("neither blank nor a journal"),

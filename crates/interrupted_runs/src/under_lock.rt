@@ -3,13 +3,13 @@ ghost use Rattle.std.specs.Prelude.{◌≡◌, [], IfOk};
 ghost use Rattle.cell_base.specs.Fits.{RequestFits};
 ghost use Rattle.cell_lock.specs.Standing.{KeepsName, new_passes};
 
-use crate::sample::CELL;
 use anyhow::{Context, Result, bail};
 use cell_base::{Entry, List, Reply, Request, Told, request_fits};
 use cell_file::read_cell;
 use cell_lock::{Pass, SharedCell};
 use durable_cell::{AskFault, Durable, Opening};
 use outside_io::Disk;
+use small_cells::CROSSING;
 use std::alloc::Global;
 use std::sync::Wait;
 
@@ -33,10 +33,10 @@ pub fn check_look<R: Wait, D: Disk + Drop>(
 fn open<D: Disk + Drop>(alloc: Global, disk: D) -> Result<Durable<D>>
     ensures { IfOk result (λ durable. durable.history ≡ []) }
 {
-    let Ok(cell) = read_cell(alloc, CELL) else {
+    let Ok(cell) = read_cell(alloc, CROSSING) else {
         bail!("no cell");
     };
-    match Durable::open(alloc, cell, CELL, disk, 10, 10) {
+    match Durable::open(alloc, cell, CROSSING, disk, 10, 10) {
         Opening::Open(durable) => Ok(durable),
         _ => bail!("not opened"),
     }

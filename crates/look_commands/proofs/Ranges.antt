@@ -1,7 +1,8 @@
 -- The numbers of jobs have 32 bits: in the state that grants leave, and in each step of its plan.
 use Rattle.std.specs.List.{list_any}
 use Rattle.std.specs.Option.{option_map_or}
-use Rattle.std.proofs.Common.{◌≡◌, ℕ, zero, suc, ◌^◌, ◌<◌, Bool, true, false, cond, not, Option, Some, None, List, [], ◌∷◌, ◌++◌, All, refl, sym, subst, arith}
+use Rattle.std.proofs.Common.{◌≡◌, ℕ, zero, suc, ◌^◌, ◌<◌, Bool, true, false, cond, not, Option}
+use Rattle.std.proofs.Common.{Some, None, List, [], ◌∷◌, ◌++◌, All, refl, sym, subst, arith}
 use Rattle.std.proofs.lemmas.Bool.{cond_both}
 use Rattle.std.proofs.lemmas.List.Elements.{All-nil, All-cons, All-contains, All-filter, All-push}
 use Rattle.cell_base.specs.declared.cells.Cell.{Cell}
@@ -14,8 +15,9 @@ use Rattle.cell_base.specs.declared.requests.Request.{Request}
 use Rattle.cell_base.specs.declared.requests.Request.TheVariants.{Load, Process, Move, Unload, Place}
 use Rattle.cell_base.specs.Fits.{CellFits, RequestFits}
 use Rattle.cell_base.specs.Neighborhoods.{count}
-use Rattle.cell_base.specs.Outcomes.{admit, arrival, finish_first, is_waiting_on, outcome_of_entry, outcome_of_move, outcome_of_process, outcome_of_step, outcome_of_unload, part_of, refuse, state_after, without}
-use Rattle.cell_base.specs.Plans.{place_of, plan_of, plan_step, plan_within, step_of, work}
+use Rattle.cell_base.specs.Outcomes.{admit, arrival, finish_first, is_waiting_on, outcome_of_entry, outcome_of_move, outcome_of_process}
+use Rattle.cell_base.specs.Outcomes.{outcome_of_step, outcome_of_unload, part_of, refuse, state_after, without}
+use Rattle.cell_base.specs.Plans.{resource_of_part, plan_of, plan_step, plan_within, step_of, work}
 use Rattle.cell_base.specs.Policy.{IsAdmitted, first_over, is_loaded, is_of_job}
 use Rattle.cell_base.specs.Stages.{Stage, capacity_of, is_last, stage_of, successor}
 use Rattle.policy_laws.proofs.Lists.{All-found}
@@ -35,7 +37,8 @@ module _ (cell : Cell) where
   admit_in_range parts next before then = at (first_over cell next)
     where
       at : (over : Option ℕ) → All PartInRange
-          (option_map_or (λ r. refuse (Saturated (record { 0 = r }) (count cell parts r) (capacity_of cell r)) parts) over (Granted, next)).1
+          (option_map_or (λ r. refuse (Saturated (record { 0 = r }) (count cell parts r) (capacity_of cell r)) parts) over
+          (Granted, next)).1
       at None = then
       at (Some r) = before
 
@@ -99,7 +102,7 @@ module _ (cell : Cell) where
   step_written part range fit = by part.done (is_last cell (stage_of part)) fit
     where
       step : Bool → Bool → Request
-      step done last = cond (not done) (Process (record { 0 = place_of cell part })) (cond last (Unload part.job) (Move part.job 0))
+      step done last = cond (not done) (Process (record { 0 = resource_of_part cell part })) (cond last (Unload part.job) (Move part.job 0))
 
       by : (done last : Bool) → RequestFits cell (step done last) → StepIsWritten cell (step done last)
       by false last fit = record { step = fit; job = omega arith }
@@ -121,7 +124,8 @@ module _ (cell : Cell) where
             let picked = plan_step-picked cell parts request e in
             let on = plan_step_advances cell fits parts admitted request e in
             let written : StepIsWritten cell request = subst (StepIsWritten cell) picked.2
-            (step_written picked.0 (All-contains PartInRange parts picked.0 all picked.1.stands) (subst (RequestFits cell) (sym picked.2) on.fits)) in
+            (step_written picked.0 (All-contains PartInRange parts picked.0 all picked.1.stands)
+            (subst (RequestFits cell) (sym picked.2) on.fits)) in
             All-cons (StepIsWritten cell) request (plan_within cell n (state_after cell parts request)) written
             (later (state_after cell parts request) on.admitted (after_in_range parts request all written.job))
 

@@ -13,7 +13,7 @@ use Rattle.cell_base.specs.Histories.{IsLegal, after, after_requests, all_grante
 use Rattle.cell_base.specs.Outcomes.{reply_to, state_after}
 use Rattle.cell_base.specs.Plans.{plan_of}
 use Rattle.cell_base.specs.Scripts.{holds_halt}
-use Rattle.durable_cell.specs.Replayed.{AreDue}
+use Rattle.shift_recovery.specs.Replayed.{AreDue}
 use Rattle.record_text.specs.Lines.{head_words, line_of}
 use Rattle.record_text.specs.Records.{block_of}
 use Rattle.cell_texts.specs.Blocks.{entry_line, history_lines}
@@ -37,7 +37,7 @@ module _ (cell : Cell) where
   lines_same [] = refl
   lines_same (grant ∷ grants) = ap (λ (rest : List (List ℕ)). grant_line cell grant ∷ rest) (lines_same grants)
 
-  -- behind the head they are the history
+  -- after the head they are the history
   pub entry_lines : (grants : List Grant) (head : List ℕ) → head ≡ line_of (head_words 0 0)
       → head ∷ map (grant_line cell) grants ≡ history_lines cell 0 0 (history_of grants)
   entry_lines grants head is =

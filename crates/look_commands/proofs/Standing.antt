@@ -1,7 +1,8 @@
 -- How the outcomes of `parts` come about, and how the lines of a resource and of resources follow one another.
 use Rattle.std.specs.Prelude.{IfErr, IfOk}
 use Rattle.std.specs.List.{flat_map, range_with_len}
-use Rattle.std.proofs.Common.{◌≡◌, ◌∙◌, ℕ, zero, suc, ◌+◌, ◌<◌, ◌≤◌, ◌-◌, ◌==◌, true, false, Option, List, [], ◌∷◌, ◌++◌, length, map, drop, get_or, Result, Ok, Err, ap, sym, refl, arith, append_assoc, append-nil}
+use Rattle.std.proofs.Common.{◌≡◌, ◌∙◌, ℕ, zero, suc, ◌+◌, ◌<◌, ◌≤◌, ◌-◌, ◌==◌, true, false, Option, List, [], ◌∷◌, ◌++◌}
+use Rattle.std.proofs.Common.{length, map, drop, get_or, Result, Ok, Err, ap, sym, refl, arith, append_assoc, append-nil}
 use Rattle.std.proofs.lemmas.Bool.{cond-false, cond-true}
 use Rattle.outside_io.specs.Puts.{sink_told, TookAll, TookSome}
 use Rattle.admission_core.specs.CoreState.{CoreState}
@@ -9,7 +10,7 @@ use Rattle.policy_laws.proofs.Growing.{join_next}
 use Rattle.cell_base.specs.declared.cells.Cell.{Cell}
 use Rattle.cell_base.specs.declared.requests.Part.{Part}
 use Rattle.cell_base.specs.Neighborhoods.{count}
-use Rattle.cell_base.specs.Plans.{place_of}
+use Rattle.cell_base.specs.Plans.{resource_of_part}
 use Rattle.record_text.specs.Lines.{line_of}
 use Rattle.cell_walks.specs.Allowed.{IsAllowed, IsEndedAt, IsNotOpened, JournalOpened, Passed, Unasked}
 use Rattle.cell_walks.specs.DiskTold.{IsOnlyRead, IsUntouched}
@@ -20,7 +21,8 @@ use Rattle.cell_walks.specs.declared.early_end.EarlyEnd.{EarlyEnd}
 use Rattle.cell_walks.proofs.Steps.{ended_at, ended_at_opening}
 use Rattle.cell_texts.specs.Tests.{KnownCell, cell_file, cell_reads, to_read}
 use Rattle.cell_texts.proofs.Delivered.{failed_first, failed_then, rest_at, took_both}
-use Rattle.look_commands.specs.Parts.{IsStandingAfter, located, part_line, parts, parts_lines, parts_on, parts_outcome, resource_lines, resource_words}
+use Rattle.look_commands.specs.Parts.{IsStandingAfter, located, part_line, parts, parts_lines}
+use Rattle.look_commands.specs.Parts.{parts_on, parts_outcome, resource_lines, resource_words}
 use Rattle.look_commands.specs.declared.parts.Standing.{Standing}
 
 module _ (seen : Observed) (name : List ℕ) where
@@ -43,11 +45,11 @@ module _ (seen : Observed) (name : List ℕ) where
 
 -- of the parts from an index on, the one there is the next that stands on the resource, or it stands elsewhere
 module _ (cell : Cell) (parts : List Part) (r i : ℕ) (d : Part) (within : i < length parts) where
-  pub stands_next : (place_of cell (get_or parts i d) == r) ≡ true
+  pub stands_next : (resource_of_part cell (get_or parts i d) == r) ≡ true
       → parts_on cell (drop i parts) r ≡ get_or parts i d ∷ parts_on cell (drop (i + 1) parts) r
   stands_next here = ap (λ (ps : List Part). parts_on cell ps r) (rest_at parts i d within) ∙ cond-true _ _ _ here
 
-  pub stands_elsewhere : (place_of cell (get_or parts i d) == r) ≡ false
+  pub stands_elsewhere : (resource_of_part cell (get_or parts i d) == r) ≡ false
       → parts_on cell (drop i parts) r ≡ parts_on cell (drop (i + 1) parts) r
   stands_elsewhere there = ap (λ (ps : List Part). parts_on cell ps r) (rest_at parts i d within) ∙ cond-false _ _ _ there
 
@@ -66,7 +68,7 @@ line_made cell one other parts listed r held counted line is same held_is alike 
 
 -- ---- lists that are joined
 
--- the lists at the first numbers, and what those behind them join to
+-- the lists at the first numbers, and what those after them join to
 module _ {X : Type 0} (f : ℕ → List X) (n : ℕ) where
   record Behind (m : ℕ) : Type 0 where
     more : List X
@@ -103,7 +105,8 @@ module _ {K : Type 0} (taken : K → Option (List ℕ)) (was_put : K → List �
       → TookSome (sink_told taken was_put faults a c) (flat_map lines (range_with_len 0 m))
   failed_next m within part =
       let rest = behind lines (r + 1) (m - (r + 1)) m (omega (arith, within)) in
-      failed_first taken was_put faults (flat_map lines (range_with_len 0 (r + 1))) rest.more (flat_map lines (range_with_len 0 m)) rest.joined
+      failed_first taken was_put faults (flat_map lines (range_with_len 0 (r + 1))) rest.more
+      (flat_map lines (range_with_len 0 m)) rest.joined
       a c
       (failed_then taken was_put faults (flat_map lines (range_with_len 0 r)) (lines r) (flat_map lines (range_with_len 0 (r + 1)))
       (sym (join_next lines r)) a b c whole part)

@@ -1,5 +1,6 @@
 -- The record of grants has a text of its own, and the check finds right whatever that text is read as.
-use Rattle.std.proofs.Common.{◌≡◌, ◌∙◌, ℕ, ◌^◌, ◌<◌, ◌≤◌, Bool, true, false, cond, List, [], ◌∷◌, length, All, Ok, refl, sym, ap, subst, arith, append-nil}
+use Rattle.std.proofs.Common.{◌≡◌, ◌∙◌, ℕ, ◌^◌, ◌<◌, ◌≤◌, Bool, true, false, cond, List, []}
+use Rattle.std.proofs.Common.{◌∷◌, length, All, Ok, refl, sym, ap, subst, arith, append-nil}
 use Rattle.std.proofs.lemmas.List.Elements.{All-nil, All-cons, All-head, All-tail, All-weaker}
 use Rattle.std.proofs.lemmas.List.Sums.{sum_by-le}
 use Rattle.cell_base.specs.declared.cells.Cell.{Cell}
@@ -11,7 +12,7 @@ use Rattle.cell_base.specs.Outcomes.{state_after}
 use Rattle.cell_base.specs.Plans.{plan_of, work_from, work_of}
 use Rattle.cell_base.specs.Policy.{IsAdmitted}
 use Rattle.cell_base.specs.Stages.{IsStage, stage_of}
-use Rattle.durable_cell.specs.Replayed.{AreDue}
+use Rattle.shift_recovery.specs.Replayed.{AreDue}
 use Rattle.policy_laws.proofs.Plans.{length-plan_of}
 use Rattle.policy_laws.proofs.Units.{units_law}
 use Rattle.policy_laws.proofs.Walks.{work_from-few}

@@ -8,7 +8,7 @@ use Rattle.cell_base.specs.declared.shifts.Grant.{Grant}
 use Rattle.cell_base.specs.Histories.{replay}
 use Rattle.cell_base.specs.Named.{resource_name, type_name}
 use Rattle.cell_base.specs.Neighborhoods.{count}
-use Rattle.cell_base.specs.Plans.{place_of}
+use Rattle.cell_base.specs.Plans.{resource_of_part}
 use Rattle.cell_base.specs.Stages.{capacity_of, resource_numbers}
 use Rattle.step_text.specs.Steps.{done_word}
 use Rattle.record_text.specs.Lines.{line_of}
@@ -25,7 +25,7 @@ use Rattle.look_commands.specs.declared.parts.Standing.{Standing}
 
 -- the parts that stand on a resource, in the order of arrival
 abbrev pub parts_on : Cell → List Part → ℕ → List Part
-parts_on cell parts r = filter (λ part. place_of cell part == r) parts
+parts_on cell parts r = filter (λ part. resource_of_part cell part == r) parts
 
 -- a number of a resource's units
 abbrev pub share_words : List ℕ → ℕ → ℕ → List (List ℕ)

@@ -1,13 +1,8 @@
 //! Facts about what `grants` prints, each the contract of a function that does nothing.
-ghost use Rattle.std.specs.Prelude.{◌≡◌, ◌∷◌, ℕ, [], List as Items, Ok};
-ghost use Rattle.std.specs.List.{All};
-ghost use Rattle.record_text.specs.declared.blocks.Block.{Block};
-ghost use Rattle.record_text.specs.Blocks.{AreBlocks};
-ghost use Rattle.record_text.specs.Records.{text_of_block};
-ghost use Rattle.durable_cell.specs.Replayed.{AreDue};
+ghost use Rattle.std.specs.Prelude.{◌≡◌, ◌∷◌, ℕ, [], List as Items, All, Ok};
+ghost use Rattle.shift_recovery.specs.Replayed.{AreDue};
 ghost use Rattle.cell_texts.specs.Clauses.{CellFits, record_reads};
-ghost use Rattle.shift_checker.specs.declared.verdict.Verdict.TheVariants.{Yes};
-ghost use Rattle.shift_checker.specs.Judging.{judge};
+ghost use Rattle.look_commands.specs.Clauses.{AreBlocks, Block, Yes, judge, text_of_block};
 ghost use Rattle.look_commands.specs.Grants.{GrantInRange, block_of_grants};
 
 use cell_base::{Cell, Grant};

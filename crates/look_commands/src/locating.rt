@@ -1,14 +1,10 @@
 //! The parts of a state on their way to the sink, resource by resource, each line one `put`.
-ghost use Rattle.std.specs.Prelude.{◌≡◌, ◌+◌, ◌<◌, ◌≤◌, ◌==◌, ◌++◌, length, map, OnOk, OnErr};
-ghost use Rattle.std.specs.List.{All};
+ghost use Rattle.std.specs.Prelude.{◌≡◌, ◌+◌, ◌<◌, ◌≤◌, ◌==◌, ◌++◌, length, map, All, OnOk, OnErr};
 ghost use Rattle.cell_base.specs.Neighborhoods.{count};
-ghost use Rattle.cell_base.specs.Plans.{place_of};
 ghost use Rattle.cell_base.specs.Stages.{IsStage, stage_of};
 ghost use Rattle.cell_texts.specs.Clauses.{CellFits};
 ghost use Rattle.cell_walks.specs.Clauses.{HasCause, TookAll, TookSome, sink_told};
-ghost use Rattle.record_text.specs.Lines.{line_of};
-ghost use Rattle.record_text.specs.Spaced.{spaced};
-ghost use Rattle.step_text.specs.Steps.{done_word};
+ghost use Rattle.look_commands.specs.Clauses.{done_word, line_of, resource_of_part, spaced};
 ghost use Rattle.look_commands.specs.Parts.{part_line, parts_lines, parts_on, resource_lines, resource_words, share_words};
 
 use admission_core::Core;
@@ -88,7 +84,7 @@ fn print_parts_on<K: Sink>(out: &mut K, cell: &Cell, parts: &[Part], r: ResId) -
 // Whether a part stands on a resource.
 fn stands_on(cell: &Cell, part: Part, r: ResId) -> bool
     requires { IsStage cell.now (stage_of part) }
-    ensures { result ≡ (place_of cell.now part == r.0) }
+    ensures { result ≡ (resource_of_part cell.now part == r.0) }
 {
     cell.resource_at(part.kind, part.place) == r
 }

@@ -1,6 +1,7 @@
 //! `parts CELL JOURNAL`: where the parts stand after the grants of the journal, and how many each neighborhood counts.
 ghost use Rattle.std.specs.Prelude.{◌≡◌, ◌≤◌, length, IfOk, IfErr};
-ghost use Rattle.cell_walks.specs.Clauses.{Ends, IsAllowed, IsDelivered, IsNotOpened, IsOnlyRead, disk_told, files_told, observed, sink_told};
+ghost use Rattle.cell_walks.specs.Clauses.{Ends, IsAllowed, IsDelivered, IsNotOpened, IsOnlyRead};
+ghost use Rattle.cell_walks.specs.Clauses.{disk_told, files_told, observed, sink_told};
 ghost use Rattle.cell_walks.specs.declared.early_end.EarlyEnd.TheVariants.{WantOfMemory};
 ghost use Rattle.cell_texts.specs.Clauses.{CellFits, MAX_CELL_BYTES, known, to_read};
 ghost use Rattle.look_commands.specs.Parts.{IsStandingAfter, parts, parts_outcome};

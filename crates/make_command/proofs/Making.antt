@@ -10,7 +10,7 @@ use Rattle.cell_walks.specs.declared.early_end.EarlyEnd.TheVariants.{Refused, Wa
 use Rattle.cell_walks.proofs.Steps.{none_done}
 use Rattle.step_text.specs.Words.{number_of}
 use Rattle.make_command.specs.Make.{IsSummaryOf, make}
-use Rattle.make_command.specs.Numbers.{number}
+use Rattle.cell_texts.specs.Numbers.{number}
 use Rattle.make_command.specs.Summaries.{summary_lines}
 use Rattle.make_command.specs.declared.summary.Summary.{Summary}
 

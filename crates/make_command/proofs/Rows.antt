@@ -4,7 +4,7 @@ use Rattle.std.specs.Prelude.{codes}
 use Rattle.cell_make.specs.Draws.{next_number}
 use Rattle.cell_make.specs.Cells.{drawn_resource}
 use Rattle.step_text.specs.Words.{number_of}
-use Rattle.make_command.specs.Numbers.{number_read}
+use Rattle.cell_texts.specs.Numbers.{number_read}
 
 -- before the remainder
 first_draw : next_number 1 / 2 ^ 33 ≡ 908834774

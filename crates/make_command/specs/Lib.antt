@@ -1,4 +1,3 @@
 pub mod Clauses
 pub mod Make
-pub mod Numbers
 pub mod Summaries

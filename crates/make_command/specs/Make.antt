@@ -8,7 +8,7 @@ use Rattle.cell_make.specs.Cells.{drawn_cell}
 use Rattle.cell_make.specs.Shifts.{drawn_shift}
 use Rattle.cell_walks.specs.Outcomes.{Outcome, done}
 use Rattle.cell_walks.specs.Walks.{Answers, Tests, Walk}
-use Rattle.make_command.specs.Numbers.{number}
+use Rattle.cell_texts.specs.Numbers.{number}
 use Rattle.make_command.specs.Summaries.{summary_lines, summary_of}
 use Rattle.make_command.specs.declared.summary.Summary.{Summary}
 

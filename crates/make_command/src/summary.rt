@@ -1,13 +1,14 @@
 //! What is told of a shift that was drawn from a number and ran.
 ghost use Rattle.std.specs.Prelude.{◌≡◌, ◌≤◌, IfOk};
-ghost use Rattle.make_command.specs.Clauses.{Drains, IsSummaryOf, MAX_STEPS, granted_in, left_words, number_words, plan_of, refused_in, size_words, steps_of, summary_of, told_words};
+ghost use Rattle.make_command.specs.Clauses.{Drains, IsSummaryOf, MAX_STEPS, granted_in, left_words, number_words};
+ghost use Rattle.make_command.specs.Clauses.{plan_of, refused_in, size_words, steps_of, summary_of, told_words};
 ghost use Rattle.record_text.specs.Lines.{line_of};
 
 use cell_base::{Entry, NoMemory, Reply, Shift, Told};
 use cell_make::{Made, make};
 use drain_planner::Drainer;
 use record_text::Line;
-use shift_commands::{SoloRun, run_rounds, steps_of};
+use solo_rounds::{SoloRun, run_rounds, steps_of};
 use std::alloc::Global;
 
 /// How much was drawn from a number, and what came of it.

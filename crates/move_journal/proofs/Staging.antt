@@ -1,5 +1,6 @@
 -- What the two writes of an append make of a journal.
-use Rattle.std.proofs.Common.{◌≡◌, inl, inr, ℕ, ◌+◌, ◌<◌, ◌≤◌, List, [], ◌∷◌, ◌++◌, length, get_or, drop, refl, sym, ◌∙◌, ap, subst, arith, append_assoc, length-append}
+use Rattle.std.proofs.Common.{◌≡◌, inl, inr, ℕ, ◌+◌, ◌<◌, ◌≤◌, List, [], ◌∷◌, ◌++◌, length, get_or}
+use Rattle.std.proofs.Common.{drop, refl, sym, ◌∙◌, ap, subst, arith, append_assoc, length-append}
 use Rattle.std.proofs.lemmas.Bool.{cases_eq}
 use Rattle.cell_base.specs.declared.shifts.Grant.{Grant}
 use Rattle.outside_io.specs.Disk.{overwritten, Torn, Only}
@@ -7,7 +8,7 @@ use Rattle.move_journal.specs.Disks.{ComesOf}
 use Rattle.std.specs.List.{AllByRecursion}
 use Rattle.move_journal.specs.Journals.{entries, front, gate_of, group_bytes, IsRead, IsJournal, HoldsRecords, Staged, WithOrWithout}
 use Rattle.move_journal.proofs.Fronts.{length-front, front-append, each-append}
-use Rattle.move_journal.proofs.Splits.{torn_behind, torn_byte, written_behind, written_byte, regroup}
+use Rattle.move_journal.proofs.Splits.{torn_after, torn_byte, written_after, written_byte, regroup}
 use Rattle.move_journal.proofs.Turning.{of_only}
 
 -- ---- the write of the record
@@ -20,14 +21,14 @@ module _ (file text : List ℕ) (grants : List Grant) (journal : IsJournal file 
   unfolding closed_front
   length-closed_front = omega (arith, length-front text grants, length-append (front text grants) (journal.gate ∷ []))
 
-  split_at_gate : file ≡ closed_front ++ journal.behind
+  split_at_gate : file ≡ closed_front ++ journal.later
   unfolding closed_front
-  split_at_gate = journal.split ∙ regroup (front text grants) journal.gate journal.behind
+  split_at_gate = journal.split ∙ regroup (front text grants) journal.gate journal.later
 
-  -- whatever is torn behind the closed gate, the grants are the same
-  torn_behind_gate : (n : ℕ) (c : List ℕ) → Torn (gate_of text grants + 1) n file c → IsJournal c text grants
+  -- whatever is torn after the closed gate, the grants are the same
+  torn_after_gate : (n : ℕ) (c : List ℕ) → Torn (gate_of text grants + 1) n file c → IsJournal c text grants
   unfolding closed_front
-  torn_behind_gate n c torn =
+  torn_after_gate n c torn =
       let at : ℕ = gate_of text grants + 1 in
       let split_torn = subst (λ (f : List ℕ). Torn at n f c) split_at_gate torn in
       record {
@@ -35,18 +36,18 @@ module _ (file text : List ℕ) (grants : List Grant) (journal : IsJournal file 
         each = journal.each;
         gate = journal.gate;
         closed = journal.closed;
-        behind = drop at c;
-        split = torn_behind at n closed_front journal.behind c length-closed_front split_torn
+        later = drop at c;
+        split = torn_after at n closed_front journal.later c length-closed_front split_torn
             ∙ append_assoc (front text grants) (journal.gate ∷ []) (drop at c);
       }
 
-  written_behind_gate : (more : List Grant) → 0 < length more → AllByRecursion IsRead more → (new : List ℕ)
+  written_after_gate : (more : List Grant) → 0 < length more → AllByRecursion IsRead more → (new : List ℕ)
       → new ≡ overwritten file (gate_of text grants + 1) (drop 1 (group_bytes more)) → Staged text grants more new
   unfolding closed_front
-  written_behind_gate more some are new written =
+  written_after_gate more some are new written =
       let at : ℕ = gate_of text grants + 1 in
       let piece : List ℕ = drop 1 (group_bytes more) in
-      let rest : List ℕ = drop (at + length piece) (closed_front ++ journal.behind) in
+      let rest : List ℕ = drop (at + length piece) (closed_front ++ journal.later) in
       record {
         size = journal.size;
         each = journal.each;
@@ -54,16 +55,16 @@ module _ (file text : List ℕ) (grants : List Grant) (journal : IsJournal file 
         are_read = are;
         gate = journal.gate;
         closed = journal.closed;
-        behind = rest;
+        later = rest;
         split = written ∙ ap (λ (f : List ℕ). overwritten f at piece) split_at_gate
-            ∙ written_behind at closed_front journal.behind piece length-closed_front
+            ∙ written_after at closed_front journal.later piece length-closed_front
             ∙ append_assoc closed_front piece rest
             ∙ append_assoc (front text grants) (journal.gate ∷ []) (piece ++ rest);
       }
 
   pub gate_within : gate_of text grants + 1 ≤ length file
   gate_within =
-      omega (arith, ap length journal.split, length-front text grants, length-append (front text grants) (journal.gate ∷ journal.behind))
+      omega (arith, ap length journal.split, length-front text grants, length-append (front text grants) (journal.gate ∷ journal.later))
 
 module _ (file text : List ℕ) (grants : List Grant) (gate : ℕ) (more : List Grant) (bytes piece : List ℕ)
     (holds : HoldsRecords file text grants gate more bytes) (piece_is : piece ≡ drop 1 bytes)
@@ -72,13 +73,13 @@ module _ (file text : List ℕ) (grants : List Grant) (gate : ℕ) (more : List 
         → ComesOf (gate + 1) (length piece) outcomes c → IsJournal c text grants
     records_torn outcomes only c comes =
         let torn = of_only _ _ file outcomes only c comes in
-        torn_behind_gate file text grants holds.journal (length piece) c
+        torn_after_gate file text grants holds.journal (length piece) c
         (subst (λ (at : ℕ). Torn (at + 1) (length piece) file c) holds.gate_is torn)
 
     pub records_written : (new : List ℕ) → new ≡ overwritten file (gate + 1) piece → Staged text grants more new
     records_written new written =
         let same : piece ≡ drop 1 (group_bytes more) = piece_is ∙ ap (λ (l : List ℕ). drop 1 l) holds.bytes_are in
-        written_behind_gate file text grants holds.journal more holds.some holds.are_read new
+        written_after_gate file text grants holds.journal more holds.some holds.are_read new
         (written ∙ ap (λ (at : ℕ). overwritten file (at + 1) piece) holds.gate_is
         ∙ ap (λ (l : List ℕ). overwritten file (gate_of text grants + 1) l) same)
 
@@ -92,22 +93,22 @@ whole_group (g ∷ more) some = refl
 module _ (file text : List ℕ) (grants more : List Grant) (staged : Staged text grants more file)
     (at : ℕ) (at_is : at ≡ gate_of text grants)
   where
-    abbrev behind_it : List ℕ
-    behind_it = drop 1 (group_bytes more) ++ staged.behind
+    abbrev after_it : List ℕ
+    after_it = drop 1 (group_bytes more) ++ staged.later
 
     front_is : length (front text grants) ≡ at
     front_is = length-front text grants ∙ sym at_is
 
-    opened : (c : List ℕ) → c ≡ front text grants ++ 1 ∷ behind_it → IsJournal c text (grants ++ more)
+    opened : (c : List ℕ) → c ≡ front text grants ++ 1 ∷ after_it → IsJournal c text (grants ++ more)
     opened c is = record {
       size = staged.size;
       each = each-append grants more staged.each staged.are_read;
       gate = 0;
       closed = omega arith;
-      behind = staged.behind;
-      split = is ∙ ap (λ (l : List ℕ). front text grants ++ (l ++ staged.behind)) (whole_group more staged.some)
-          ∙ ap (λ (l : List ℕ). front text grants ++ l) (append_assoc (entries more) (0 ∷ []) staged.behind)
-          ∙ sym (front-append text grants more (0 ∷ staged.behind));
+      later = staged.later;
+      split = is ∙ ap (λ (l : List ℕ). front text grants ++ (l ++ staged.later)) (whole_group more staged.some)
+          ∙ ap (λ (l : List ℕ). front text grants ++ l) (append_assoc (entries more) (0 ∷ []) staged.later)
+          ∙ sym (front-append text grants more (0 ∷ staged.later));
     }
 
     -- a gate that is torn is open or it isn't
@@ -116,15 +117,15 @@ module _ (file text : List ℕ) (grants more : List Grant) (staged : Staged text
     gate_torn outcomes only c comes =
         let gate : ℕ = get_or c at 0 in
         let torn = subst (λ (f : List ℕ). Torn at 1 f c) staged.split (of_only _ _ file outcomes only c comes) in
-        let whole : c ≡ front text grants ++ gate ∷ behind_it = torn_byte at (front text grants) staged.gate behind_it c front_is torn in
+        let whole : c ≡ front text grants ++ gate ∷ after_it = torn_byte at (front text grants) staged.gate after_it c front_is torn in
         elim (cases_eq gate 1) [
-          | inl is_open ↦ inr (opened c (whole ∙ ap (λ (g : ℕ). front text grants ++ g ∷ behind_it) is_open))
+          | inl is_open ↦ inr (opened c (whole ∙ ap (λ (g : ℕ). front text grants ++ g ∷ after_it) is_open))
           | inr shut ↦ inl (record {
             size = staged.size;
             each = staged.each;
             gate = gate;
             closed = shut;
-            behind = behind_it;
+            later = after_it;
             split = whole;
           })
         ]
@@ -132,4 +133,4 @@ module _ (file text : List ℕ) (grants more : List Grant) (staged : Staged text
     pub gate_written : (new : List ℕ) → new ≡ overwritten file at (1 ∷ []) → IsJournal new text (grants ++ more)
     gate_written new written =
         opened new (written ∙ ap (λ (f : List ℕ). overwritten f at (1 ∷ [])) staged.split
-        ∙ written_byte at (front text grants) staged.gate 1 behind_it front_is)
+        ∙ written_byte at (front text grants) staged.gate 1 after_it front_is)

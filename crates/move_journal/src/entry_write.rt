@@ -1,4 +1,4 @@
-//! Records behind their gates. `p` is the offset of the closed gate that ends the journal:
+//! Records after their gates. `p` is the offset of the closed gate that ends the journal:
 //!
 //! | Offset | Content |
 //! |---|---|
@@ -6,9 +6,9 @@
 //! | p + 1 to p + 16 | the record of a grant |
 //! | p + 17 | the next gate |
 //!
-//! The first closed gate ends the journal, and what stands behind it means nothing. So whatever a crash leaves of the write
+//! The first closed gate ends the journal, and what stands after it means nothing. So whatever a crash leaves of the write
 //! of records, the gate before them, which is stable and closed, keeps each of them from counting: the gates between them are
-//! written open. The closed gate behind them is part of the same write: behind a gate that is opened later, what was there
+//! written open. The closed gate after them is part of the same write: after a gate that is opened later, what was there
 //! before would count. When all of it is stable, a write of one byte opens the first gate: a crash leaves it open or not, and
 //! with it all of the new records or none.
 ghost use Rattle.std.specs.Prelude.{◌≡◌, ◌+◌, ◌^◌, ◌<◌, ◌≤◌, Some, [], ◌∷◌, ◌++◌, length, OnOk, ⊤};
@@ -21,10 +21,10 @@ ghost use Rattle.move_journal.specs.Journals.{IsJournal, HoldsRecords, Staged, W
 use crate::stable_write::write_through;
 use outside_io::{Disk, Failed};
 
-/// The bytes of a gate and the record behind it.
+/// The bytes of a gate and the record after it.
 pub const ENTRY_SIZE: u64 = 17;
 
-/// Makes records stable behind the closed gate, and then opens the gate.
+/// Makes records stable after the closed gate, and then opens the gate.
 pub(crate) fn write_entries<D: Disk>(disk: &mut D, gate: u64, bytes: &[u8]) -> Result<(), Failed>
     requires in_range { gate < 2 ^ 63 }
     requires some { 1 ≤ length bytes.now }
@@ -48,7 +48,7 @@ pub(crate) fn write_entries<D: Disk>(disk: &mut D, gate: u64, bytes: &[u8]) -> R
     open_gate(disk, gate)
 }
 
-// Makes what stands behind the first gate stable. That gate stays closed.
+// Makes what stands after the first gate stable. That gate stays closed.
 fn write_records<D: Disk>(disk: &mut D, gate: u64, bytes: &[u8]) -> Result<(), Failed>
     requires in_range { gate < 2 ^ 63 }
     requires some { 1 ≤ length bytes.now }
@@ -72,7 +72,7 @@ fn write_records<D: Disk>(disk: &mut D, gate: u64, bytes: &[u8]) -> Result<(), F
     write_through(disk, gate + 1, &bytes[1..])
 }
 
-/// The record behind an open gate, and a closed gate behind it.
+/// The record after an open gate, and a closed gate after it.
 pub(crate) fn with_gates(bytes: &[u8; 16]) -> [u8; 18]
     ensures { result ≡ 1 ∷ bytes.now ++ 0 ∷ [] }
 {

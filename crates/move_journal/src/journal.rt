@@ -48,7 +48,7 @@ impl<D: Disk> Journal<D> {
     /// The journal of so many grants on a disk, whose closed gate stands at this offset.
     pub fn found(disk: D, gate: u64, len: u64) -> Journal<D>
         requires rests { Rests D.reads_as D.may_leave disk (IsOpen gate len) }
-        requires in_range { gate ≤ 2 ^ 33 + 17 * len }
+        requires in_range { gate ≤ 2 ^ 33 + ENTRY_SIZE * len }
         ensures { result ≡ record { disk = disk; len = len; is_halted = false } }
     {
         Journal {

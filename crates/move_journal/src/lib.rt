@@ -5,18 +5,24 @@
 //! and `append_all` all grants of a `Group` by as many calls of the device. Each state owns the disk, and a call that fails
 //! hands it back:
 //!
-//! ```text
-//! let Ok(cleared) = blank.clear() else { .. };             // Err(disk): the device failed
-//! let Ok(mut journal) = cleared.create(cell_text) else { .. };
-//! journal.append(&grant)?;                                 // at Ok every crash leaves the grant
+//! ```rust
+//! let Ok(cleared) = blank.clear() else {
+//!     bail!("not cleared");                                // Err(disk): the device failed
+//! };
+//! match cleared.create(CELL) {
+//!     Ok(journal) => Ok(journal),
+//!     Err(_) => bail!("not created"),
+//! }
+//! // for each grant
+//! Ok(journal.append(&grant))                               // at Ok every crash leaves the grant
 //! ```
 //!
-//! A record is written behind a gate that is stable and closed, together with the closed gate behind it; only when both
+//! A record is written after a gate that is stable and closed, together with the closed gate after it; only when both
 //! are stable does a write of its own open the gate before it. So at each moment since the start of an `append` every
 //! image that a crash may leave stands for the grants before it, or for these and the new one; of a group, for these and all
 //! of it. After a fault of the device the journal answers `Halted` until the disk is opened again.
 //!
-//! `head_write` has the bytes of a head and `entry_write` those of a record behind its gate, and both say why each step
+//! `head_write` has the bytes of a head and `entry_write` those of a record after its gate, and both say why each step
 //! is safe.
 #![tactic(auto)]
 

@@ -1,10 +1,13 @@
 -- Full resources, and counts that rise and fall by one.
-use Rattle.std.proofs.Common.{◌≡◌, ℕ, ◌+◌, ◌*◌, ◌^◌, ◌%◌, ◌<◌, ◌≤◌, ◌==◌, Bool, true, false, ◌&&◌, List, length, get_or, set, Some, None, nat_le, bit_and, bit_or, ap, subst, refl, sym, arith, w64, ◌∙◌, ⊎_elim, length-set, get_or-set_same, get_or-set_other}
+use Rattle.std.proofs.Common.{◌≡◌, ℕ, ◌+◌, ◌*◌, ◌^◌, ◌%◌, ◌<◌, ◌≤◌, ◌==◌, Bool, true, false, ◌&&◌, List}
+use Rattle.std.proofs.Common.{length, get_or, set, Some, None, nat_le, bit_and, bit_or, ap, subst, refl}
+use Rattle.std.proofs.Common.{sym, arith, w64, ◌∙◌, ⊎_elim, length-set, get_or-set_same, get_or-set_other}
 use Rattle.std.specs.Int.{bit_not, trailing_zeros}
 use Rattle.std.proofs.lemmas.Bool.{le-leb, lt-leb, leb-false, cases_eq, and_parts}
 use Rattle.std.proofs.lemmas.Nat.Bits.{bit_at-trailing_zeros}
 use Rattle.cell_base.specs.Masks.{has_bit}
-use Rattle.cell_base.proofs.Bits.{has_bit-and, has_bit-zero, has_bit-of_one, has_bit_set_same, has_bit_set_other, has_bit_clear_same, has_bit_clear_other}
+use Rattle.cell_base.proofs.Bits.{has_bit-and, has_bit-zero, has_bit-of_one, has_bit_set_same}
+use Rattle.cell_base.proofs.Bits.{has_bit_set_other, has_bit_clear_same, has_bit_clear_other}
 use Rattle.neighborhood_counts.specs.Counts.{Counted, is_full, first_full, IsCounted, IsFullMask, IsMaskOf}
 use Rattle.neighborhood_counts.proofs.Numbers.{fails_of_none, none_of_fails, first_of_range}
 

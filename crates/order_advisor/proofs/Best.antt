@@ -1,6 +1,6 @@
 -- The orders that are read off the least cost are the best.
 --
--- A list of orders without ties is a ranking, and its cost is a number: the weight, and behind it the places as digits. Orders with ties
+-- A list of orders without ties is a ranking, and its cost is a number: the weight, and after it the places as digits. Orders with ties
 -- are broken by the numbers of the resources, which leads to no stage more. So the least cost has the least weight; and of two
 -- numbers with the same weight the lesser one has the list that comes before.
 use Rattle.std.proofs.Common.{◌≡◌, ℕ, zero, suc, ◌+◌, ◌-◌, ◌*◌, ◌/◌, ◌^◌, ◌<◌, ◌≤◌, Bool, true, false, cond, nat_lt}

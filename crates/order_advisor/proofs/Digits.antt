@@ -7,7 +7,7 @@ use Rattle.std.proofs.lemmas.Bool.{cases_eq}
 use Rattle.order_advisor.specs.Sets.{hex}
 use Rattle.order_advisor.proofs.Sums.{total}
 
--- the number with these digits behind a number
+-- the number with these digits after a number
 abbrev pub numeral : ℕ → (ℕ → ℕ) → ℕ → ℕ
 numeral front digit zero = front
 numeral front digit (suc n) = 16 * numeral front digit n + digit n
@@ -28,7 +28,7 @@ hex-le n (suc m) below = ⊎_elim
     (λ (other : n ≢ suc m). omega (arith, hex-suc m, hex-le n m (omega (arith, other, below))))
     (cases_eq n (suc m))
 
--- a number that is less stays less with more digits behind
+-- a number that is less stays less with more digits after it
 pub numeral-less : (f g : ℕ) (o p : ℕ → ℕ) (k n : ℕ) → ((q : ℕ) → q < n → o q < 16) → k ≤ n → numeral f o k < numeral g p k
     → numeral f o n < numeral g p n
 numeral-less f g o p k zero small within less = let e : k ≡ 0 = omega arith in subst (λ j. numeral f o j < numeral g p j) e less

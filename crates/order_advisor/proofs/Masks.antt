@@ -1,13 +1,13 @@
 -- The masks of sets of resources: which bits they have, and one resource more.
-use Rattle.std.proofs.Common.{◌≡◌, ℕ, zero, suc, ◌+◌, ◌-◌, ◌*◌, ◌^◌, ◌<◌, ◌≤◌, ◌==◌, ◌≢◌, Bool, true, false, cond, ap}
-use Rattle.std.proofs.Common.{refl, sym, subst, ◌∙◌, ⊎_elim, pow-suc, arith}
+use Rattle.std.proofs.Common.{◌≡◌, ℕ, zero, suc, ◌+◌, ◌-◌, ◌^◌, ◌<◌, ◌==◌, ◌≢◌, Bool, true, false, cond, ap}
+use Rattle.std.proofs.Common.{refl, sym, subst, ◌∙◌, arith}
 use Rattle.std.specs.List.{range_with_len}
-use Rattle.std.specs.Int.{bit_at}
-use Rattle.std.proofs.lemmas.Bool.{cases_lt, eq-eqb, ne_eqb}
+use Rattle.std.proofs.lemmas.Bool.{eq-eqb, ne_eqb}
 use Rattle.std.proofs.lemmas.List.Sums.{length-filter}
-use Rattle.std.proofs.lemmas.Nat.Bits.{bit_at_cat_low, bit_at_cat_high, bit_at_above, same_from_bits_below}
+use Rattle.std.proofs.lemmas.Nat.Bits.{same_from_bits_below}
 use Rattle.cell_base.specs.Masks.{has_bit}
 use Rattle.cell_base.proofs.Bits.{bit_at-number}
+use Rattle.policy_laws.proofs.Masks.{AreBits, with_bit}
 use Rattle.order_advisor.specs.Sets.{members_of}
 use Rattle.order_advisor.proofs.Sums.{total, total-sum_by, total_changed}
 
@@ -15,48 +15,9 @@ use Rattle.order_advisor.proofs.Sums.{total, total-sum_by, total_changed}
 abbrev pub mask_by : (ℕ → Bool) → ℕ → ℕ
 mask_by test n = total (λ q. cond (test q) (2 ^ q) 0) n
 
--- the mask has the bits below n that pass
-pub record AreBits (test : ℕ → Bool) (n mask : ℕ) : Type 0 where
-  pub small : mask < 2 ^ n
-  pub bits : (r : ℕ) → r < n → has_bit mask r ≡ test r
-
--- the greatest power of two is a bit of its own
-power_low : (n m r : ℕ) → r < n → has_bit (m + 2 ^ n) r ≡ has_bit m r
-power_low n m r low =
-    let one : m + 2 ^ n ≡ 1 * 2 ^ n + m = omega arith in
-    ap (λ x. x == 1) (ap (λ a. bit_at a r) one ∙ bit_at_cat_low 1 n m r low)
-
-power_here : (n m : ℕ) → m < 2 ^ n → has_bit (m + 2 ^ n) n ≡ true
-power_here n m small =
-    let one : m + 2 ^ n ≡ 1 * 2 ^ n + m = omega arith in
-    let none : n - n ≡ 0 = omega arith in
-    ap (λ x. x == 1) (ap (λ a. bit_at a n) one ∙ bit_at_cat_high 1 n m n small (omega arith) ∙ ap (bit_at 1) none)
-
-pub has_bit-above : (n m r : ℕ) → m < 2 ^ n → n ≤ r → has_bit m r ≡ false
-has_bit-above n m r small above = ap (λ x. x == 1) (bit_at_above m n r small above)
-
-one_more : (test : ℕ → Bool) (n m : ℕ) (b : Bool) → test n ≡ b → AreBits test n m → AreBits test (suc n) (m + cond b (2 ^ n) 0)
-one_more test n m true e so_far = record {
-  small = omega (arith, so_far.small, pow-suc 2 n);
-  bits = λ r within. ⊎_elim
-      (λ (low : r < n). power_low n m r low ∙ so_far.bits r low)
-      (λ (high : n ≤ r). let same : r ≡ n = omega arith in rw same (power_here n m so_far.small ∙ sym e))
-      (cases_lt r n);
-}
-one_more test n m false e so_far = record {
-  small = omega (arith, so_far.small, pow-suc 2 n);
-  bits = λ r within.
-      let none : m + 0 ≡ m = omega arith in
-      ap (λ a. has_bit a r) none
-      ∙ ⊎_elim
-      (λ (low : r < n). so_far.bits r low)
-      (λ (high : n ≤ r). let same : r ≡ n = omega arith in rw same (has_bit-above n m n so_far.small (omega arith) ∙ sym e))
-      (cases_lt r n);
-}
-
 pub are_bits : (test : ℕ → Bool) (n : ℕ) → AreBits test n (mask_by test n)
 are_bits test zero = record { small = omega arith; bits = λ r within. absurd (omega arith) }
-are_bits test (suc n) = one_more test n (mask_by test n) (test n) refl (are_bits test n)
+are_bits test (suc n) = with_bit test n (mask_by test n) (test n) refl (are_bits test n)
 
 -- a set is the mask of its bits
 pub mask_by-same : (n set : ℕ) (test : ℕ → Bool) → set < 2 ^ n → ((r : ℕ) → r < n → has_bit set r ≡ test r) → set ≡ mask_by test n

@@ -2,7 +2,7 @@
 --
 -- A ranking gives each resource a number, no two the same one. For each k the resources of numbers below k are a set. Going from k to
 -- k + 1 it stays, or gets one resource more, which costs what it adds as the last of the larger set. Conversely, the last resource
--- that a table names of a set gets the next number behind a ranking of the others.
+-- that a table names of a set gets the next number after a ranking of the others.
 use Rattle.std.proofs.Common.{◌≡◌, ℕ, zero, suc, ◌+◌, ◌-◌, ◌^◌, ◌<◌, ◌≤◌, ◌==◌, ◌≢◌, Bool, true, false, cond, nat_lt}
 use Rattle.std.proofs.Common.{◌⊎◌, inl, inr, List, get_or, ap, refl, sym, subst, ◌∙◌, ⊎_elim, arith}
 use Rattle.std.proofs.Math.Nat.{mul-le-mul_right}
@@ -128,12 +128,12 @@ module _ (cell : Cell) (n : ℕ) where
   cost_below o place k = total (λ q. cond (nat_lt (o q) k) (cost_in o place q) 0) n
 
   -- the places are no less than the number of the resources before
-  abbrev pub AreBehind : (ℕ → ℕ) → (ℕ → ℕ) → Type 0
-  AreBehind o place = (r : ℕ) → r < n → total (λ q. cond (nat_lt (o q) (o r)) 1 0) n ≤ place r
+  abbrev pub AreAfter : (ℕ → ℕ) → (ℕ → ℕ) → Type 0
+  AreAfter o place = (r : ℕ) → r < n → total (λ q. cond (nat_lt (o q) (o r)) 1 0) n ≤ place r
 
   module _ (costs : List ℕ) (known : KnowsLeast cell n (2 ^ n) costs) where
     -- no ranking costs less
-    module _ (o place : ℕ → ℕ) (ranking : IsRanking n o) (behind : AreBehind o place) where
+    module _ (o place : ℕ → ℕ) (ranking : IsRanking n o) (behind : AreAfter o place) where
       at_next : (r : ℕ) → r < n → get_or costs (below n o (o r)) 0 ≤ cost_below o place (o r)
           → get_or costs (below n o (suc (o r))) 0 ≤ cost_below o place (suc (o r))
       at_next r within before =

@@ -24,12 +24,12 @@ pub fn sweep(table: &StageTable, set: u64, masks: &mut [u64])
     }
 }
 
-/// The mask of a stage, once those behind it have theirs.
+/// The mask of a stage, once those after it have theirs.
 fn mask_at(table: &StageTable, set: u64, masks: &[u64], stage: StageNo) -> u64
     requires fits { CellFits table.now }
     requires stage { IsNumber table.now stage.0 }
     requires length { length masks.now ≡ length (stages table.now) }
-    requires behind { KnowsInside table.now set (stage.0 + 1) masks.now }
+    requires later { KnowsInside table.now set (stage.0 + 1) masks.now }
     ensures { IsInsideMask table.now set (stage_numbered table.now stage.0) result }
 {
     let on = table.resource_of(stage);
@@ -45,7 +45,7 @@ fn joined(table: &StageTable, set: u64, masks: &[u64], stage: StageNo) -> u64
     requires fits { CellFits table.now }
     requires stage { IsNumber table.now stage.0 }
     requires length { length masks.now ≡ length (stages table.now) }
-    requires behind { KnowsInside table.now set (stage.0 + 1) masks.now }
+    requires later { KnowsInside table.now set (stage.0 + 1) masks.now }
     ensures { (r : ℕ) → has_bit result r
         ≡ list_any (λ t. leads_inside table.now set t r) (successors table.now (stage_numbered table.now stage.0)) }
 {
@@ -60,7 +60,7 @@ fn joined(table: &StageTable, set: u64, masks: &[u64], stage: StageNo) -> u64
 fn next_mask(table: &StageTable, set: u64, masks: &[u64], stage: StageNo, branch: u16) -> u64
     requires stage { IsNumber table.now stage.0 }
     requires length { length masks.now ≡ length (stages table.now) }
-    requires behind { KnowsInside table.now set (stage.0 + 1) masks.now }
+    requires later { KnowsInside table.now set (stage.0 + 1) masks.now }
     ensures { (t : Stage) → successor table.now (stage_numbered table.now stage.0) branch ≡ Some t → IsInsideMask table.now set t result }
 {
     match table.next_of(stage, branch) {

@@ -6,7 +6,7 @@ use Rattle.cell_base.specs.declared.cells.Cell.{Cell}
 use Rattle.cell_base.specs.Stages.{resource_numbers}
 use Rattle.cell_texts.proofs.Delivered.{rest_at}
 
--- the next one, and those behind it
+-- the next one, and those after it
 pub numbers_at : (cell : Cell) (r : ℕ) → r < length cell.resources
     → drop r (resource_numbers cell) ≡ r ∷ drop (r + 1) (resource_numbers cell)
 numbers_at cell r within =

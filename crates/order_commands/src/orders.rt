@@ -2,8 +2,7 @@
 ghost use Rattle.std.specs.Prelude.{◌≡◌, ◌≤◌, length, IfOk, OnOk, OnErr};
 ghost use Rattle.order_advisor.specs.declared.advice.TheConstants.{ARRANGED};
 ghost use Rattle.cell_walks.specs.Clauses.{Ends, HasCause, IsAllowed, IsDelivered, TookAll, TookSome};
-ghost use Rattle.cell_walks.specs.Clauses.{disk_told, files_told, no_disk, observed, sink_told};
-ghost use Rattle.cell_walks.specs.Walks.{end_with};
+ghost use Rattle.cell_walks.specs.Clauses.{disk_told, end_with, files_told, no_disk, observed, sink_told};
 ghost use Rattle.cell_walks.specs.declared.early_end.Subject.TheVariants.{Cell as OfCell};
 ghost use Rattle.cell_texts.specs.Clauses.{CellFits};
 ghost use Rattle.order_commands.specs.Lines.{advice_lines, order_lines};

@@ -1,6 +1,7 @@
--- What a crash may leave behind a write comes of what it might have left before, by a torn write: the old image has, in the range
+-- What a crash may leave after a write comes of what it might have left before, by a torn write: the old image has, in the range
 -- that was written, the bytes that a read found.
-use Rattle.std.proofs.Common.{◌≡◌, ◌⊎◌, inl, inr, ℕ, ◌+◌, ◌<◌, ◌≤◌, max, min, false, List, ◌∷◌, map, length, get_or, take, drop, sym, ◌∙◌, ap, arith, if◌then◌else◌, length-take, length-drop}
+use Rattle.std.proofs.Common.{◌≡◌, ◌⊎◌, inl, inr, ℕ, ◌+◌, ◌<◌, ◌≤◌, max, min, false, List, ◌∷◌, map, length, get_or}
+use Rattle.std.proofs.Common.{take, drop, sym, ◌∙◌, ap, arith, if◌then◌else◌, length-take, length-drop}
 use Rattle.std.proofs.lemmas.List.{get_or-take, get_or-drop, same_lists, get_or_default}
 use Rattle.std.proofs.lemmas.List.FromFn.{length-map-range_with_len, get_or-map-range_with_len}
 use Rattle.std.proofs.lemmas.Bool.{cases_lt}

@@ -9,7 +9,7 @@ use Rattle.outside_io.specs.declared.disk_steps.DiskStep.{DiskStep}
 use Rattle.outside_io.specs.declared.disk_steps.DiskStep.TheVariants.{Wrote, Lost, Synced}
 use Rattle.outside_io.proofs.Overwriting.{get_or-overwritten}
 
--- an offset that no span has is below the first or behind it
+-- an offset that no span has is below the first or after it
 apart : (span : Span) (spans : List Span) (k : ℕ) → is_written (span ∷ spans) k ≡ false
     → ((k < span.at) ⊎ (span.at + span.size ≤ k)) × (is_written spans k ≡ false)
 apart span spans k none = elim (cases_lt k span.at) [

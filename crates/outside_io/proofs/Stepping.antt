@@ -1,5 +1,5 @@
 -- How one step more changes what a crash may leave.
-use Rattle.std.proofs.Common.{◌≡◌, ◌⊎◌, inl, inr, ℕ, ◌+◌, ◌<◌, ◌≤◌, List, [], ◌∷◌, ◌++◌, length, get_or, take, refl, sym, ◌∙◌, ap, subst, arith}
+use Rattle.std.proofs.Common.{◌≡◌, ◌⊎◌, inl, inr, ℕ, ◌+◌, ◌≤◌, List, [], ◌∷◌, ◌++◌, length, get_or, take, refl, sym, ◌∙◌, ap, subst, arith}
 use Rattle.std.proofs.lemmas.List.{take_all, take-append-le, ext_get_or, length_push}
 use Rattle.std.proofs.lemmas.Bool.{cases_lt}
 use Rattle.outside_io.specs.Disk.{overwritten, Torn, Follows, Only, Elapses}

@@ -15,7 +15,7 @@ abbrev pub after_steps : DiskState → List DiskStep → DiskState
 after_steps state [] = state
 after_steps state (step ∷ steps) = after_steps (after_step state step) steps
 
--- what a crash behind some of the steps, the t-th or a later one, might have left
+-- what a crash after some of the steps, the t-th or a later one, might have left
 abbrev pub MightHaveLeft : List ℕ → List DiskStep → ℕ → List ℕ → Type 0
 MightHaveLeft first steps t image =
     (k : ℕ) × (t ≤ k) × (k ≤ length steps) × IsImage (after_steps (at_rest first) (take k steps)) image

@@ -8,6 +8,7 @@ use Rattle.outside_io.specs.declared.disk_call.CallKind.TheVariants.{Len, Read, 
 use Rattle.outside_io.specs.declared.disk_call.DiskCall.{DiskCall}
 use Rattle.outside_io.specs.declared.listed_disk_calls.ListedDiskCalls.{ListedDiskCalls}
 
+-- two calls of the disk are of one kind
 abbrev pub is_same_kind : CallKind → CallKind → Bool
 is_same_kind Len Len = true
 is_same_kind Read Read = true
@@ -46,7 +47,7 @@ one_left_fewer (Some left) = Some (left - 1)
 abbrev pub one_made_more : ListedCalls → ListedCalls
 one_made_more listed = record { fails = listed.fails; made = one_more listed.made }
 
--- the calls behind one of this kind
+-- the calls after one of this kind
 abbrev pub counted : ListedDiskCalls → CallKind → ListedDiskCalls
 counted calls Len = record calls { len = one_made_more calls.len; left = one_left_fewer calls.left }
 counted calls Read = record calls { read = one_made_more calls.read; left = one_left_fewer calls.left }

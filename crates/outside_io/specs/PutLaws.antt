@@ -56,7 +56,7 @@ module _ {S : Type 0} (taken : S → Option (List ℕ)) (was_put : S → List �
     taken = part;
   }
 
-  -- the pieces behind are of no matter
+  -- the later pieces are of no matter
   pub failed_before : (a b : S) (first then : List (List ℕ)) → TookSome (tells a b) first → TookSome (tells a b) (first ++ then)
   failed_before a b first then some = record {
     whole = some.whole;
@@ -69,9 +69,9 @@ module _ {S : Type 0} (taken : S → Option (List ℕ)) (was_put : S → List �
   }
 
   -- pieces that were taken whole, and then some
-  pub failed_behind : (a b c : S) (first then : List (List ℕ)) → TookAll (tells a b) first → TookSome (tells b c) then
+  pub failed_after : (a b c : S) (first then : List (List ℕ)) → TookAll (tells a b) first → TookSome (tells b c) then
       → TookSome (tells a c) (first ++ then)
-  failed_behind a b c first then whole some = record {
+  failed_after a b c first then whole some = record {
     whole = first ++ some.whole;
     last = some.last;
     rest = some.rest;
@@ -92,7 +92,7 @@ module _ {S : Type 0} (taken : S → Option (List ℕ)) (was_put : S → List �
 -- ---- texts
 
 module _ (a b : Option (List ℕ)) where
-  -- a first part of a text is a first part of a longer one
+  -- a prefix of a text is a prefix of a longer one
   part_of_more : (text more : List ℕ) → AppendsPrefix a b text → AppendsPrefix a b (text ++ more)
   part_of_more text more part = elim (cases_lt (length text) part.0) [
     | inl past ↦
@@ -100,11 +100,11 @@ module _ (a b : Option (List ℕ)) where
     | inr within ↦ (part.0, subst (Appends a b) (sym (take-append-le part.0 text more within)) part.1)
   ]
 
--- a text, and then a first part of another, are a first part of both
-part_behind : (a b : Option (List ℕ)) (text more : List ℕ) (n : ℕ) → Appends a b (text ++ take n more) → AppendsPrefix a b (text ++ more)
-part_behind a b text more n part = (length text + n, subst (Appends a b) (sym (take-append-add text more n)) part)
+-- a text, and then a prefix of another, are a prefix of both
+part_after : (a b : Option (List ℕ)) (text more : List ℕ) (n : ℕ) → Appends a b (text ++ take n more) → AppendsPrefix a b (text ++ more)
+part_after a b text more n part = (length text + n, subst (Appends a b) (sym (take-append-add text more n)) part)
 
--- what was taken of some pieces is a first part of their text
+-- what was taken of some pieces is a prefix of their text
 pub some_is_prefix : (told : SinkTold) (pieces : List (List ℕ)) → TookSome told pieces
     → AppendsPrefix told.taken told.taken_after (concat pieces)
 some_is_prefix told pieces some =
@@ -113,4 +113,4 @@ some_is_prefix told pieces some =
     (append_assoc (concat some.whole) some.last rest
     ∙ sym (concat-append some.whole (some.last ∷ some.rest)) ∙ ap concat (sym some.parted))
     (part_of_more told.taken told.taken_after (concat some.whole ++ some.last) rest
-    (part_behind told.taken told.taken_after (concat some.whole) some.last some.taken.0 some.taken.1))
+    (part_after told.taken told.taken_after (concat some.whole) some.last some.taken.0 some.taken.1))

@@ -31,7 +31,7 @@ pub record TookAll (told : SinkTold) (pieces : List (List ℕ)) : Type 0 where
   pub put : told.puts pieces
   pub taken : Appends told.taken told.taken_after (concat pieces)
 
--- Each of the first pieces was put and taken whole. The one behind them was the last that was put, and of it a first part
+-- Each of the first pieces was put and taken whole. The one after them was the last that was put, and of it a prefix
 -- was taken.
 pub record TookSome (told : SinkTold) (pieces : List (List ℕ)) : Type 0 where
   pub whole : List (List ℕ)

@@ -1,7 +1,7 @@
 -- What is known where a disk tells its bytes.
 use Rattle.std.specs.Prelude.{◌≡◌, ℕ, List, Option, Some, None, IfSome}
 use Rattle.std.proofs.Common.{refl, sym, subst}
-use Rattle.outside_io.specs.Disk.{Turns, Only}
+use Rattle.outside_io.specs.Disk.{Turns}
 
 -- it holds, if it holds of the file that the disk tells
 pub where_told : {A : Type 0} (o : Option A) (P : A → Type 0) → ((a : A) → o ≡ Some a → P a) → IfSome o P

@@ -39,7 +39,7 @@ pub(crate) fn write_down(
     Ok(())
 }
 
-/// The file with these bytes at this offset, or behind its end where that comes first.
+/// The file with these bytes at this offset, or after its end where that comes first.
 pub(crate) fn with_bytes(
     alloc: Global,
     file: &[u8],

@@ -1,5 +1,5 @@
 //! The calls of a disk in memory that are to fail.
-ghost use Rattle.std.specs.Prelude.{◌≡◌, ◌++◌, None, IfOk};
+ghost use Rattle.std.specs.Prelude.{◌≡◌, None, IfOk};
 ghost use Rattle.outside_io.specs.ListedDiskCalls.{numbers_of, listed_of, is_stopped, one_left_fewer, next_fails, counted};
 
 use crate::listed::ListedCalls;

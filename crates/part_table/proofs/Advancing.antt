@@ -1,5 +1,6 @@
--- A part that goes on: its entry is gone, and one behind all others is its own.
-use Rattle.std.proofs.Common.{◌≡◌, ℕ, ◌+◌, ◌<◌, ◌≤◌, Bool, true, cond, List, [], ◌∷◌, ◌++◌, length, Some, slice_get, set, ap, subst, sym, arith, ◌∙◌, nat_eq, length-set}
+-- A part that goes on: its entry is gone, and one after all others is its own.
+use Rattle.std.proofs.Common.{◌≡◌, ℕ, ◌+◌, ◌<◌, ◌≤◌, Bool, true, cond, List, [], ◌∷◌, ◌++◌, length}
+use Rattle.std.proofs.Common.{Some, slice_get, set, ap, subst, sym, arith, ◌∙◌, nat_eq, length-set}
 use Rattle.std.specs.HashMap.{HashMap, get, hash_map_len, spare}
 use Rattle.std.proofs.lemmas.Option.{same_Some}
 use Rattle.std.proofs.lemmas.List.{length_push}

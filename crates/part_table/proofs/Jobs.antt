@@ -1,5 +1,6 @@
 -- The part of a job, found at its place.
-use Rattle.std.proofs.Common.{◌≡◌, ℕ, ◌<◌, ◌≤◌, Bool, true, false, ◌&&◌, List, length, map, Option, Some, None, find, slice_get, get_or, set, ⊎_elim, subst, ap, refl, sym, arith, ◌∙◌, nat_eq}
+use Rattle.std.proofs.Common.{◌≡◌, ℕ, ◌<◌, ◌≤◌, Bool, true, false, ◌&&◌, List, length, map, Option, Some, None}
+use Rattle.std.proofs.Common.{find, slice_get, get_or, set, ⊎_elim, subst, ap, refl, sym, arith, ◌∙◌, nat_eq}
 use Rattle.std.specs.Option.{option_map, MatchOption}
 use Rattle.std.specs.HashMap.{HashMap, get}
 use Rattle.std.proofs.lemmas.Bool.{false≢true, eqb-true, eq-eqb, and_parts}
@@ -16,7 +17,8 @@ use Rattle.part_table.specs.Heads.{IsFirst}
 use Rattle.part_table.specs.Standings.{parts_of, is_job, is_waiting, finished}
 use Rattle.part_table.specs.Logs.{done_entry, staying, job_of, IsAbsent, IsPlaceOf, IsPlaceOfFirst, waiting_key, ArePlaces}
 use Rattle.part_table.proofs.Standings.{part_of-find}
-use Rattle.part_table.proofs.Staying.{passes, first_staying, none_staying, not_loaded_from_absent, staying_finished, found_by_key, passes_by_key, none_by_key, waiting_shows}
+use Rattle.part_table.proofs.Staying.{passes, first_staying, none_staying, not_loaded_from_absent, staying_finished}
+use Rattle.part_table.proofs.Staying.{found_by_key, passes_by_key, none_by_key, waiting_shows}
 
 -- an entry that stays and is of the job passes the test, and no other
 passes_not : (job : JobId) (entry : Entry) → (entry.stays ≡ true → job_of entry ≡ job.0 → ⊥) → passes (is_job job) entry ≡ false

@@ -1,5 +1,6 @@
 -- One entry more is found again.
-use Rattle.std.proofs.Common.{◌≡◌, ℕ, ◌+◌, ◌<◌, ◌≤◌, Bool, true, cond, List, [], ◌∷◌, ◌++◌, length, map, All, Some, take, get_or, ap, sym, subst, arith, ◌∙◌, nat_eq}
+use Rattle.std.proofs.Common.{◌≡◌, ℕ, ◌+◌, ◌<◌, ◌≤◌, Bool, true, cond, List, [], ◌∷◌, ◌++◌, length}
+use Rattle.std.proofs.Common.{map, All, Some, take, get_or, ap, sym, subst, arith, ◌∙◌, nat_eq}
 use Rattle.std.specs.HashMap.{HashMap, get, hash_map_len, spare}
 use Rattle.std.proofs.lemmas.List.{take_more, length-take-le, get_or_default}
 use Rattle.cell_base.specs.Policy.{HaveDistinctJobs}

@@ -1,5 +1,6 @@
 -- A log after an entry came or changed.
-use Rattle.std.proofs.Common.{◌≡◌, ℕ, zero, suc, ◌+◌, ◌<◌, ◌≤◌, Bool, true, false, cond, List, [], ◌∷◌, ◌++◌, length, map, Some, slice_get, get_or, set, subst, refl, sym, ap, arith, ◌∙◌, nat_eq, length-set}
+use Rattle.std.proofs.Common.{◌≡◌, ℕ, zero, suc, ◌+◌, ◌<◌, ◌≤◌, Bool, true, false, cond, List, [], ◌∷◌, ◌++◌, length}
+use Rattle.std.proofs.Common.{map, Some, slice_get, get_or, set, subst, refl, sym, ap, arith, ◌∙◌, nat_eq, length-set}
 use Rattle.std.specs.HashMap.{HashMap, get, hash_map_len, spare}
 use Rattle.std.proofs.Math.Seq.{map-set_same}
 use Rattle.std.proofs.lemmas.List.{length_push, map_push, map-set}

@@ -1,5 +1,6 @@
 -- The places of jobs in a log, as entries come and change.
-use Rattle.std.proofs.Common.{◌≡◌, ◌≢◌, ℕ, zero, suc, ◌+◌, ◌≤◌, ◌⊎◌, Bool, true, false, cond, List, [], ◌∷◌, ◌++◌, length, Some, slice_get, set, subst, refl, sym, ap, arith, ◌∙◌, ⊎_elim, inl, inr, nat_eq, length-set}
+use Rattle.std.proofs.Common.{◌≡◌, ◌≢◌, ℕ, zero, suc, ◌+◌, ◌≤◌, ◌⊎◌, Bool, true, false, cond, List, [], ◌∷◌, ◌++◌, length}
+use Rattle.std.proofs.Common.{Some, slice_get, set, subst, refl, sym, ap, arith, ◌∙◌, ⊎_elim, inl, inr, nat_eq, length-set}
 use Rattle.std.specs.HashMap.{HashMap, get, hash_map_len}
 use Rattle.std.proofs.lemmas.Bool.{eqb-true, eq-eqb, ne_eqb, cases_eq}
 use Rattle.std.proofs.lemmas.Option.{none-some, same_Some}

@@ -1,8 +1,8 @@
 -- Parts as they stand: of different jobs, one more, one less, one that is done.
-use Rattle.std.proofs.Common.{◌≡◌, ◌≢◌, ℕ, ◌+◌, Bool, true, false, cond, not, List, [], ◌∷◌, ◌++◌, length, map, All, Option, Some, None, find, filter, sum_by, ap, refl, sym, subst, arith, ◌∙◌}
+use Rattle.std.proofs.Common.{◌≡◌, ◌≢◌, ℕ, ◌+◌, Bool, true, false, cond, not, List, [], ◌∷◌, ◌++◌, length, map}
+use Rattle.std.proofs.Common.{All, Option, Some, None, find, filter, sum_by, ap, refl, sym, subst, arith, ◌∙◌}
 use Rattle.std.specs.Option.{option_map, option_map_or}
 use Rattle.std.proofs.lemmas.Option.{none-some, same_Some}
-use Rattle.std.proofs.lemmas.Bool.{eqb-true}
 use Rattle.std.proofs.lemmas.List.{map-append, length-map}
 use Rattle.std.proofs.lemmas.List.Elements.{All-cons, All-head, All-tail}
 use Rattle.std.proofs.lemmas.List.Kept.{AllPairs-cons}
@@ -15,7 +15,7 @@ use Rattle.cell_base.specs.declared.requests.Part.{Part}
 use Rattle.cell_base.specs.Policy.{is_of_job, is_loaded, HaveDistinctJobs}
 use Rattle.cell_base.specs.Outcomes.{part_of, without, finish_first}
 use Rattle.cell_base.proofs.Admission.{others_from_not_loaded, not_loaded_from_others}
-use Rattle.policy_laws.proofs.Parts.{distinct-push, distinct-without, without-others, sum_by-without, sum_by-finish_first_same}
+use Rattle.policy_laws.proofs.Parts.{distinct-push, distinct-without, without-others, sum_by-without, sum_by-finish_first_same, same_job}
 use Rattle.part_table.specs.declared.standing.Standing.{Standing}
 use Rattle.part_table.specs.Standings.{parts_of, is_job, without_job, advanced, finish, finished}
 
@@ -125,9 +125,6 @@ distinct_finished (item ∷ items) job distinct =
     (All_finished (λ (j : JobId). item.part.job ≢ j) items job
     (pairs_head (λ (a b : Part). a.job ≢ b.job) item.part (parts_of items) distinct)))
     (distinct_finished items job (pairs_tail (λ (a b : Part). a.job ≢ b.job) item.part (parts_of items) distinct))
-
-pub same_job : (job : JobId) (part : Part) → is_of_job job part ≡ true → part.job ≡ job
-same_job job part e = λ i. record { 0 = eqb-true part.job.0 job.0 e i }
 
 sum-length : (parts : List Part) → sum_by (λ (part : Part). 1) parts ≡ length parts
 sum-length [] = refl

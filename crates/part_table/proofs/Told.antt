@@ -1,5 +1,6 @@
 -- Parts with the resources that were told of them, where these are the ones of their stages: what is found among them, and how they change.
-use Rattle.std.proofs.Common.{◌≡◌, ◌≢◌, ℕ, ◌==◌, Bool, true, false, not, ◌&&◌, cond, List, [], ◌∷◌, ◌++◌, map, arith, All, Option, Some, None, find, ap, ap₂, refl, sym, ◌∙◌, subst}
+use Rattle.std.proofs.Common.{◌≡◌, ◌≢◌, ℕ, ◌==◌, Bool, true, false, not, ◌&&◌, cond, List, [], ◌∷◌, ◌++◌}
+use Rattle.std.proofs.Common.{map, arith, All, Option, Some, None, find, ap, ap₂, refl, sym, ◌∙◌, subst}
 use Rattle.std.specs.Option.{option_map, option_map_or, ForSome}
 use Rattle.std.specs.Prelude.{MatchOption}
 use Rattle.std.proofs.lemmas.Option.{none-some, same_Some}
@@ -12,13 +13,13 @@ use Rattle.cell_base.specs.declared.requests.Part.{Part}
 use Rattle.cell_base.specs.Stages.{stage, stage_of, resource_at}
 use Rattle.cell_base.specs.Policy.{is_of_job, HaveDistinctJobs}
 use Rattle.cell_base.specs.Outcomes.{part_of, without, is_waiting_on, finish_first}
-use Rattle.cell_base.specs.Plans.{place_of}
+use Rattle.cell_base.specs.Plans.{resource_of_part}
 use Rattle.policy_laws.proofs.Lists.{find_agree, find-Contains}
-use Rattle.policy_laws.proofs.Parts.{IsOther, is_of_job-same, is_of_job-other, others_behind, distinct_behind}
+use Rattle.policy_laws.proofs.Parts.{IsOther, is_of_job-same, is_of_job-other, others_after, distinct_after, same_job}
 use Rattle.part_table.specs.declared.standing.Standing.{Standing}
 use Rattle.part_table.specs.Standings.{parts_of, AreOn, is_job, is_on, is_waiting, without_job, advanced, finish, finished}
 use Rattle.part_table.specs.Parts.{gone_on}
-use Rattle.part_table.proofs.Standings.{find-map, finish_no, same_job, parts_of-without, advanced_is, advanced_none}
+use Rattle.part_table.proofs.Standings.{find-map, finish_no, parts_of-without, advanced_is, advanced_none}
 
 -- what holds of each element that a function gives
 All-unmap : {X Y : Type 0} (P : Y → Type 0) (f : X → Y) (xs : List X) → All P (map f xs) → All (λ x. P (f x)) xs
@@ -58,7 +59,7 @@ pub finished_first : (items : List Standing) (job : JobId) → HaveDistinctJobs 
     → parts_of (finished items job) ≡ finish_first (is_of_job job) (parts_of items)
 finished_first [] job distinct = refl
 finished_first (item ∷ items) job distinct =
-    at (is_of_job job item.part) refl (finished_first items job (distinct_behind item.part (parts_of items) distinct))
+    at (is_of_job job item.part) refl (finished_first items job (distinct_after item.part (parts_of items) distinct))
   where
     at : (b : Bool) → is_of_job job item.part ≡ b → parts_of (finished items job) ≡ finish_first (is_of_job job) (parts_of items)
         → parts_of (finished (item ∷ items) job) ≡ finish_first (is_of_job job) (parts_of (item ∷ items))
@@ -66,7 +67,7 @@ finished_first (item ∷ items) job distinct =
         let same : item.part.job ≡ job = same_job job item.part here in
         let others : All (IsOther job) (parts_of items) =
         subst (λ (j : JobId). All (λ (other : Part). j ≢ other.job) (parts_of items)) same
-        (others_behind item.part (parts_of items) distinct) in
+        (others_after item.part (parts_of items) distinct) in
         rw here (ap (λ (xs : List Standing). (record item.part { done = true }) ∷ parts_of xs) (finished_others items job others))
     at false away later = rw away (ap (λ (ps : List Part). item.part ∷ ps) later)
 
@@ -91,11 +92,12 @@ module _ (cell : Cell) where
 
   -- the first part on a resource
   pub on_found : (on : ResId) (items : List Standing) → AreOn cell items
-      → find (λ part. place_of cell part == on.0) (parts_of items) ≡ option_map (λ (item : Standing). item.part) (find (is_on on) items)
+      → find (λ part. resource_of_part cell part == on.0) (parts_of items)
+      ≡ option_map (λ (item : Standing). item.part) (find (is_on on) items)
   on_found on items are =
-      find-map (λ (item : Standing). item.part) (λ part. place_of cell part == on.0) items
+      find-map (λ (item : Standing). item.part) (λ part. resource_of_part cell part == on.0) items
       ∙ ap (option_map (λ (item : Standing). item.part))
-      (find_agree (λ (item : Standing). place_of cell item.part == on.0) (is_on on) items
+      (find_agree (λ (item : Standing). resource_of_part cell item.part == on.0) (is_on on) items
       (All-weaker (IsOn cell) _ (λ item e. ap (λ r. r == on.0) (sym e)) items are))
 
   -- to finish the part of the job that is found is to finish the first that waits
@@ -106,10 +108,10 @@ module _ (cell : Cell) where
   finished_found on (item ∷ items) found are distinct e =
       at (is_waiting on item) (waits_same on item (All-head (IsOn cell) item items are)) e
       (λ f. finished_found on items found (All-tail (IsOn cell) item items are)
-      (distinct_behind item.part (parts_of items) distinct) f)
+      (distinct_after item.part (parts_of items) distinct) f)
     where
       others : All (λ (other : Part). item.part.job ≢ other.job) (parts_of items)
-      others = others_behind item.part (parts_of items) distinct
+      others = others_after item.part (parts_of items) distinct
 
       at : (b : Bool) → is_waiting_on cell on.0 item.part ≡ b → cond b (Some item) (find (is_waiting on) items) ≡ Some found
           → (find (is_waiting on) items ≡ Some found

@@ -12,7 +12,7 @@ pub record Table : Type 0 where
   pub parts : List Part
   pub spare : ℕ
 
--- the part of the job at another place, behind all others
+-- the part of the job at another place, after all others
 abbrev pub gone_on : List Part → JobId → ℕ → Bool → List Part
 gone_on parts job place done =
     option_map_or (λ part. without parts job ++ (record part { place = place; done = done }) ∷ []) (part_of parts job) parts

@@ -40,7 +40,7 @@ is_waiting on item = not item.part.done && is_on on item
 abbrev pub without_job : List Standing → JobId → List Standing
 without_job items job = filter (λ item. not (is_job job item)) items
 
--- the part of the job at another place and on its resource, behind all others
+-- the part of the job at another place and on its resource, after all others
 abbrev pub advanced : List Standing → JobId → ℕ → Bool → ResId → List Standing
 advanced items job place done on =
     option_map_or (λ (item : Standing). without_job items job ++ (record {

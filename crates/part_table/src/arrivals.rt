@@ -133,7 +133,7 @@ impl Arrivals {
         }
     }
 
-    /// A new part, behind all others.
+    /// A new part, after all others.
     pub fn arrive(&mut self, part: Part, on: ResId)
         requires absent { is_loaded (parts_of self.old.items) part.job ≡ false }
         requires on { on.0 < self.old.resources }
@@ -147,7 +147,7 @@ impl Arrivals {
         self.count += 1;
     }
 
-    /// The part of a job goes on to a place, and stands behind all others.
+    /// The part of a job goes on to a place, and stands after all others.
     pub fn advance(&mut self, job: JobId, place: u16, done: bool, on: ResId)
         requires present { is_loaded (parts_of self.old.items) job ≡ true }
         requires on { on.0 < self.old.resources }

@@ -1,5 +1,6 @@
 //! For each resource the first place of a list at which it stands.
-ghost use Rattle.std.specs.Prelude.{◌≡◌, ◌≢◌, ℕ, ◌+◌, ◌<◌, ◌≤◌, ◌∷◌, ◌++◌, [], length, slice_index, slice_set, MatchOption, IfOk, vec_capacity};
+ghost use Rattle.std.specs.Prelude.{◌≡◌, ◌≢◌, ℕ, ◌+◌, ◌<◌, ◌≤◌, ◌∷◌, ◌++◌, [], length, slice_index};
+ghost use Rattle.std.specs.Prelude.{slice_set, MatchOption, IfOk, vec_capacity};
 ghost use Rattle.part_table.specs.declared.heads.TheConstants.{OFF, NOWHERE};
 ghost use Rattle.part_table.specs.Heads.{IsFirst, noted};
 

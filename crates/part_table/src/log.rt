@@ -1,6 +1,6 @@
 //! A log of parts as they came, which is found by job and by resource.
-ghost use Rattle.std.specs.Prelude.{◌≡◌, ℕ, ◌+◌, ◌<◌, ◌≤◌, ◌∷◌, ◌++◌, [], true, false, if◌then◌else◌, length, Some, slice_get, slice_set, MatchOption, IfOk, nat_eq, nat_le, map, All, None};
-ghost use Rattle.std.specs.List.{filter, find};
+ghost use Rattle.std.specs.Prelude.{◌≡◌, ℕ, ◌+◌, ◌<◌, ◌≤◌, ◌∷◌, ◌++◌, [], true, false, if◌then◌else◌, length, Some};
+ghost use Rattle.std.specs.Prelude.{slice_get, slice_set, MatchOption, IfOk, nat_eq, nat_le, map, filter, find, All, None};
 ghost use Rattle.std.specs.HashMap.{get, hash_map_len, spare};
 ghost use Rattle.part_table.specs.declared.standing.Entry.{Entry};
 ghost use Rattle.part_table.specs.declared.heads.TheConstants.{NOWHERE};
@@ -199,7 +199,7 @@ impl Log {
         self.waiting.take_off(at);
     }
 
-    /// The part of a job goes on: it is not at its entry any more, but at one behind all others. It takes no memory.
+    /// The part of a job goes on: it is not at its entry any more, but at one after all others. It takes no memory.
     pub fn advance(&mut self, job: JobId, place: u16, done: bool, on: ResId)
         requires room { length self.old.entries < self.old.room }
         requires present { is_loaded (parts_of (staying self.old.entries)) job ≡ true }

@@ -1,11 +1,10 @@
 //! The table of parts.
-ghost use Rattle.std.specs.Prelude.{◌≡◌, ◌+◌, ◌<◌, ◌≤◌, ◌==◌, true, false, [], ◌∷◌, ◌++◌, length, Some, slice_get, IfOk};
-ghost use Rattle.std.specs.List.{find};
+ghost use Rattle.std.specs.Prelude.{◌≡◌, ◌+◌, ◌<◌, ◌≤◌, ◌==◌, true, false, [], ◌∷◌, ◌++◌, length, Some, slice_get, find, IfOk};
 ghost use Rattle.std.specs.Option.{option_map, ForSome};
 ghost use Rattle.cell_base.specs.Stages.{stage, stage_of, resource_at};
 ghost use Rattle.cell_base.specs.Policy.{is_of_job, is_loaded, HaveDistinctJobs};
 ghost use Rattle.cell_base.specs.Outcomes.{part_of, without, is_waiting_on, finish_first};
-ghost use Rattle.cell_base.specs.Plans.{place_of};
+ghost use Rattle.cell_base.specs.Plans.{resource_of_part};
 ghost use Rattle.cell_base.specs.declared.limits.TheConstants.{MAX_RESOURCES, MAX_UNITS};
 ghost use Rattle.part_table.specs.Parts.{gone_on};
 
@@ -98,12 +97,12 @@ impl Parts {
     /// The first part on a resource.
     pub fn first_on(&self, on: ResId) -> Option<Part>
         requires { on.0 < length self.now.cell.resources }
-        ensures { result ≡ find (λ part. place_of self.now.cell part == on.0) self.now.parts }
+        ensures { result ≡ find (λ part. resource_of_part self.now.cell part == on.0) self.now.parts }
     {
         self.arrivals.first_on(on)
     }
 
-    /// A new part, behind all others. It is told on which resource it stands.
+    /// A new part, after all others. It is told on which resource it stands.
     pub fn arrive(&mut self, part: Part, on: ResId)
         requires absent { is_loaded self.old.parts part.job ≡ false }
         requires on { on.0 ≡ resource_at self.old.cell (stage_of part) }
@@ -116,7 +115,7 @@ impl Parts {
         self.arrivals.arrive(part, on);
     }
 
-    /// The part of a job goes on to a place, and stands behind all others. It is told on which resource it stands then.
+    /// The part of a job goes on to a place, and stands after all others. It is told on which resource it stands then.
     pub fn advance(&mut self, job: JobId, place: u16, done: bool, on: ResId)
         requires present { is_loaded self.old.parts job ≡ true }
         requires on { ForSome (part_of self.old.parts job) (λ part. on.0 ≡ resource_at self.old.cell (stage part.kind.0 place)) }

@@ -1,4 +1,3 @@
 pub mod Counting
 pub mod Finishing
-pub mod Growing
 pub mod Places

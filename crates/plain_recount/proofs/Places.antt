@@ -1,5 +1,7 @@
--- Rows that are filled from behind: a stage leads to a resource by its own step, or by a stage that may follow.
-use Rattle.std.proofs.Common.{◌≡◌, ℕ, ◌+◌, ◌<◌, ◌≤◌, ◌==◌, nat_le, Bool, false, ◌||◌, ◌&&◌, List, [], length, map, All, Contains, Option, Some, None, slice_get, get_or, set, get_or-set_same, get_or-set_other, ◌≢◌, ⊎_elim, refl, ap, ◌∙◌, sym, arith}
+-- Rows that are filled from their ends: a stage leads to a resource by its own step, or by a stage that may follow.
+use Rattle.std.proofs.Common.{◌≡◌, ℕ, ◌+◌, ◌<◌, ◌≤◌, ◌==◌, nat_le, Bool, false, ◌||◌, ◌&&◌, List, []}
+use Rattle.std.proofs.Common.{length, map, All, Contains, Option, Some, None, slice_get, get_or, set}
+use Rattle.std.proofs.Common.{get_or-set_same, get_or-set_other, ◌≢◌, ⊎_elim, refl, ap, ◌∙◌, sym, arith}
 use Rattle.std.specs.List.{list_any}
 use Rattle.std.specs.Option.{option_map_or}
 use Rattle.std.proofs.lemmas.Bool.{cases_eq}
@@ -10,7 +12,7 @@ use Rattle.cell_base.specs.declared.cells.JobType.{JobType}
 use Rattle.cell_base.specs.Stages.{stage, IsStage, route_of, successors, resource_at, order_at, order_of}
 use Rattle.cell_base.specs.Neighborhoods.{leads}
 use Rattle.cell_base.specs.Fits.{CellFits}
-use Rattle.plain_recount.specs.Leading.{KnowsBehind}
+use Rattle.plain_recount.specs.Leading.{KnowsAfter}
 use Rattle.policy_laws.proofs.Lists.{list_any_agree, list_any-map}
 use Rattle.policy_laws.proofs.Stages.{type_fits}
 use Rattle.policy_laws.proofs.Leading.{leads_sweep}
@@ -28,9 +30,9 @@ module _ (cell : Cell) (fits : CellFits cell) (r kind place : ℕ) where
   abbrev IsLater : ℕ → Type 0
   IsLater p = (place < p) × (p < length (route_of cell kind))
 
-  -- what a row that is filled from behind says of the stage before it
+  -- what a row that is filled from its end says of the stage before it
   pub leads-by_row : (row : List Bool) (next : List ℕ) → IsStage cell (stage kind place)
-      → map (stage kind) next ≡ successors cell (stage kind place) → All IsLater next → KnowsBehind cell r kind (place + 1) row
+      → map (stage kind) next ≡ successors cell (stage kind place) → All IsLater next → KnowsAfter cell r kind (place + 1) row
       → leads cell (stage kind place) r
       ≡ ((resource_at cell (stage kind place) == r)
       || (nat_le (order_at cell (stage kind place)) (order_of cell r) && list_any (λ p. get_or row p false) next))
@@ -49,9 +51,9 @@ module _ (cell : Cell) (fits : CellFits cell) (r kind place : ℕ) where
           ∙ list_any_agree (λ p. leads cell (stage kind p) r) (λ p. get_or row p false) next reads
 
 -- the row knows one place more
-pub KnowsBehind-set : (cell : Cell) (r kind from at : ℕ) (row : List Bool) (b : Bool) → at + 1 ≡ from → at < length row
-    → b ≡ leads cell (stage kind at) r → KnowsBehind cell r kind from row → KnowsBehind cell r kind at (set row at b)
-KnowsBehind-set cell r kind from at row b e within is known p behind inside =
+pub KnowsAfter-set : (cell : Cell) (r kind from at : ℕ) (row : List Bool) (b : Bool) → at + 1 ≡ from → at < length row
+    → b ≡ leads cell (stage kind at) r → KnowsAfter cell r kind from row → KnowsAfter cell r kind at (set row at b)
+KnowsAfter-set cell r kind from at row b e within is known p behind inside =
     ⊎_elim
     (λ (here : p ≡ at). rw here (get_or-set_same row at b false within ∙ is))
     (λ (other : p ≢ at). get_or-set_other row at p b false other ∙ known p (omega arith) inside)

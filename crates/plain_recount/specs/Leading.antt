@@ -18,7 +18,7 @@ abbrev pub leading_table : Cell → List (List (List Bool))
 leading_table cell = map (leading_rows cell) (resource_numbers cell)
 
 -- a row knows of each place, from the place `from` on, whether its stage leads to the resource
-abbrev pub KnowsBehind : Cell → ℕ → ℕ → ℕ → List Bool → Type 0
-KnowsBehind cell r kind from row =
+abbrev pub KnowsAfter : Cell → ℕ → ℕ → ℕ → List Bool → Type 0
+KnowsAfter cell r kind from row =
     (place : ℕ) → from ≤ place → place < length (route_of cell kind)
     → slice_index_or row place false ≡ leads cell (stage kind place) r

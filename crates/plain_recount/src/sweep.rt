@@ -5,7 +5,7 @@ ghost use Rattle.cell_base.specs.declared.limits.TheConstants.{MAX_PLACES};
 ghost use Rattle.cell_base.specs.Stages.{stage, IsStage};
 ghost use Rattle.cell_base.specs.Neighborhoods.{leads};
 ghost use Rattle.cell_base.specs.Fits.{CellFits};
-ghost use Rattle.plain_recount.specs.Leading.{KnowsBehind, leading_row, leading_rows, leading_table};
+ghost use Rattle.plain_recount.specs.Leading.{KnowsAfter, leading_row, leading_rows, leading_table};
 
 use cell_base::{Cell, List, MAX_PLACES, NoMemory, ResId, TypeId};
 use std::alloc::Global;
@@ -14,7 +14,7 @@ use std::alloc::Global;
 const PLACES: usize = MAX_PLACES as usize;
 
 /// For each resource and each stage whether the stage leads to the resource: by resource, type and place.
-#[tactic(auto, using(crate::proofs::Growing::map_next))]
+#[tactic(auto, using(cell_base::proofs::Growing::map_next))]
 pub fn table(alloc: Global, cell: &Cell) -> Result<List<List<List<bool>>>, NoMemory>
     requires { CellFits cell.now }
     ensures { IfOk result (λ table. table ≡ leading_table cell.now) }
@@ -26,7 +26,7 @@ pub fn table(alloc: Global, cell: &Cell) -> Result<List<List<List<bool>>>, NoMem
     Ok(table)
 }
 
-#[tactic(auto, using(crate::proofs::Growing::map_next))]
+#[tactic(auto, using(cell_base::proofs::Growing::map_next))]
 fn rows(alloc: Global, cell: &Cell, r: ResId) -> Result<List<List<bool>>, NoMemory>
     requires fits { CellFits cell.now }
     requires resource { r.0 < length cell.now.resources }
@@ -39,7 +39,7 @@ fn rows(alloc: Global, cell: &Cell, r: ResId) -> Result<List<List<bool>>, NoMemo
     Ok(rows)
 }
 
-#[tactic(auto, using(crate::proofs::Growing::map_next))]
+#[tactic(auto, using(cell_base::proofs::Growing::map_next))]
 fn row(alloc: Global, cell: &Cell, r: ResId, kind: TypeId) -> Result<List<bool>, NoMemory>
     requires fits { CellFits cell.now }
     requires resource { r.0 < length cell.now.resources }
@@ -54,13 +54,13 @@ fn row(alloc: Global, cell: &Cell, r: ResId, kind: TypeId) -> Result<List<bool>,
     Ok(row)
 }
 
-/// For each place of a route whether its stage leads to the resource. The row is filled from behind, since a stage leads on
+/// For each place of a route whether its stage leads to the resource. The row is filled from its end, since a stage leads on
 /// by later places only.
 fn sweep(cell: &Cell, r: ResId, kind: TypeId) -> [bool; PLACES]
     requires fits { CellFits cell.now }
     requires resource { r.0 < length cell.now.resources }
     requires kind { kind.0 < length cell.now.types }
-    ensures { KnowsBehind cell.now r.0 kind.0 0 result }
+    ensures { KnowsAfter cell.now r.0 kind.0 0 result }
 {
     let mut row = [false; PLACES];
     for place in (0..cell.places(kind)).rev() {
@@ -74,7 +74,7 @@ fn leads_at(cell: &Cell, r: ResId, kind: TypeId, place: u16, row: &[bool; PLACES
     requires fits { CellFits cell.now }
     requires resource { r.0 < length cell.now.resources }
     requires stage { IsStage cell.now (stage kind.0 place) }
-    requires row { KnowsBehind cell.now r.0 kind.0 (place + 1) row.now }
+    requires row { KnowsAfter cell.now r.0 kind.0 (place + 1) row.now }
     ensures { result ≡ leads cell.now (stage kind.0 place) r.0 }
 {
     let on = cell.resource_at(kind, place);

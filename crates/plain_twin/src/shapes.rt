@@ -71,17 +71,17 @@ fn type_of(alloc: Global, name: Name, shape: Shape, kind: u16) -> Result<JobType
             on: ResId(turn % shape.resources.max(1)),
             works: turn % 3 != 0,
         })?;
-        next.try_push(places_behind(alloc, shape, place)?)?;
+        next.try_push(places_after(alloc, shape, place)?)?;
     }
     Ok(JobType { name, route, next })
 }
 
 // The places that may follow a place.
-fn places_behind(alloc: Global, shape: Shape, place: u16) -> Result<List<u16>, NoMemory> {
+fn places_after(alloc: Global, shape: Shape, place: u16) -> Result<List<u16>, NoMemory> {
     let mut places = List::new(alloc);
-    for behind in place.saturating_add(1)..shape.places {
-        if behind - place <= shape.branches {
-            places.try_push(behind)?;
+    for later in place.saturating_add(1)..shape.places {
+        if later - place <= shape.branches {
+            places.try_push(later)?;
         }
     }
     Ok(places)

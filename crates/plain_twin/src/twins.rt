@@ -43,8 +43,8 @@ fn ask_both(core: &mut Core, recount: &mut Recount<'_>, request: &Request) -> Re
     if reply != plain {
         bail!("{request:?}: {reply:?} by the core, {plain:?} by the recount");
     }
-    compare_parts(core, recount).context(format_args!("behind {request:?}"))?;
-    compare_counts(core, recount).context(format_args!("behind {request:?}"))?;
+    compare_parts(core, recount).context(format_args!("after {request:?}"))?;
+    compare_counts(core, recount).context(format_args!("after {request:?}"))?;
     Ok(reply)
 }
 

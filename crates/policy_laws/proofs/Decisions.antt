@@ -1,5 +1,6 @@
 -- Decisions: a request is granted, and refused for a full neighborhood, exactly by its tests and the state that it asks for.
-use Rattle.std.proofs.Common.{◌≡◌, ℕ, zero, suc, ◌+◌, ◌<◌, ◌≤◌, ◌↔◌, Bool, true, false, cond, nat_lt, find, List, length, Option, Some, None, ap, refl, sym, subst, arith, ◌∙◌, ⊎_elim}
+use Rattle.std.proofs.Common.{◌≡◌, ℕ, zero, suc, ◌+◌, ◌<◌, ◌≤◌, ◌↔◌, Bool, true, false, cond, nat_lt, find}
+use Rattle.std.proofs.Common.{List, length, Option, Some, None, ap, refl, sym, subst, arith, ◌∙◌, ⊎_elim}
 use Rattle.std.specs.List.{range_with_len}
 use Rattle.std.proofs.lemmas.Bool.{ltb-true, ltb-false, false≢true, cases_eq}
 use Rattle.std.proofs.lemmas.Option.{none-some, same_Some}
@@ -18,7 +19,7 @@ use Rattle.cell_base.specs.Fits.{CellFits}
 use Rattle.cell_base.proofs.Admission.{all_numbers}
 use Rattle.policy_laws.specs.Laws.{IsFull}
 use Rattle.policy_laws.specs.Decisions.{PassesTests, wanted, is_saturation, is_saturated, IsFirstOverfilled, DecisionLaw}
-use Rattle.policy_laws.proofs.Lists.{find_passes, All-found}
+use Rattle.cell_base.proofs.Elements.{find_passes, All-found}
 use Rattle.policy_laws.proofs.States.{within-first_over}
 use Rattle.policy_laws.proofs.Endings.{Follows, Ending, refused, granted, admitted, ending}
 use Rattle.policy_laws.proofs.Admission.{admit_saturated}
@@ -45,7 +46,7 @@ first_overfilled cell parts r e =
       before = λ q below. ltb-false _ _ (fails_before is_over 0 (length cell.resources) r e q (omega arith) below);
     }
 
--- a reply, and the state behind it, where the tests are these and the request asks for this state
+-- a reply, and the state after it, where the tests are these and the request asks for this state
 record Decided (cell : Cell) (parts : List Part) (Passes : Type 0) (next : List Part) (o : Reply × List Part) : Type 0 where
   given : (o.0 ≡ Granted) ↔ (Passes × IsAdmitted cell next)
   saturated : (is_saturated o.0 ≡ true) ↔ (Passes × ¬ IsAdmitted cell next)

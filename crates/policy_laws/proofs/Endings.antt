@@ -1,5 +1,6 @@
 -- Endings: the ways in which a request ends, and the one that each request has.
-use Rattle.std.proofs.Common.{◌≡◌, ℕ, ◌+◌, ◌≤◌, true, false, not, if◌then◌else◌, List, [], ◌∷◌, ◌++◌, Contains, Option, Some, None, refl, sym, subst, arith, ◌∙◌}
+use Rattle.std.proofs.Common.{◌≡◌, ℕ, ◌+◌, ◌≤◌, true, false, not, if◌then◌else◌, List, [], ◌∷◌}
+use Rattle.std.proofs.Common.{◌++◌, Contains, Option, Some, None, refl, sym, subst, arith, ◌∙◌}
 use Rattle.std.specs.List.{list_any}
 use Rattle.std.specs.Option.{option_map, option_map_or, option_and_then}
 use Rattle.std.proofs.lemmas.Bool.{cond_both, eqb-true, false≢true, not-true, not-false}
@@ -16,17 +17,19 @@ use Rattle.cell_base.specs.declared.requests.Reply.TheVariants.{Granted}
 use Rattle.cell_base.specs.Stages.{Stage, IsStage, stage_of, is_last, successors, successor}
 use Rattle.cell_base.specs.Neighborhoods.{count}
 use Rattle.cell_base.specs.Policy.{IsState, is_loaded}
-use Rattle.cell_base.specs.Outcomes.{part_of, without, arrival, is_waiting_on, finish_first, refuse, admit, outcome, outcome_of_entry, outcome_of_process, outcome_of_step, outcome_of_move, outcome_of_unload}
+use Rattle.cell_base.specs.Outcomes.{part_of, without, arrival, is_waiting_on, finish_first, refuse, admit, outcome, outcome_of_entry}
+use Rattle.cell_base.specs.Outcomes.{outcome_of_process, outcome_of_step, outcome_of_move, outcome_of_unload}
 use Rattle.cell_base.specs.Fits.{CellFits, RequestFits}
 use Rattle.cell_base.proofs.Admission.{others_from_not_loaded}
 use Rattle.policy_laws.specs.Laws.{MayMove}
 use Rattle.policy_laws.specs.Decisions.{onward, wanted, MayLeave, PassesTests, is_saturation}
-use Rattle.policy_laws.proofs.Lists.{Contains-slice_get}
-use Rattle.policy_laws.proofs.Stages.{arrival_stage, successor_stage, first_stage}
+use Rattle.cell_base.proofs.Elements.{Contains-slice_get}
+use Rattle.cell_base.proofs.Stages.{arrival_stage, successor_stage, first_stage}
 use Rattle.policy_laws.proofs.Parts.{part_of-found, without-others}
-use Rattle.policy_laws.proofs.States.{share-le, count_push, count-without, count-finish_first, IsState-push, IsState-without, IsState-finish_first}
+use Rattle.policy_laws.proofs.States.{share-le, count_push, count-without, count-finish_first}
+use Rattle.policy_laws.proofs.States.{IsState-push, IsState-without, IsState-finish_first}
 
--- the parts behind a step are a state in which each neighborhood holds at most `more` parts more
+-- the parts after a step are a state in which each neighborhood holds at most `more` parts more
 pub record Follows (cell : Cell) (parts : List Part) (more : ℕ) (next : List Part) : Type 0 where
   pub state : IsState cell next
   pub counts : (r : ℕ) → count cell next r ≤ count cell parts r + more

@@ -1,5 +1,6 @@
 -- The bits of a mask: a sum of different powers of two has just their bits.
-use Rattle.std.proofs.Common.{◌≡◌, ℕ, zero, suc, ◌+◌, ◌-◌, ◌*◌, ◌^◌, ◌<◌, ◌≤◌, ◌==◌, Bool, true, false, cond, List, length, get_or, ap, refl, sym, subst, ◌∙◌, ⊎_elim, pow-suc, arith}
+use Rattle.std.proofs.Common.{◌≡◌, ℕ, zero, suc, ◌+◌, ◌-◌, ◌*◌, ◌^◌, ◌<◌, ◌≤◌, ◌==◌, Bool, true, false, cond}
+use Rattle.std.proofs.Common.{List, length, get_or, ap, refl, sym, subst, ◌∙◌, ⊎_elim, pow-suc, arith}
 use Rattle.std.specs.List.{sum_by, range_with_len}
 use Rattle.std.specs.Int.{bit_at}
 use Rattle.std.proofs.Math.Pow.{pow_mono}
@@ -15,15 +16,16 @@ use Rattle.cell_base.specs.Neighborhoods.{leads, mask_of, masks_of}
 use Rattle.cell_base.specs.Fits.{CellFits}
 use Rattle.cell_base.proofs.Bits.{bit_at-number}
 use Rattle.policy_laws.specs.Laws.{MaskLaw}
-use Rattle.policy_laws.proofs.Growing.{numbers_more}
-use Rattle.policy_laws.proofs.Numbering.{numbering_law}
+use Rattle.cell_base.proofs.Growing.{numbers_more}
+use Rattle.cell_base.proofs.Numbering.{numbering_law}
 use Rattle.policy_laws.proofs.Leading.{leads-resource}
 
 -- the bits below n that pass a test
 abbrev bits_below : (ℕ → Bool) → ℕ → ℕ
 bits_below test n = sum_by (λ r. cond (test r) (2 ^ r) 0) (range_with_len 0 n)
 
-record AreBits (test : ℕ → Bool) (n mask : ℕ) : Type 0 where
+-- the mask has the bits below n that pass
+pub record AreBits (test : ℕ → Bool) (n mask : ℕ) : Type 0 where
   pub small : mask < 2 ^ n
   pub bits : (r : ℕ) → r < n → has_bit mask r ≡ test r
 
@@ -46,7 +48,8 @@ power_here n m small =
 has_bit-above : (n m r : ℕ) → m < 2 ^ n → n ≤ r → has_bit m r ≡ false
 has_bit-above n m r small above = ap (λ x. x == 1) (bit_at_above m n r small above)
 
-with_bit : (test : ℕ → Bool) (n m : ℕ) (b : Bool) → test n ≡ b → AreBits test n m → AreBits test (suc n) (m + cond b (2 ^ n) 0)
+-- one bit more
+pub with_bit : (test : ℕ → Bool) (n m : ℕ) (b : Bool) → test n ≡ b → AreBits test n m → AreBits test (suc n) (m + cond b (2 ^ n) 0)
 with_bit test n m true e so_far = record {
   small = omega (arith, so_far.small, pow-suc 2 n);
   bits = λ r within. ⊎_elim
@@ -104,7 +107,11 @@ module _ (cell : Cell) (fits : CellFits cell) where
   -- it fits 64 bits
   pub mask_of-small : (s : Stage) → mask_of cell s < 2 ^ 64
   mask_of-small s =
-      omega (arith, (are_bits (leads cell s) (length cell.resources)).small, pow_mono {i = length cell.resources} {j = 64} fits.resource_count.1)
+      omega (
+        arith,
+        (are_bits (leads cell s) (length cell.resources)).small,
+        pow_mono {i = length cell.resources} {j = 64} fits.resource_count.1,
+      )
 
   -- what a part at the stage counts
   pub bit_at-mask_of : (s : Stage) (r : ℕ) → bit_at (mask_of cell s) r ≡ cond (leads cell s r) 1 0

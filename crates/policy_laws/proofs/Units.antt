@@ -1,5 +1,6 @@
 -- Units: an admitted state has no more parts than the cell has units, since each part is counted at its own resource.
-use Rattle.std.proofs.Common.{◌≡◌, ℕ, zero, suc, ◌+◌, ◌<◌, ◌≤◌, Option, Some, List, [], ◌∷◌, length, take, All, slice_get, get_or, add-one, refl, ap, ⊎_elim, arith}
+use Rattle.std.proofs.Common.{◌≡◌, ℕ, zero, suc, ◌+◌, ◌<◌, ◌≤◌, Option, Some, List, [], ◌∷◌, length}
+use Rattle.std.proofs.Common.{take, All, slice_get, get_or, add-one, refl, ap, ⊎_elim, arith}
 use Rattle.std.specs.List.{filter}
 use Rattle.std.specs.Option.{option_map_or}
 use Rattle.std.proofs.lemmas.Bool.{cond_both, cases_order}
@@ -14,7 +15,7 @@ use Rattle.cell_base.specs.Stages.{IsStage, stage_of, resource_at, capacity_of}
 use Rattle.cell_base.specs.Neighborhoods.{count, leads}
 use Rattle.cell_base.specs.Fits.{CellFits, units_of}
 use Rattle.policy_laws.specs.Laws.{UnitsLaw}
-use Rattle.policy_laws.proofs.Stages.{resource_within}
+use Rattle.cell_base.proofs.Stages.{resource_within}
 use Rattle.policy_laws.proofs.Leading.{leads_here}
 
 -- the sum of f over the numbers below n

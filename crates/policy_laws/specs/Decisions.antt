@@ -19,7 +19,7 @@ use Rattle.cell_base.specs.Outcomes.{part_of, without, arrival, is_waiting_on, f
 use Rattle.cell_base.specs.Fits.{RequestFits}
 use Rattle.policy_laws.specs.Laws.{MayMove, IsFull}
 
--- a part as it arrives behind a branch of its stage, where there is such a branch
+-- a part as it arrives by a branch of its stage, where there is such a branch
 abbrev pub onward : Cell → ℕ → Part → Option Part
 onward cell branch part = option_map (λ (to : Stage). arrival cell part.job part.kind to.place) (successor cell (stage_of part) branch)
 
@@ -39,7 +39,7 @@ pub record MayLeave (cell : Cell) (parts : List Part) (job : JobId) (part : Part
   pub last : is_last cell (stage_of part) ≡ true
 
 -- no test before the one of the neighborhoods refuses: a part that comes in is of a new job, a part waits for the work, a part that
--- goes on is done and has a stage behind that branch, and a part that goes out is done and at a last stage
+-- goes on is done and has a stage at the end of that branch, and a part that goes out is done and at a last stage
 abbrev pub PassesTests : Cell → List Part → Request → Type 0
 PassesTests cell parts (Load job kind) = is_loaded parts job ≡ false
 PassesTests cell parts (Process machine) = list_any (is_waiting_on cell machine.0) parts ≡ true

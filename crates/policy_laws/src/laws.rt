@@ -1,6 +1,8 @@
 //! The laws of the policy for a cell, each the contract of a function that does nothing.
 ghost use Rattle.cell_base.specs.Fits.{CellFits};
-ghost use Rattle.policy_laws.specs.Laws.{NumberingLaw, MaskLaw, SweepLaw, UpLaw, DownLaw, MoveLaw, UnloadLaw, ProcessLaw, AdmissionLaw, RefusalLaw, SaturationLaw, UnitsLaw, PlanLaw};
+ghost use Rattle.cell_base.specs.Numbers.{NumberingLaw};
+ghost use Rattle.policy_laws.specs.Laws.{MaskLaw, SweepLaw, UpLaw, DownLaw, MoveLaw, UnloadLaw, ProcessLaw};
+ghost use Rattle.policy_laws.specs.Laws.{AdmissionLaw, RefusalLaw, SaturationLaw, UnitsLaw, PlanLaw};
 ghost use Rattle.policy_laws.specs.Decisions.{DecisionLaw};
 
 use cell_base::Cell;

@@ -1,5 +1,6 @@
 -- What stands on the board of a shift fits the cell.
-use Rattle.std.proofs.Common.{◌≡◌, ℕ, zero, suc, ◌-◌, ◌*◌, ◌&&◌, nat_lt, Bool, true, false, cond, Option, Some, None, List, [], ◌∷◌, ◌++◌, length, slice_get, All, find, refl}
+use Rattle.std.proofs.Common.{◌≡◌, ℕ, zero, suc, ◌-◌, ◌*◌, ◌&&◌, nat_lt, Bool, true, false, cond, Option}
+use Rattle.std.proofs.Common.{Some, None, List, [], ◌∷◌, ◌++◌, length, slice_get, All, find, refl}
 use Rattle.std.specs.Prelude.{unwrap_or}
 use Rattle.std.specs.Option.{is_none, option_map_or}
 use Rattle.std.proofs.lemmas.List.Elements.{All-append, All-cons, All-head, All-map, All-nil, All-weaker}
@@ -27,7 +28,8 @@ use Rattle.cell_texts.proofs.Fitting.{entries_fit}
 use Rattle.wait_board.specs.declared.entries.BoardEntry.{BoardEntry}
 use Rattle.wait_board.specs.declared.entries.BoardTold.TheVariants as told
 use Rattle.wait_board.specs.declared.waiter.Waiter.{Waiter}
-use Rattle.wait_board.specs.Boards.{OnBoard, board, decided, end_of_wait, entry, is_ready, joined, noted, opened, renewed, scan_within, settled, told_on, waiter_of}
+use Rattle.wait_board.specs.Boards.{OnBoard, board, decided, end_of_wait, entry, is_ready, joined, noted}
+use Rattle.wait_board.specs.Boards.{opened, renewed, scan_within, settled, told_on, waiter_of}
 use Rattle.wait_board.specs.BoardState.{IsWaiting}
 use Rattle.wait_board.proofs.Firsts.{All-without}
 use Rattle.board_rounds.specs.Rounds.{present_step, progress_in, queue_run, rounds, turn, turns}

@@ -5,7 +5,8 @@ use Rattle.std.proofs.lemmas.List.{append_assoc, length-append}
 use Rattle.std.proofs.Math.Seq.{take-append_seam}
 use Rattle.cell_base.specs.declared.cells.Cell.{Cell}
 use Rattle.cell_base.specs.declared.requests.Refusal.{Refusal}
-use Rattle.cell_base.specs.declared.requests.Refusal.TheVariants.{JobLoaded, NoSuchJob, NotProcessed, AtLast, NotLast, Idle, Saturated, NoBranch}
+use Rattle.cell_base.specs.declared.requests.Refusal.TheVariants.{JobLoaded, NoSuchJob, NotProcessed, AtLast}
+use Rattle.cell_base.specs.declared.requests.Refusal.TheVariants.{NotLast, Idle, Saturated, NoBranch}
 use Rattle.cell_base.specs.declared.requests.Reply.{Reply}
 use Rattle.cell_base.specs.declared.requests.Reply.TheVariants.{Granted, Refused}
 use Rattle.cell_base.specs.declared.requests.Request.{Request}
@@ -17,7 +18,7 @@ use Rattle.record_text.specs.Spaced.{spaced}
 use Rattle.record_text.proofs.Appending.{joined-append}
 use Rattle.queue_command.specs.Lines.{asked_line, reason_words}
 
--- words behind a space
+-- words after a space
 spaced-joined : (word : List ℕ) (words : List (List ℕ)) → spaced (word ∷ words) ≡ 32 ∷ joined (word ∷ words)
 spaced-joined word words = ap (λ bytes. 32 ∷ bytes) (sym (joined-append word [] words))
 
@@ -86,7 +87,7 @@ module _ (cell : Cell) (session : ℕ) (request : Request) where
       -- of a refusal
       module _ (why : Refusal) (four five reason line : List ℕ) (is : reply ≡ Refused why) (four_is : four ≡ replied reply)
           (five_is : five ≡ replied reply) (reason_is : reason ≡ take (length five - 1 - 8) (drop 8 four)) where
-        -- what stands behind the word is the text of the reason
+        -- what stands after the word is the text of the reason
         reason_text : (v : List ℕ) (vs : List (List ℕ)) → why_words cell why ≡ v ∷ vs → reason ≡ joined (v ∷ vs)
         reason_text v vs words =
             let text : replied reply ≡ line_of (codes "refused" ∷ v ∷ vs) =

@@ -6,8 +6,7 @@
 //! | a session that waits at the end | `SESSION REQUEST still WHY` |
 //!
 //! Each is the line of a granted or a refused request in a record, but for one word, which is no longer there.
-ghost use Rattle.std.specs.Prelude.{codes, ◌≡◌, ◌+◌, ◌≤◌, ◌∷◌, ◌++◌, [], length};
-ghost use Rattle.std.specs.Fmt.{decimal};
+ghost use Rattle.std.specs.Prelude.{◌≡◌, ◌≤◌, ◌∷◌, length};
 ghost use Rattle.cell_base.specs.declared.requests.Told.TheVariants.{Answered};
 ghost use Rattle.record_text.specs.Fitting.{EntryFits as AskedFits};
 ghost use Rattle.queue_command.specs.Clauses.{EntryFits, WaiterFits, asked_line, entry_line, reason_words, still_line};

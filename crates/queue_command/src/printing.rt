@@ -1,5 +1,5 @@
 //! A board's lines on their way to the sink, each one `put`.
-ghost use Rattle.std.specs.Prelude.{◌≡◌, [], ◌∷◌, map, OnOk, OnErr};
+ghost use Rattle.std.specs.Prelude.{map, OnOk, OnErr};
 ghost use Rattle.std.specs.List.{All};
 ghost use Rattle.cell_walks.specs.Clauses.{HasCause, TookAll, TookSome, sink_told};
 ghost use Rattle.queue_command.specs.Clauses.{BoardFits, EntryFits, WaiterFits, board_lines, entry_line, still_line, told_lines};

@@ -1,2 +1,3 @@
 -- What the contracts of the real outside cite.
+pub mod InSource
 pub mod OutSink

@@ -1,13 +1,16 @@
 //! A file of the system as the disk of a journal.
-ghost use Rattle.std.specs.Prelude.{None};
+ghost use Rattle.std.specs.Prelude.{◌≡◌, None};
 ghost use Rattle.outside_io.specs.Causes.{HasCause};
 
+use crate::failure::Failure;
+use crate::grant_count::GrantCount;
 use crate::journal_file::{JournalFile, Purpose};
+use crate::progress::Progress;
 use outside_io::{Disk, Failed};
 use std::alloc::Global;
 use std::fs::File;
 use std::io;
-use std::rt::Files as HostFiles;
+use std::rt::{Clock, Files as HostFiles};
 
 /// A file by its path, for one purpose. It tells nothing of what it holds; `faults` counts the calls that failed, and stays at its
 /// last value.
@@ -15,24 +18,56 @@ use std::rt::Files as HostFiles;
 pub struct FileDisk<'a, R> {
     file: JournalFile<'a, R>,
     faults: u64,
+    failed: Option<Failure<'a>>,
+    progress: Progress<'a, R>,
+    bytes: u64,
+    grants: GrantCount,
 }
 
-impl<'a, R: HostFiles<File = File>> FileDisk<'a, R> {
-    /// A disk on the file of this name, of which no call has failed yet. Nothing is opened before the first call.
-    pub fn new(rt: &'a R, alloc: Global, name: &'a str, purpose: Purpose) -> FileDisk<'a, R> {
+impl<'a, R: HostFiles<File = File> + Clock + Eprint> FileDisk<'a, R> {
+    /// A disk on the file of this name, of which no call has failed yet. Nothing is opened before the first call. It may be shown how
+    /// much of a long file is read, and how many grants are written.
+    pub fn new(
+        rt: &'a R,
+        alloc: Global,
+        name: &'a str,
+        purpose: Purpose,
+        shows: bool,
+    ) -> FileDisk<'a, R> {
         FileDisk {
             file: JournalFile::new(rt, alloc, name, purpose),
             faults: 0,
+            failed: None,
+            progress: Progress::new(rt, shows),
+            bytes: 0,
+            grants: GrantCount::default(),
         }
     }
 
-    // The answer, and one fault more where it is one.
-    fn counted<T>(&mut self, answer: io::Result<T>) -> Result<T, Failed>
+    /// The last call that failed.
+    pub fn failure(&self) -> Option<Failure<'a>> {
+        self.failed
+    }
+
+    // What was written is stable.
+    fn count_stable(&mut self)
+        ensures { self.new.faults ≡ self.old.faults }
+    {
+        if let Some(grants) = self.grants.sync() {
+            self.progress.show_grants(grants);
+        }
+    }
+
+    // The answer of a call, and one fault more where it is one. A call that did not come to the open file failed to open it.
+    fn counted<T>(&mut self, call: &'static str, answer: io::Result<T>) -> Result<T, Failed>
         ensures { HasCause self.old.faults self.new.faults result }
     {
         match answer {
             Ok(value) => Ok(value),
-            Err(_) => {
+            Err(error) => {
+                let call = if self.file.is_found() { call } else { "open" };
+                let name = self.file.name();
+                self.failed = Some(Failure { call, name, error });
                 self.faults = self.faults.saturating_add(1);
                 Err(Failed)
             }
@@ -40,7 +75,7 @@ impl<'a, R: HostFiles<File = File>> FileDisk<'a, R> {
     }
 }
 
-impl<R: HostFiles<File = File>> Disk for FileDisk<'_, R> {
+impl<R: HostFiles<File = File> + Clock + Eprint> Disk for FileDisk<'_, R> {
     ghost reads_as = { λ _. None };
 
     ghost may_leave = { λ _ _. ⊥ };
@@ -59,21 +94,28 @@ impl<R: HostFiles<File = File>> Disk for FileDisk<'_, R> {
 
     fn len(&mut self) -> Result<u64, Failed> {
         let length = self.file.len();
-        self.counted(length)
+        self.bytes = *length.as_ref().unwrap_or(&0);
+        self.counted("look at", length)
     }
 
     fn read_at(&mut self, at: u64, out: &mut [u8]) -> Result<(), Failed> {
         let read = self.file.read_at(at, out);
-        self.counted(read)
+        let end = at.saturating_add(out.len() as u64);
+        self.progress.show_read(self.file.name(), end, self.bytes);
+        self.counted("read", read)
     }
 
     fn write_at(&mut self, at: u64, bytes: &[u8]) -> Result<(), Failed> {
         let written = self.file.write_at(at, bytes);
-        self.counted(written)
+        self.grants.write(at, bytes.len() as u64);
+        self.counted("write", written)
     }
 
     fn sync(&mut self) -> Result<(), Failed> {
         let synced = self.file.sync();
-        self.counted(synced)
+        if synced.is_ok() {
+            self.count_stable();
+        }
+        self.counted("sync", synced)
     }
 }

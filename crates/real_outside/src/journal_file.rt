@@ -12,6 +12,7 @@ use std::alloc::Global;
 use std::fs::{File, Metadata, OpenOptions, TryLockError};
 use std::io::{self, Error, ErrorKind};
 use std::os::unix::fs::FileExt;
+use std::path::Path;
 use std::rt::Files;
 
 /// What a journal's file is opened for.
@@ -50,6 +51,16 @@ impl<'a, R: Files<File = File>> JournalFile<'a, R> {
             purpose,
             found: None,
         }
+    }
+
+    /// Its name.
+    pub fn name(&self) -> &'a str {
+        self.name
+    }
+
+    /// Whether it was opened, or seen not to be there.
+    pub fn is_found(&self) -> bool {
+        self.found.is_some()
     }
 
     /// The number of bytes.
@@ -124,7 +135,7 @@ fn open_to_read<R: Files<File = File>>(rt: &R, name: &str) -> io::Result<Found> 
 
 // Opens a file to read and write it, makes it where it isn't there, and locks it. The lock goes with the file.
 fn open_to_add<R: Files<File = File>>(rt: &R, alloc: Global, name: &str) -> io::Result<Found> {
-    let _was_there = is_there(rt, name)?;
+    is_there(rt, name)?;
     let mut how = OpenOptions::new();
     how.read(true).write(true).create(true);
     let file = how.open(rt, name)?;
@@ -164,10 +175,20 @@ fn error_unless_read_only<R: Files>(rt: &R, name: &str, error: Error) -> io::Res
     }
 }
 
-// Makes a name in its folder stable. A link is followed, since the file's own name is what has to be found again.
+// Makes a name in its folder stable. A link is followed, since the file's own name is what has to be found again; that path alone takes
+// memory.
 fn sync_folder<R: Files<File = File>>(rt: &R, alloc: Global, name: &str) -> io::Result<()> {
-    let path = rt.canonicalize(alloc, name)?;
+    if rt.symlink_metadata(name)?.is_symlink() {
+        sync_parent(rt, rt.canonicalize(alloc, name)?.as_path())
+    } else {
+        sync_parent(rt, Path::new(name))
+    }
+}
+
+// Makes the entries of the folder that holds a file stable: the current one for a name without a folder.
+fn sync_parent<R: Files<File = File>>(rt: &R, path: Path<'_>) -> io::Result<()> {
     match path.parent() {
+        Some(folder) if folder.as_str().is_empty() => File::open(rt, ".")?.sync_all(),
         Some(folder) => File::open(rt, folder)?.sync_all(),
         None => Ok(()),
     }

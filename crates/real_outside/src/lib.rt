@@ -1,29 +1,40 @@
-//! The real outside: files of the system, a journal's file, standard output and the clock, as the traits of `outside_io` want them.
+//! The real outside: files of the system, a journal's file, standard input and output and the clock, as the traits of `outside_io`
+//! want them.
 //!
 //! The program `wishkabe` hands these to its top call, and nothing else uses them. Proved of each is that its calls are safe and return,
 //! and that a call answers a failure only where its count of faults rose. None tells what it holds, since no proof knows what a
 //! file does: that bytes go where they are meant to is tested, here and by `checks/real-outside`.
 //!
 //! ```text
-//! let mut files = DirFiles::new(&rt);
+//! let mut files = DirFiles::new(&rt, false);
 //! let mut out = OutSink::new(io::writer(&rt));
-//! let disk = FileDisk::new(&rt, rt.alloc(), "journal", Purpose::ToAdd);
+//! let disk = FileDisk::new(&rt, rt.alloc(), "journal", Purpose::ToAdd, false);
 //! let pace = RestPace::new(&rt);
 //! let ended = cell_main(&rt, rt.alloc(), &words, &mut files, &mut out, disk, &pace);
 //! ```
 #![tactic(auto)]
 
 mod dir_files;
+mod failure;
 mod file_disk;
+mod grant_count;
+mod in_source;
 mod journal_file;
 mod out_sink;
+mod progress;
+mod regular_files;
 mod rest_pace;
+mod seen_sink;
 
 pub use dir_files::DirFiles;
+pub use failure::Failure;
 pub use file_disk::FileDisk;
+pub use in_source::InSource;
 pub use journal_file::Purpose;
 pub use out_sink::OutSink;
+pub use regular_files::RegularFiles;
 pub use rest_pace::RestPace;
+pub use seen_sink::{Seen, SeenSink};
 
 #[cfg(test)]
 mod tests;

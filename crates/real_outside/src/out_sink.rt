@@ -3,6 +3,7 @@ ghost use Rattle.std.specs.Prelude.{None, ⊤};
 ghost use Rattle.outside_io.specs.Causes.{HasCause};
 ghost use Rattle.real_outside.specs.OutSink.{write_faults};
 
+use crate::failure::Failure;
 use outside_io::{Failed, Sink};
 use std::io::{self, Write};
 
@@ -12,12 +13,29 @@ use std::io::{self, Write};
 pub struct OutSink<W> {
     inner: W,
     faults: u64,
+    failed: Option<io::Error>,
 }
 
 impl<W: Write> OutSink<W> {
     /// A sink over a writer, of which no call has failed yet.
     pub fn new(inner: W) -> OutSink<W> {
-        OutSink { inner, faults: 0 }
+        OutSink {
+            inner,
+            faults: 0,
+            failed: None,
+        }
+    }
+
+    /// The last call that failed.
+    pub fn failure(&self) -> Option<Failure<'static>> {
+        match self.failed {
+            Some(error) => Some(Failure {
+                call: "write",
+                name: "standard output",
+                error,
+            }),
+            None => None,
+        }
     }
 
     /// Writes what a buffer within the writer still holds. A failure is one of a put before it.
@@ -34,7 +52,8 @@ impl<W: Write> OutSink<W> {
     {
         match answer {
             Ok(()) => Ok(()),
-            Err(_) => {
+            Err(error) => {
+                self.failed = Some(error);
                 self.faults = self.faults.saturating_add(1);
                 Err(Failed)
             }

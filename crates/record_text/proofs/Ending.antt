@@ -1,5 +1,7 @@
 -- Where the reading of a record ends, and with what.
-use Rattle.std.proofs.Common.{◌≡◌, ℕ, suc, ◌+◌, ◌≤◌, Bool, true, false, cond, not, ◌==◌, List, [], ◌∷◌, ◌++◌, length, append_assoc, append-nil, length-append, Option, Some, None, Result, Ok, Err, refl, sym, ap, ◌∙◌, subst, inl, inr, arith, eqb-true}
+use Rattle.std.proofs.Common.{◌≡◌, ℕ, suc, ◌+◌, ◌≤◌, Bool, true, false, cond, not, ◌==◌, List, [], ◌∷◌}
+use Rattle.std.proofs.Common.{◌++◌, length, append_assoc, append-nil, length-append, Option, Some, None}
+use Rattle.std.proofs.Common.{Result, Ok, Err, refl, sym, ap, ◌∙◌, subst, inl, inr, arith, eqb-true}
 use Rattle.std.specs.List.{join_with_byte}
 use Rattle.std.specs.Option.{option_map_or}
 use Rattle.std.proofs.lemmas.Bool.{and_parts}
@@ -23,7 +25,7 @@ use Rattle.record_text.proofs.Running.{run, run_one, run_nothing, run-append}
 pub same_Ok : {A E : Type 0} (x y : A) → ◌≡◌ {A = Result A E} (Ok x) (Ok y) → x ≡ y
 same_Ok x y is = cc
 
-same_Err : {A E : Type 0} (x y : E) → ◌≡◌ {A = Result A E} (Err x) (Err y) → x ≡ y
+pub same_Err : {A E : Type 0} (x y : E) → ◌≡◌ {A = Result A E} (Err x) (Err y) → x ≡ y
 same_Err x y is = cc
 
 nothing_left : (xs : List ℕ) → (length xs == 0) ≡ true → xs ≡ []
@@ -90,11 +92,11 @@ module _ (cell : Cell) where
   pub record Stops (lines : List (List ℕ)) (k : ℕ) : Type 0 where
     pub before : List (List ℕ)
     pub line : List ℕ
-    pub behind : List (List ℕ)
-    pub split : lines ≡ before ++ line ∷ behind
+    pub later : List (List ℕ)
+    pub split : lines ≡ before ++ line ∷ later
     pub number : k ≡ length before + 1
     pub front : IsFront cell before
-    pub stuck : 1 ≤ length behind → run cell 1 [] Between (before ++ line ∷ []) ≡ None
+    pub stuck : 1 ≤ length later → run cell 1 [] Between (before ++ line ∷ []) ≡ None
 
   pub read_stops : (n : ℕ) (blocks : List Block) (at : Stage) (lines : List (List ℕ)) (p : List ℕ) (ps : List (List ℕ)) (k : ℕ)
       → n ≡ length lines + 1 → IsReached cell blocks at lines
@@ -107,7 +109,7 @@ module _ (cell : Cell) where
         record {
           before = lines;
           line = p;
-          behind = [];
+          later = [];
           split = refl;
           number = sym number
               ∙ count;
@@ -135,7 +137,7 @@ module _ (cell : Cell) where
             record {
               before = lines;
               line = p;
-              behind = next ∷ more;
+              later = next ∷ more;
               split = refl;
               number = sym number ∙ count;
               front = front_reached cell lines blocks at reached;

@@ -14,7 +14,8 @@ use Rattle.cell_base.specs.declared.cells.Cell.{Cell}
 use Rattle.cell_base.specs.declared.requests.Request.{Request}
 use Rattle.cell_base.specs.declared.requests.Request.TheVariants.{Load, Process, Move, Unload, Place}
 use Rattle.cell_base.specs.declared.requests.Refusal.{Refusal}
-use Rattle.cell_base.specs.declared.requests.Refusal.TheVariants.{JobLoaded, NoSuchJob, NotProcessed, AtLast, NotLast, Idle, Saturated, NoBranch}
+use Rattle.cell_base.specs.declared.requests.Refusal.TheVariants.{JobLoaded, NoSuchJob, NotProcessed, AtLast}
+use Rattle.cell_base.specs.declared.requests.Refusal.TheVariants.{NotLast, Idle, Saturated, NoBranch}
 use Rattle.cell_base.specs.declared.requests.Reply.TheVariants.{Granted, Refused}
 use Rattle.cell_base.specs.declared.requests.Told.{Told}
 use Rattle.cell_base.specs.declared.requests.Told.TheVariants.{Answered, Halted}
@@ -32,7 +33,7 @@ use Rattle.record_text.specs.Lines.{head_words, why_words, told_words, entry_wor
 use Rattle.record_text.proofs.Requesting.{stage_is_small, step_fits}
 use Rattle.record_text.proofs.Splitting.{IsLine}
 
--- a byte behind the space
+-- a byte after the space
 abbrev pub IsPrinted : ℕ → Type 0
 IsPrinted b = 32 < b
 

@@ -101,7 +101,7 @@ placed_record : text_of_record branching [] 0 0 (entry 0 waiting granted ∷ [])
 unfolding digits
 placed_record = refl
 
--- behind a halt nothing follows
+-- after a halt nothing follows
 halted_record : text_of_record branching [] 1 3 (entry 1 load Halted ∷ []) []
     ≡ text (codes "shift 1 after 3" ∷ codes "1 load 7 B halted" ∷ [])
 unfolding digits

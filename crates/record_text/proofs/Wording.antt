@@ -1,5 +1,6 @@
 -- Lines as words, both ways.
-use Rattle.std.proofs.Common.{codes, ◌≡◌, ℕ, ◌<◌, ◌^◌, Bool, true, false, ◌==◌, ◌&&◌, ◌+◌, List, [], ◌∷◌, ◌++◌, Option, Some, None, Ok, refl, sym, ap, ◌∙◌, subst, inl, inr, arith, lit<}
+use Rattle.std.proofs.Common.{codes, ◌≡◌, ℕ, ◌<◌, ◌^◌, Bool, true, false, ◌==◌, ◌&&◌, ◌+◌, List, [], ◌∷◌, ◌++◌}
+use Rattle.std.proofs.Common.{Option, Some, None, Ok, refl, sym, ap, ◌∙◌, subst, inl, inr, arith, lit<}
 use Rattle.std.specs.Fmt.{decimal}
 use Rattle.std.specs.Prelude.{if◌then◌else◌}
 use Rattle.std.specs.Result.{result_ok}
@@ -22,9 +23,11 @@ use Rattle.step_text.proofs.Back.{words_back}
 use Rattle.record_text.specs.Fitting.{ToldFits}
 use Rattle.record_text.specs.Ranges.{ToldInRange, EntryIsWritten, StepIsWritten}
 use Rattle.record_text.specs.Lines.{head_words, told_words, entry_words, left_words, plan_words}
-use Rattle.record_text.specs.Reading.{Words, after_word, is_end, number_at, two_at, three_at, place_at, told_of, told_at, told_behind, asked_at, entry_at, head_at, left_at, plan_at, step_at}
+use Rattle.record_text.specs.Reading.{Words, after_word, is_end, number_at, two_at, three_at, place_at, told_of}
+use Rattle.record_text.specs.Reading.{told_at, told_after, asked_at, entry_at, head_at, left_at, plan_at, step_at}
 use Rattle.record_text.proofs.Chains.{bind_some, or_some, ok_some}
-use Rattle.record_text.proofs.Requesting.{after_word-sound, after_word-complete, ended-sound, number_at-sound, number_at-complete, IsRead, two_at-sound, three_at-sound, place_at-sound, place_at-complete}
+use Rattle.record_text.proofs.Requesting.{after_word-sound, after_word-complete, ended-sound, number_at-sound, number_at-complete}
+use Rattle.record_text.proofs.Requesting.{IsRead, two_at-sound, three_at-sound, place_at-sound, place_at-complete}
 use Rattle.record_text.proofs.Telling.{told_at-sound, told_at-complete}
 
 -- ---- entries
@@ -37,10 +40,10 @@ record IsAsked (cell : Cell) (ws : Words) (a : Request × Told) : Type 0 where
   told : ToldFits cell a.1
   range : ToldInRange a.1
 
-told_behind-sound : (cell : Cell) (ws : Words) (o : Option (Request × Words)) (a : Request × Told)
-    → ((r : Request × Words) → o ≡ Some r → IsRead cell ws r) → told_behind cell o ≡ Some a → IsAsked cell ws a
-unfolding told_behind
-told_behind-sound cell ws o a read is =
+told_after-sound : (cell : Cell) (ws : Words) (o : Option (Request × Words)) (a : Request × Told)
+    → ((r : Request × Words) → o ≡ Some r → IsRead cell ws r) → told_after cell o ≡ Some a → IsAsked cell ws a
+unfolding told_after
+told_after-sound cell ws o a read is =
     let request = bind_some _ o a is in
     let asked = read request.0 request.1 in
     let told = bind_some _ (told_at cell request.0.1) a request.2 in
@@ -57,11 +60,11 @@ told_behind-sound cell ws o a read is =
 asked_at-sound : (cell : Cell) (ws : Words) (a : Request × Told) → asked_at cell ws ≡ Some a → IsAsked cell ws a
 unfolding asked_at
 asked_at-sound cell ws a is =
-    elim (or_some (told_behind cell (two_at cell ws)) _ a is) [
-      | inl two ↦ told_behind-sound cell ws (two_at cell ws) a (two_at-sound cell ws) two
-      | inr more ↦ elim (or_some (told_behind cell (three_at cell ws)) (told_behind cell (place_at cell ws)) a more) [
-        | inl three ↦ told_behind-sound cell ws (three_at cell ws) a (three_at-sound cell ws) three
-        | inr place ↦ told_behind-sound cell ws (place_at cell ws) a (place_at-sound cell ws) place
+    elim (or_some (told_after cell (two_at cell ws)) _ a is) [
+      | inl two ↦ told_after-sound cell ws (two_at cell ws) a (two_at-sound cell ws) two
+      | inr more ↦ elim (or_some (told_after cell (three_at cell ws)) (told_after cell (place_at cell ws)) a more) [
+        | inl three ↦ told_after-sound cell ws (three_at cell ws) a (three_at-sound cell ws) three
+        | inr place ↦ told_after-sound cell ws (place_at cell ws) a (place_at-sound cell ws) place
       ]
     ]
 
@@ -113,23 +116,23 @@ module _ (cell : Cell) (fits : CellFits cell) (told : Told) (known : ToldFits ce
   -- a step of two words
   by_two : (verb word : List ℕ) (request : Request) → step_of_two cell verb word ≡ Ok request
       → asked_at cell (verb ∷ word ∷ told_words cell told) ≡ Some (request, told)
-  unfolding asked_at two_at told_behind
+  unfolding asked_at two_at told_after
   by_two verb word request is = rw (is, told_again) refl
 
   -- a step of three words, whose first two are no request of which the third one tells
-  by_three : (verb word last : List ℕ) (request : Request) → told_behind cell (two_at cell (verb ∷ word ∷ last ∷ told_words cell told))
+  by_three : (verb word last : List ℕ) (request : Request) → told_after cell (two_at cell (verb ∷ word ∷ last ∷ told_words cell told))
       ≡ None
       → step_of_three cell verb word last ≡ Ok request → asked_at cell (verb ∷ word ∷ last ∷ told_words cell told) ≡ Some (request, told)
-  unfolding asked_at three_at told_behind
+  unfolding asked_at three_at told_after
   by_three verb word last request none is = rw (none, is, told_again) refl
 
-  no_load_of_two : (job name : List ℕ) → told_behind cell (two_at cell (codes "load" ∷ job ∷ name ∷ told_words cell told)) ≡ None
-  unfolding two_at step_of_two told_behind
+  no_load_of_two : (job name : List ℕ) → told_after cell (two_at cell (codes "load" ∷ job ∷ name ∷ told_words cell told)) ≡ None
+  unfolding two_at step_of_two told_after
   no_load_of_two job name = refl
 
   no_branch_told : (job branch : ℕ) → job < 2 ^ 32 → branch < 10
-      → told_behind cell (two_at cell (codes "move" ∷ decimal job ∷ decimal branch ∷ told_words cell told)) ≡ None
-  unfolding two_at told_behind told_at
+      → told_after cell (two_at cell (codes "move" ∷ decimal job ∷ decimal branch ∷ told_words cell told)) ≡ None
+  unfolding two_at told_after told_at
   no_branch_told job branch small below =
       rw (
         move_again cell fits (record { 0 = job }) 0 true refl (omega arith) small,
@@ -147,7 +150,7 @@ module _ (cell : Cell) (fits : CellFits cell) (told : Told) (known : ToldFits ce
 
   placed : (job : JobId) (kind : TypeId) (place : ℕ) (done : Bool) → RequestFits cell (Place job kind place done) → job.0 < 2 ^ 32
       → asked_at cell (request_words cell (Place job kind place done) ++ told_words cell told) ≡ Some (Place job kind place done, told)
-  unfolding asked_at two_at three_at told_behind step_of_two step_of_three
+  unfolding asked_at two_at three_at told_after step_of_two step_of_three
   placed job kind place done standing small =
       rw (place_at-complete cell fits job kind place done (told_words cell told) standing small, told_again) refl
 

@@ -9,15 +9,15 @@ use Rattle.record_text.specs.declared.record.RecordFault.TheVariants.{Bad, Memor
 use Rattle.record_text.specs.Blocks.{AreBlocks}
 use Rattle.record_text.specs.Records.{text_of_blocks}
 
--- the byte behind a line
+-- the byte after a line
 abbrev pub is_newline : ℕ → Bool
 is_newline b = b == 10
 
--- what stands between the newlines, before the first and behind the last
+-- what stands between the newlines, before the first and after the last
 abbrev pub pieces : List ℕ → List (List ℕ)
 pieces bytes = slice_split is_newline bytes
 
--- lines with a newline behind each
+-- lines with a newline after each
 abbrev pub text_of_lines : List (List ℕ) → List ℕ
 text_of_lines lines = flat_map (λ line. line ++ 10 ∷ []) lines
 
@@ -26,16 +26,16 @@ abbrev pub IsFront : Cell → List (List ℕ) → Type 0
 IsFront cell lines =
     (blocks : List Block) × (more : List ℕ) × AreBlocks cell blocks × (text_of_blocks cell blocks ≡ text_of_lines lines ++ more)
 
--- the n-th line is bad: a record file may begin with the lines before it, but not with them and it. What stands behind the last
+-- the n-th line is bad: a record file may begin with the lines before it, but not with them and it. What stands after the last
 -- newline is no line, so its number is that of a line which is missing or has no newline
 pub record IsBadLine (cell : Cell) (bytes : List ℕ) (n : ℕ) : Type 0 where
   pub before : List (List ℕ)
   pub line : List ℕ
-  pub behind : List (List ℕ)
-  pub split : pieces bytes ≡ before ++ line ∷ behind
+  pub later : List (List ℕ)
+  pub split : pieces bytes ≡ before ++ line ∷ later
   pub number : n ≡ length before + 1
   pub front : IsFront cell before
-  pub bad : 1 ≤ length behind → ¬ IsFront cell (before ++ line ∷ [])
+  pub bad : 1 ≤ length later → ¬ IsFront cell (before ++ line ∷ [])
   pub none : (blocks : List Block) → AreBlocks cell blocks → bytes ≢ text_of_blocks cell blocks
 
 -- the bytes are the text of these blocks, and few enough

@@ -1,7 +1,7 @@
 //! A line of text, made word by word.
 ghost use Rattle.std.specs.Prelude.{◌≡◌, ◌+◌, ◌≤◌, ◌∷◌, [], ◌++◌, length};
+ghost use Rattle.std.specs.Fmt.{decimal};
 
-use arrayvec::ArrayVec;
 use itoa::{Buffer, Integer};
 use std::marker::Model;
 
@@ -19,18 +19,21 @@ pub const LINE_BYTES: usize = 160;
 ///
 /// Where many lines are made one after the other, one `Line` serves: each begins with `begin` and ends with `close`.
 ///
-/// Each call asks for room in `LINE_BYTES`, and says how long the line is at most behind it.
+/// Each call asks for room in `LINE_BYTES`, and says how long the line is at most after it.
 #[derive(Drop)]
 pub struct Line {
-    kept: ArrayVec<u8, LINE_BYTES>,
+    bytes: [u8; LINE_BYTES],
+    len: usize,
 }
 
 impl Model for Line {
-    ghost use Rattle.std.specs.Prelude.{List, ℕ};
+    ghost use Rattle.std.specs.Prelude.{List, ℕ, ◌≤◌, take};
 
     ghost Value = { List ℕ };
 
-    ghost view = { λ l. l.kept.items };
+    ghost view = { λ l. take l.len l.bytes };
+
+    ghost invariant = { λ l. l.len ≤ 160 };
 }
 
 impl Line {
@@ -39,7 +42,8 @@ impl Line {
         ensures { result ≡ [] }
     {
         Line {
-            kept: ArrayVec::new(),
+            bytes: [0; LINE_BYTES],
+            len: 0,
         }
     }
 
@@ -58,18 +62,17 @@ impl Line {
         requires { length word.now ≤ LINE_BYTES }
         ensures { self.new ≡ word.now }
     {
-        self.kept.clear();
+        self.clear();
         self.append(word);
     }
 
     /// Begins the line anew with this number, in decimal digits.
-    pub fn begin_number<N: Integer>(&mut self, n: N)
-        requires { N.MAX_STR_LEN ≤ LINE_BYTES }
-        ensures digits { self.new ≡ N.text n }
-        ensures len { length self.new ≤ N.MAX_STR_LEN }
+    pub fn begin_number(&mut self, n: u16)
+        ensures digits { self.new ≡ decimal n }
+        ensures len { length self.new ≤ 10 }
     {
-        let mut digits = Buffer::new();
-        self.begin(digits.format(n).as_bytes());
+        self.clear();
+        self.digits(u32::from(n));
     }
 
     /// Appends a space and a word.
@@ -78,7 +81,7 @@ impl Line {
         ensures bytes { self.new ≡ self.old ++ 32 ∷ word.now }
         ensures len { length self.new ≡ length self.old + 1 + length word.now }
     {
-        self.kept.push(b' ');
+        self.space();
         self.append(word);
     }
 
@@ -92,12 +95,22 @@ impl Line {
         self.word(digits.format(n).as_bytes());
     }
 
+    /// The same of a number of 32 bits, which is mostly a short one.
+    pub fn short_number(&mut self, n: u32)
+        requires { length self.old + 11 ≤ LINE_BYTES }
+        ensures bytes { self.new ≡ self.old ++ 32 ∷ decimal n }
+        ensures len { length self.new ≤ length self.old + 11 }
+    {
+        self.space();
+        self.digits(n);
+    }
+
     /// Appends a newline.
     pub fn close(&mut self)
         requires { length self.old + 1 ≤ LINE_BYTES }
         ensures { self.new ≡ self.old ++ 10 ∷ [] }
     {
-        self.kept.push(b'\n');
+        self.push(b'\n');
     }
 
     /// The line with its newline.
@@ -114,13 +127,56 @@ impl Line {
         ensures value { result.now ≡ self.now }
         ensures short { length self.now ≤ LINE_BYTES }
     {
-        self.kept.as_slice()
+        &self.bytes[..self.len]
+    }
+
+    fn clear(&mut self)
+        ensures { self.new ≡ [] }
+    {
+        self.len = 0;
+    }
+
+    fn space(&mut self)
+        requires { length self.old + 1 ≤ LINE_BYTES }
+        ensures bytes { self.new ≡ self.old ++ 32 ∷ [] }
+        ensures len { length self.new ≡ length self.old + 1 }
+    {
+        self.push(b' ');
+    }
+
+    fn push(&mut self, byte: u8)
+        requires { length self.old + 1 ≤ LINE_BYTES }
+        ensures bytes { self.new ≡ self.old ++ byte ∷ [] }
+        ensures len { length self.new ≡ length self.old + 1 }
+    {
+        self.bytes[self.len] = byte;
+        self.len += 1;
     }
 
     fn append(&mut self, bytes: &[u8])
         requires { length self.old + length bytes.now ≤ LINE_BYTES }
-        ensures { self.new ≡ self.old ++ bytes.now }
+        ensures bytes { self.new ≡ self.old ++ bytes.now }
+        ensures len { length self.new ≡ length self.old + length bytes.now }
     {
-        let _ = self.kept.try_extend_from_slice(bytes);
+        let end = self.len + bytes.len();
+        self.bytes[self.len..end].copy_from_slice(bytes);
+        self.len = end;
+    }
+
+    // A number of one digit or two is written in its place.
+    fn digits(&mut self, n: u32)
+        requires { length self.old + 10 ≤ LINE_BYTES }
+        ensures bytes { self.new ≡ self.old ++ decimal n }
+        ensures len { length self.new ≤ length self.old + 10 }
+    {
+        if n < 10 {
+            self.push(b'0' + n as u8);
+        } else if n < 100 {
+            self.push(b'0' + (n / 10) as u8);
+            self.push(b'0' + (n % 10) as u8);
+        } else {
+            let mut digits = Buffer::new();
+            self.append(digits.format(n).as_bytes());
+        }
     }
 }

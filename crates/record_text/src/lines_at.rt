@@ -3,7 +3,7 @@ ghost use Rattle.std.specs.Prelude.{◌≡◌};
 ghost use Rattle.std.specs.Option.{option_map, option_copied};
 ghost use Rattle.cell_base.specs.Fits.{CellFits};
 ghost use Rattle.step_text.specs.Words.{words};
-ghost use Rattle.record_text.specs.Reading.{behind, told_behind, asked_at, entry_at, head_at, left_at, plan_at, step_at};
+ghost use Rattle.record_text.specs.Reading.{words_of_rest, told_after, asked_at, entry_at, head_at, left_at, plan_at, step_at};
 
 use crate::requests_at::{place_at, three_at, two_at};
 use crate::told_at::told_at;
@@ -55,21 +55,21 @@ pub fn entry_at(cell: &Cell, line: &[u8]) -> Option<Entry>
 #[tactic(auto, unfolding(crate::specs::Reading::asked_at))]
 fn asked_at(cell: &Cell, rest: Rest<'_>) -> Option<(Request, Told)>
     requires { CellFits cell.now }
-    ensures { result ≡ asked_at cell.now (behind (option_copied rest.entry)) }
+    ensures { result ≡ asked_at cell.now (words_of_rest (option_copied rest.entry)) }
 {
-    if let Some(asked) = told_behind(cell, two_at(cell, rest)) {
+    if let Some(asked) = told_after(cell, two_at(cell, rest)) {
         return Some(asked);
     }
-    if let Some(asked) = told_behind(cell, three_at(cell, rest)) {
+    if let Some(asked) = told_after(cell, three_at(cell, rest)) {
         return Some(asked);
     }
-    told_behind(cell, place_at(cell, rest))
+    told_after(cell, place_at(cell, rest))
 }
 
-#[tactic(auto, unfolding(crate::specs::Reading::told_behind))]
-fn told_behind(cell: &Cell, read: Option<(Request, Rest<'_>)>) -> Option<(Request, Told)>
+#[tactic(auto, unfolding(crate::specs::Reading::told_after))]
+fn told_after(cell: &Cell, read: Option<(Request, Rest<'_>)>) -> Option<(Request, Told)>
     requires { CellFits cell.now }
-    ensures { result ≡ told_behind cell.now (option_map (λ x. (x.0, behind (option_copied x.1))) read.entry) }
+    ensures { result ≡ told_after cell.now (option_map (λ x. (x.0, words_of_rest (option_copied x.1))) read.entry) }
 {
     let (request, rest) = read?;
     let told = told_at(cell, rest)?;

@@ -1,19 +1,9 @@
 //! Texts that are read, and the bad lines of others.
 use crate::{RecordFault, read_record};
-use cell_base::{Cell, JobType, List, Name, NoMemory, ResId, Resource, Step, cell_fits};
+use cell_base::{Cell, JobType, List, Name, NoMemory, ResId, Step, cell_fits};
+use small_cells::add_machine;
 use std::alloc::Global;
 use std::test::Fail;
-
-fn add_resource(list: &mut List<Resource>, name: &[u8]) -> Result<(), NoMemory> {
-    if let Some(name) = Name::read(name) {
-        list.try_push(Resource {
-            name,
-            capacity: 1,
-            order: 1,
-        })?;
-    }
-    Ok(())
-}
 
 /// Adds a type with one place, on a resource.
 fn add_type(
@@ -39,8 +29,8 @@ fn add_type(
 /// A cell of which some names are words of a record.
 fn named_cell(alloc: Global) -> Result<Cell, NoMemory> {
     let mut resources = List::new(alloc);
-    add_resource(&mut resources, b"M1")?;
-    add_resource(&mut resources, b"halted")?;
+    add_machine(&mut resources, b"M1", 1)?;
+    add_machine(&mut resources, b"halted", 1)?;
     let mut types = List::new(alloc);
     add_type(alloc, &mut types, b"A", 0, true)?;
     add_type(alloc, &mut types, b"granted", 1, false)?;

@@ -2,7 +2,7 @@
 ghost use Rattle.std.specs.Prelude.{◌≡◌};
 ghost use Rattle.std.specs.Option.{option_map, option_copied};
 ghost use Rattle.cell_base.specs.Fits.{CellFits};
-ghost use Rattle.record_text.specs.Reading.{behind, two_at, three_at, place_fits, place_at};
+ghost use Rattle.record_text.specs.Reading.{words_of_rest, two_at, three_at, place_fits, place_at};
 
 use crate::words::{Rest, after_word, done_at, number_at, type_at, word_at};
 use cell_base::{Cell, JobId, Request, TypeId, request_fits};
@@ -14,7 +14,8 @@ const PLACE: &[u8] = b"place";
 #[tactic(auto, unfolding(crate::specs::Reading::two_at))]
 pub fn two_at<'a>(cell: &Cell, rest: Rest<'a>) -> Option<(Request, Rest<'a>)>
     requires { CellFits cell.now }
-    ensures { option_map (λ x. (x.0, behind (option_copied x.1))) result ≡ two_at cell.now (behind (option_copied rest.entry)) }
+    ensures { option_map (λ x. (x.0, words_of_rest (option_copied x.1))) result
+        ≡ two_at cell.now (words_of_rest (option_copied rest.entry)) }
 {
     let (verb, rest) = word_at(rest)?;
     let (word, rest) = word_at(rest)?;
@@ -28,7 +29,8 @@ pub fn two_at<'a>(cell: &Cell, rest: Rest<'a>) -> Option<(Request, Rest<'a>)>
 #[tactic(auto, unfolding(crate::specs::Reading::three_at))]
 pub fn three_at<'a>(cell: &Cell, rest: Rest<'a>) -> Option<(Request, Rest<'a>)>
     requires { CellFits cell.now }
-    ensures { option_map (λ x. (x.0, behind (option_copied x.1))) result ≡ three_at cell.now (behind (option_copied rest.entry)) }
+    ensures { option_map (λ x. (x.0, words_of_rest (option_copied x.1))) result
+        ≡ three_at cell.now (words_of_rest (option_copied rest.entry)) }
 {
     let (verb, rest) = word_at(rest)?;
     let (word, rest) = word_at(rest)?;
@@ -55,7 +57,8 @@ fn place_fits(cell: &Cell, job: u32, kind: u16, place: u16, done: bool) -> bool
 #[tactic(auto, unfolding(crate::specs::Reading::place_at))]
 pub fn place_at<'a>(cell: &Cell, rest: Rest<'a>) -> Option<(Request, Rest<'a>)>
     requires { CellFits cell.now }
-    ensures { option_map (λ x. (x.0, behind (option_copied x.1))) result ≡ place_at cell.now (behind (option_copied rest.entry)) }
+    ensures { option_map (λ x. (x.0, words_of_rest (option_copied x.1))) result
+        ≡ place_at cell.now (words_of_rest (option_copied rest.entry)) }
 {
     let rest = after_word(PLACE, rest)?;
     let (job, rest) = number_at(0, u32::MAX as u64, rest)?;

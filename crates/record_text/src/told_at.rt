@@ -2,7 +2,7 @@
 ghost use Rattle.std.specs.Prelude.{◌≡◌};
 ghost use Rattle.std.specs.Option.{option_copied};
 ghost use Rattle.cell_base.specs.Fits.{CellFits};
-ghost use Rattle.record_text.specs.Reading.{behind, saturated_at, plain_refusal, why_at, told_at};
+ghost use Rattle.record_text.specs.Reading.{words_of_rest, saturated_at, plain_refusal, why_at, told_at};
 
 use crate::words::{Rest, after_word, is_end, number_at, resource_at, word_at};
 use cell_base::{Cell, Refusal, Reply, ResId, Told};
@@ -35,7 +35,7 @@ const OF: &[u8] = b"of";
 #[tactic(auto, unfolding(crate::specs::Reading::told_at, crate::specs::Reading::told_of))]
 pub fn told_at(cell: &Cell, rest: Rest<'_>) -> Option<Told>
     requires { CellFits cell.now }
-    ensures { result ≡ told_at cell.now (behind (option_copied rest.entry)) }
+    ensures { result ≡ told_at cell.now (words_of_rest (option_copied rest.entry)) }
 {
     let (word, rest) = word_at(rest)?;
     if word == GRANTED {
@@ -62,7 +62,7 @@ pub fn told_at(cell: &Cell, rest: Rest<'_>) -> Option<Told>
 #[tactic(auto, unfolding(crate::specs::Reading::why_at))]
 fn why_at(cell: &Cell, rest: Rest<'_>) -> Option<Refusal>
     requires { CellFits cell.now }
-    ensures { result ≡ why_at cell.now (behind (option_copied rest.entry)) }
+    ensures { result ≡ why_at cell.now (words_of_rest (option_copied rest.entry)) }
 {
     let (word, rest) = word_at(rest)?;
     if word == SATURATED {
@@ -103,7 +103,7 @@ fn plain_refusal(word: &[u8]) -> Option<Refusal>
 #[tactic(auto, unfolding(crate::specs::Reading::saturated_at))]
 fn saturated_at(cell: &Cell, rest: Rest<'_>) -> Option<Refusal>
     requires { CellFits cell.now }
-    ensures { result ≡ saturated_at cell.now (behind (option_copied rest.entry)) }
+    ensures { result ≡ saturated_at cell.now (words_of_rest (option_copied rest.entry)) }
 {
     let (at, rest) = resource_at(cell, rest)?;
     let (count, rest) = number_at(0, u32::MAX as u64, rest)?;

@@ -1,10 +1,10 @@
 //! The words of a line, read from the left.
 //!
-//! Each reader takes what is left of the line, and gives what it has read with what is left behind it.
+//! Each reader takes what is left of the line, and gives what it has read with what is left after it.
 ghost use Rattle.std.specs.Prelude.{◌≡◌, ◌<◌, ◌≤◌, length, IfSome};
 ghost use Rattle.std.specs.Option.{option_map, option_copied};
 ghost use Rattle.cell_base.specs.Fits.{CellFits};
-ghost use Rattle.record_text.specs.Reading.{behind, word_at, is_end, after_word, number_at, type_at, resource_at, done_at};
+ghost use Rattle.record_text.specs.Reading.{words_of_rest, word_at, is_end, after_word, number_at, type_at, resource_at, done_at};
 
 use cell_base::Cell;
 use step_text::{cut, number_of, resource_named, type_named};
@@ -13,12 +13,12 @@ const DONE: &[u8] = b"done";
 
 const WAITING: &[u8] = b"waiting";
 
-/// What is left of a line behind a word: the text behind the space after it, if there is one.
+/// What is left of a line after a word: the text after the space that follows it, if there is one.
 pub type Rest<'a> = Option<&'a [u8]>;
 
 /// The first word.
 pub fn word_at<'a>(rest: Rest<'a>) -> Option<(&'a [u8], Rest<'a>)>
-    ensures { option_map (λ x. (x.0.now, behind (option_copied x.1))) result ≡ word_at (behind (option_copied rest.entry)) }
+    ensures { option_map (λ x. (x.0.now, words_of_rest (option_copied x.1))) result ≡ word_at (words_of_rest (option_copied rest.entry)) }
 {
     match rest {
         Some(text) => Some(cut(text)),
@@ -29,7 +29,7 @@ pub fn word_at<'a>(rest: Rest<'a>) -> Option<(&'a [u8], Rest<'a>)>
 /// Whether nothing more stands there.
 #[tactic(auto, using(crate::proofs::Splitting::some_left), unfolding(crate::specs::Reading::is_end))]
 pub fn is_end(rest: Rest<'_>) -> bool
-    ensures { result ≡ is_end (behind (option_copied rest.entry)) }
+    ensures { result ≡ is_end (words_of_rest (option_copied rest.entry)) }
 {
     match rest {
         Some(_) => false,
@@ -37,10 +37,11 @@ pub fn is_end(rest: Rest<'_>) -> bool
     }
 }
 
-/// What stands behind this word.
+/// What stands after this word.
 #[tactic(auto, unfolding(crate::specs::Reading::after_word))]
 pub fn after_word<'a>(key: &[u8], rest: Rest<'a>) -> Option<Rest<'a>>
-    ensures { option_map (λ rest. behind (option_copied rest)) result ≡ after_word key.now (behind (option_copied rest.entry)) }
+    ensures { option_map (λ rest. words_of_rest (option_copied rest)) result
+        ≡ after_word key.now (words_of_rest (option_copied rest.entry)) }
 {
     let (word, rest) = word_at(rest)?;
     if word == key { Some(rest) } else { None }
@@ -49,8 +50,8 @@ pub fn after_word<'a>(key: &[u8], rest: Rest<'a>) -> Option<Rest<'a>>
 /// A number from `low` to `high`.
 #[tactic(auto, unfolding(crate::specs::Reading::number_at))]
 pub fn number_at(low: u64, high: u64, rest: Rest<'_>) -> Option<(u64, Rest<'_>)>
-    ensures number { option_map (λ x. (x.0, behind (option_copied x.1))) result
-        ≡ number_at low high (behind (option_copied rest.entry)) }
+    ensures number { option_map (λ x. (x.0, words_of_rest (option_copied x.1))) result
+        ≡ number_at low high (words_of_rest (option_copied rest.entry)) }
     ensures within { IfSome result (λ x. x.0 ≤ high) }
 {
     let (word, rest) = word_at(rest)?;
@@ -64,7 +65,8 @@ pub fn number_at(low: u64, high: u64, rest: Rest<'_>) -> Option<(u64, Rest<'_>)>
 #[tactic(auto, unfolding(crate::specs::Reading::type_at))]
 pub fn type_at<'a>(cell: &Cell, rest: Rest<'a>) -> Option<(u16, Rest<'a>)>
     requires { CellFits cell.now }
-    ensures kind { option_map (λ x. (x.0, behind (option_copied x.1))) result ≡ type_at cell.now (behind (option_copied rest.entry)) }
+    ensures kind { option_map (λ x. (x.0, words_of_rest (option_copied x.1))) result
+        ≡ type_at cell.now (words_of_rest (option_copied rest.entry)) }
     ensures within { IfSome result (λ x. x.0 < length cell.now.types) }
 {
     let (word, rest) = word_at(rest)?;
@@ -78,8 +80,8 @@ pub fn type_at<'a>(cell: &Cell, rest: Rest<'a>) -> Option<(u16, Rest<'a>)>
 #[tactic(auto, unfolding(crate::specs::Reading::resource_at))]
 pub fn resource_at<'a>(cell: &Cell, rest: Rest<'a>) -> Option<(u16, Rest<'a>)>
     requires { CellFits cell.now }
-    ensures resource { option_map (λ x. (x.0, behind (option_copied x.1))) result
-        ≡ resource_at cell.now (behind (option_copied rest.entry)) }
+    ensures resource { option_map (λ x. (x.0, words_of_rest (option_copied x.1))) result
+        ≡ resource_at cell.now (words_of_rest (option_copied rest.entry)) }
     ensures within { IfSome result (λ x. x.0 < length cell.now.resources) }
 {
     let (word, rest) = word_at(rest)?;
@@ -92,7 +94,7 @@ pub fn resource_at<'a>(cell: &Cell, rest: Rest<'a>) -> Option<(u16, Rest<'a>)>
 /// Whether a placed part is done.
 #[tactic(auto, unfolding(crate::specs::Reading::done_at))]
 pub fn done_at(rest: Rest<'_>) -> Option<(bool, Rest<'_>)>
-    ensures { option_map (λ x. (x.0, behind (option_copied x.1))) result ≡ done_at (behind (option_copied rest.entry)) }
+    ensures { option_map (λ x. (x.0, words_of_rest (option_copied x.1))) result ≡ done_at (words_of_rest (option_copied rest.entry)) }
 {
     let (word, rest) = word_at(rest)?;
     if word == DONE {

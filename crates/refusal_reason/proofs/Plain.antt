@@ -56,7 +56,10 @@ module _ (cell : Cell) (fits : CellFits cell) where
           plain_name _ (resource_named cell fits r within),
           (
             key (codes "capacity") refl,
-            (plain_decimal (capacity_of cell r) (capacity_small r), (key (codes "order") refl, (plain_decimal (order_of cell r) (order_small r), tt))),
+            (
+              plain_decimal (capacity_of cell r) (capacity_small r),
+              (key (codes "order") refl, (plain_decimal (order_of cell r) (order_small r), tt)),
+            ),
           ),
         ),
       )

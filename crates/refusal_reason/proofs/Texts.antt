@@ -1,5 +1,6 @@
 -- Texts of lines: how they grow, how they are cut, and that each line has one newline.
-use Rattle.std.proofs.Common.{codes, cond, ap₂, ⊎_elim, length-append, ◌≡◌, ℕ, ◌+◌, ◌<◌, ◌≤◌, ◌^◌, Bool, true, false, List, [], ◌∷◌, ◌++◌, length, take, drop, get_or, map, All, Contains, Some, None, position, refl, ap, subst, ◌∙◌, sym, arith}
+use Rattle.std.proofs.Common.{codes, cond, ap₂, ⊎_elim, length-append, ◌≡◌, ℕ, ◌+◌, ◌<◌, ◌≤◌, ◌^◌, Bool, true, false, List, [], ◌∷◌, ◌++◌}
+use Rattle.std.proofs.Common.{length, take, drop, get_or, map, All, Contains, Some, None, position, refl, ap, subst, ◌∙◌, sym, arith}
 use Rattle.std.specs.List.{concat, flat_map, range_with_len, position_or_len}
 use Rattle.std.specs.Fmt.{decimal}
 use Rattle.std.proofs.lemmas.List.{append_assoc, append-nil, take_more, map-append, get_or_append_left}
@@ -39,7 +40,8 @@ concat_more line_of xs i d text within =
 pub shown_more : (cell : Cell) (r : ℕ) → concat (flat_map (resource_lines cell) (range_with_len 0 (r + 1)))
     ≡ concat (flat_map (resource_lines cell) (range_with_len 0 r)) ++ concat (resource_lines cell r)
 shown_more cell r =
-    ap concat (join_next (resource_lines cell) r) ∙ concat-append (flat_map (resource_lines cell) (range_with_len 0 r)) (resource_lines cell r)
+    ap concat (join_next (resource_lines cell) r)
+    ∙ concat-append (flat_map (resource_lines cell) (range_with_len 0 r)) (resource_lines cell r)
 
 -- the same function on the elements of a list
 map_same : {X Y : Type 0} (f g : X → Y) (xs : List X) → ((x : X) → Contains xs x → f x ≡ g x) → map f xs ≡ map g xs
@@ -58,14 +60,16 @@ module _ (cell : Cell) (r : ℕ) where
   pub members_numbered : All (λ (stage : StageNo). IsNumber cell stage.0) (map (stage_no cell) (neighborhood cell r))
   members_numbered =
       All-map (λ (stage : StageNo). IsNumber cell stage.0) (stage_no cell) (neighborhood cell r)
-      (All-weaker (IsStage cell) (λ s. IsNumber cell (number_of cell s)) (numbering_law cell).numbers (neighborhood cell r) members_standing)
+      (All-weaker (IsStage cell) (λ s. IsNumber cell (number_of cell s)) (numbering_law cell).numbers
+      (neighborhood cell r) members_standing)
 
   pub members_lines : map (λ (stage : StageNo). stage_line cell (stage_numbered cell stage.0)) (map (stage_no cell) (neighborhood cell r))
       ≡ stage_lines cell (neighborhood cell r)
   members_lines =
       map_twice (λ (stage : StageNo). stage_line cell (stage_numbered cell stage.0)) (stage_no cell) (neighborhood cell r)
       ∙ map_same (λ s. stage_line cell (stage_numbered cell (number_of cell s))) (stage_line cell) (neighborhood cell r)
-      (λ s c. ap (stage_line cell) ((numbering_law cell).numbered s (All-contains (IsStage cell) (neighborhood cell r) s members_standing c)))
+      (λ s c. ap (stage_line cell)
+      ((numbering_law cell).numbered s (All-contains (IsStage cell) (neighborhood cell r) s members_standing c)))
 
 -- ---- the first line of a text
 
@@ -74,7 +78,8 @@ module _ (text line rest : List ℕ) (is : IsLine line) (made : text ≡ line ++
   split = made ∙ ap (λ bytes. bytes ++ rest) is.ended ∙ append_assoc is.words (10 ∷ []) rest
 
   newline_here : is_newline (get_or text (length is.words) 0) ≡ true
-  newline_here = ap (λ (bytes : List ℕ). is_newline (get_or bytes (length is.words) 0)) split ∙ ap is_newline (get_or-append_seam is.words 10 rest 0)
+  newline_here = ap (λ (bytes : List ℕ). is_newline (get_or bytes (length is.words) 0)) split
+      ∙ ap is_newline (get_or-append_seam is.words 10 rest 0)
 
   long : length is.words < length text
   long = omega (arith, ap length split, length-append is.words (10 ∷ rest))
@@ -98,8 +103,10 @@ module _ (text line rest : List ℕ) (is : IsLine line) (made : text ≡ line ++
 
   pub newline_somewhere : position is_newline text ≡ None → ⊥
   newline_somewhere none = ⊎_elim
-      (λ (h : position_or_len is_newline text < length text). none-some _ (sym none ∙ ap (λ b. cond b (Some (position_or_len is_newline text)) None) (lt-ltb _ _ h)))
-      (λ (h : length text ≤ position_or_len is_newline text). both_ways _ (fails_before_first is_newline text (length is.words) 0 (omega (arith, long))) newline_here)
+      (λ (h : position_or_len is_newline text < length text). none-some _
+      (sym none ∙ ap (λ b. cond b (Some (position_or_len is_newline text)) None) (lt-ltb _ _ h)))
+      (λ (h : length text ≤ position_or_len is_newline text). both_ways _
+      (fails_before_first is_newline text (length is.words) 0 (omega (arith, long))) newline_here)
       (cases_lt (position_or_len is_newline text) (length text))
 
   pub cut_line : (at : ℕ) → at ≡ length is.words → (take (at + 1) text ≡ line) × (drop (at + 1) text ≡ rest)

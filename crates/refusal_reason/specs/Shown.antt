@@ -12,7 +12,8 @@ use Rattle.record_text.specs.BadLines.{is_newline}
 -- the line of a resource
 abbrev pub resource_line : Cell → ℕ → List ℕ
 resource_line cell r = line_of
-    (codes "resource" ∷ resource_name cell r ∷ codes "capacity" ∷ decimal (capacity_of cell r) ∷ codes "order" ∷ decimal (order_of cell r) ∷ [])
+    (codes "resource" ∷ resource_name cell r ∷ codes "capacity" ∷ decimal (capacity_of cell r)
+    ∷ codes "order" ∷ decimal (order_of cell r) ∷ [])
 
 -- the line of a stage
 abbrev pub stage_line : Cell → Stage → List ℕ

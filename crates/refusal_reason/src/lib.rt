@@ -2,7 +2,8 @@
 //!
 //! A request that is refused for a full neighborhood is told the resource and two numbers. `explain` names the jobs that
 //! stand in that neighborhood, as many as the resource has units; each other refusal needs no job. `show_text` is the text
-//! of a cell's resources, each with the stages of its neighborhood, and `first_line` gives out its lines one by one:
+//! of a cell's resources, each with the stages of its neighborhood, and `first_line` gives out its lines one by one;
+//! `resource_line` and `write_stage` make them alone:
 //!
 //! ```text
 //! if let Reply::Refused(why) = core.decide(&request) {
@@ -18,7 +19,7 @@ mod reasons;
 mod shown;
 
 pub use reasons::explain;
-pub use shown::{first_line, show_text};
+pub use shown::{first_line, resource_line, show_text, write_stage};
 
 #[cfg(test)]
 mod tests;

@@ -1,4 +1,4 @@
-//! The jobs that stand behind a refusal.
+//! The jobs that stand in the way of a request that is refused.
 ghost use Rattle.std.specs.Prelude.{◌≡◌, ◌<◌, length, IfOk};
 ghost use Rattle.cell_base.specs.Stages.{IsStage, stage_of};
 ghost use Rattle.cell_base.specs.Neighborhoods.{counted, leads};

@@ -1,13 +1,13 @@
 //! The text that shows a cell's neighborhoods, made and given out line by line.
 ghost use Rattle.std.specs.Prelude.{◌≡◌, ℕ, ◌<◌, ◌++◌, length, map, position, OnOk, IfOk, List as Items};
 ghost use Rattle.std.specs.List.{All, concat};
-ghost use Rattle.cell_base.specs.Fits.{CellFits};
 ghost use Rattle.cell_base.specs.Numbers.{IsNumber, stage_numbered};
 ghost use Rattle.record_text.specs.BadLines.{is_newline};
 ghost use Rattle.refusal_reason.specs.Shown.{IsLine, resource_line, stage_line, resource_lines, show_lines};
 
 use admission_core::Core;
 use cell_base::{Cell, List, NoMemory, ResId};
+use memchr::memchr;
 use record_text::{Line, add_resource, add_type};
 use route_table::{StageNo, StageTable};
 use std::alloc::Global;
@@ -34,15 +34,19 @@ fn push_resource(alloc: Global, text: &mut List<u8>, core: &Core, r: ResId) -> R
 
 fn push_stages(text: &mut List<u8>, table: &StageTable, stages: &[StageNo]) -> Result<(), NoMemory>
     requires { All (λ stage. IsNumber table.now stage.0) stages.now }
-    ensures { OnOk result (text.new ≡ text.old ++ concat (map (λ stage. stage_line table.now (stage_numbered table.now stage.0)) stages.now)) }
+    ensures { OnOk result (text.new
+        ≡ text.old ++ concat (map (λ stage. stage_line table.now (stage_numbered table.now stage.0)) stages.now)) }
 {
+    let mut line = Line::new();
     for stage in stages {
-        text.try_append(stage_line(table, *stage).bytes())?;
+        write_stage(&mut line, table, *stage);
+        text.try_append(line.bytes())?;
     }
     Ok(())
 }
 
-fn resource_line(cell: &Cell, r: ResId) -> Line
+/// The line of a resource.
+pub fn resource_line(cell: &Cell, r: ResId) -> Line
     requires { r.0 < length cell.now.resources }
     ensures { result ≡ resource_line cell.now r.0 }
 {
@@ -55,17 +59,18 @@ fn resource_line(cell: &Cell, r: ResId) -> Line
     line.end()
 }
 
-fn stage_line(table: &StageTable, stage: StageNo) -> Line
+/// The line of a stage, in the place of what stood on a line.
+pub fn write_stage(line: &mut Line, table: &StageTable, stage: StageNo)
     requires { IsNumber table.now stage.0 }
-    ensures { result ≡ stage_line table.now (stage_numbered table.now stage.0) }
+    ensures { line.new ≡ stage_line table.now (stage_numbered table.now stage.0) }
 {
-    let mut line = Line::of_word(b"stage");
-    add_type(&mut line, table.cell(), table.kind_of(stage));
+    line.begin(b"stage");
+    add_type(line, table.cell(), table.kind_of(stage));
     line.number(table.place_of(stage));
-    line.end()
+    line.close();
 }
 
-/// The first line of a text with its newline, and what stands behind it.
+/// The first line of a text with its newline, and what stands after it.
 pub fn first_line(text: &[u8]) -> (&[u8], &[u8])
     ensures whole { result.0.now ++ result.1.now ≡ text.now }
     ensures shorter { 0 < length text.now → length result.1.now < length text.now }
@@ -81,5 +86,5 @@ pub fn first_line(text: &[u8]) -> (&[u8], &[u8])
 fn first_newline(text: &[u8]) -> Option<usize>
     ensures { result ≡ position is_newline text.now }
 {
-    text.iter().position(|byte| *byte == b'\n')
+    memchr(b'\n', text)
 }

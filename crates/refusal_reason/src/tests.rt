@@ -4,49 +4,14 @@ ghost use Rattle.cell_base.specs.Fits.{RequestFits};
 use crate::{explain, first_line, laws, show_text};
 use admission_core::Core;
 use cell_base::{
-    Cell, JobId, JobType, List, Name, NoMemory, Refusal, Reply, Request, ResId, Resource, Step,
-    TypeId, cell_fits, request_fits,
+    JobId, List, NoMemory, Refusal, Reply, Request, ResId, TypeId, cell_fits, request_fits,
 };
+use small_cells::crossing;
 use std::alloc::Global;
 use std::test::Fail;
 
-fn machine(name: &[u8], order: u32) -> Result<Resource, Fail> {
-    Ok(Resource {
-        name: Name::read(name).ok_or("a name")?,
-        capacity: 1,
-        order,
-    })
-}
-
-/// A type that goes from one machine to another.
-fn job_type(alloc: Global, name: &[u8], from: u16, to: u16) -> Result<JobType, Fail> {
-    let step = |r: u16| Step {
-        on: ResId(r),
-        works: true,
-    };
-    let mut next = List::new(alloc);
-    next.try_push(List::copy_of(alloc, &[1u16])?)?;
-    next.try_push(List::new(alloc))?;
-    Ok(JobType {
-        name: Name::read(name).ok_or("a name")?,
-        route: List::copy_of(alloc, &[step(from), step(to)])?,
-        next,
-    })
-}
-
-/// Two machines of one unit in both orders.
-fn both_ways(alloc: Global) -> Result<Cell, Fail> {
-    let mut resources = List::new(alloc);
-    resources.try_push(machine(b"M1", 1)?)?;
-    resources.try_push(machine(b"M2", 2)?)?;
-    let mut types = List::new(alloc);
-    types.try_push(job_type(alloc, b"A", 0, 1)?)?;
-    types.try_push(job_type(alloc, b"Z", 1, 0)?)?;
-    Ok(Cell { resources, types })
-}
-
-/// The jobs that stand behind the refusal of a request, if it is refused.
-fn jobs_behind(alloc: Global, core: &Core, request: &Request) -> Result<List<JobId>, NoMemory>
+/// The jobs that stand in the way of a request, if it is refused.
+fn jobs_in_the_way(alloc: Global, core: &Core, request: &Request) -> Result<List<JobId>, NoMemory>
     requires { RequestFits core.now.cell request.now }
 {
     match core.decide(request) {
@@ -60,7 +25,7 @@ fn jobs_behind(alloc: Global, core: &Core, request: &Request) -> Result<List<Job
 
 #[test]
 fn refusals_are_explained(rt: HostRuntime) -> Result<(), Fail> {
-    let cell = both_ways(rt.alloc())?;
+    let cell = crossing(rt.alloc())?;
     assert!(rt; cell_fits(&cell));
     let mut core = Core::open(rt.alloc(), cell)?;
     let first = Request::Load {
@@ -80,14 +45,14 @@ fn refusals_are_explained(rt: HostRuntime) -> Result<(), Fail> {
         capacity: 1,
     };
     assert_eq!(rt; core.decide(&second), Reply::Refused(full));
-    assert!(rt; jobs_behind(rt.alloc(), &core, &second)?.as_slice() == [JobId(7)].as_slice());
+    assert!(rt; jobs_in_the_way(rt.alloc(), &core, &second)?.as_slice() == [JobId(7)].as_slice());
     assert_eq!(rt; explain(rt.alloc(), &core, &Refusal::Idle)?.len(), 0);
     Ok(())
 }
 
 #[test]
 fn neighborhoods_are_shown(rt: HostRuntime) -> Result<(), Fail> {
-    let cell = both_ways(rt.alloc())?;
+    let cell = crossing(rt.alloc())?;
     assert!(rt; cell_fits(&cell));
     let core = Core::open(rt.alloc(), cell)?;
     let text = show_text(rt.alloc(), &core)?;

@@ -7,8 +7,8 @@ use Rattle.cell_base.specs.Stages.{stage, stages_of}
 use Rattle.route_table.specs.declared.entries.Entry.{Entry}
 use Rattle.cell_base.specs.Numbers.{first_number}
 use Rattle.route_table.specs.Entries.{entry_of, first_numbers}
-use Rattle.policy_laws.proofs.Growing.{map_next, join_next}
-use Rattle.policy_laws.proofs.Numbering.{length-stages_before}
+use Rattle.cell_base.proofs.Growing.{map_next, join_next}
+use Rattle.cell_base.proofs.Numbering.{length-stages_before}
 
 module _ (cell : Cell) where
   -- the entries of the stages of the first types

@@ -1,4 +1,4 @@
--- A row that is filled from behind knows one place more.
+-- A row that is filled from its end knows one place more.
 use Rattle.std.proofs.Common.{◌≡◌, ℕ, ◌+◌, ◌<◌, ◌≢◌, true, List, length, set, get_or-set_same, get_or-set_other, ⊎_elim, ◌∙◌, arith}
 use Rattle.std.proofs.lemmas.Bool.{cases_eq}
 use Rattle.cell_base.specs.declared.cells.Cell.{Cell}

@@ -37,7 +37,7 @@ pub fn push_route(entries: &mut List<Entry>, cell: &Cell, kind: TypeId) -> Resul
     Ok(())
 }
 
-/// For each place of a route the steps that a part needs which is done there. The row is filled from behind, since a part goes
+/// For each place of a route the steps that a part needs which is done there. The row is filled from its end, since a part goes
 /// on to later places only.
 fn sweep(cell: &Cell, kind: TypeId) -> [u32; PLACES]
     requires fits { CellFits cell.now }

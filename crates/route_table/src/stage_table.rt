@@ -153,7 +153,8 @@ impl StageTable {
     /// The stage to which a branch leads, if the stage has such a branch.
     pub fn next_of(&self, stage: StageNo, branch: u16) -> Option<StageNo>
         requires { IsNumber self.now stage.0 }
-        ensures stage { option_map (λ (next : StageNo). stage_numbered self.now next.0) result ≡ successor self.now (stage_numbered self.now stage.0) branch }
+        ensures stage { option_map (λ (next : StageNo). stage_numbered self.now next.0) result
+            ≡ successor self.now (stage_numbered self.now stage.0) branch }
         ensures within { IfSome result (λ next. IsNumber self.now next.0) }
         ensures later { IfSome result (λ next. stage.0 < next.0) }
     {

@@ -1,5 +1,6 @@
 -- The lines that each are judged by themselves have the verdict of those that a walk carries its state along.
-use Rattle.std.proofs.Common.{◌≡◌, ℕ, suc, ◌+◌, ◌-◌, ◌<◌, Bool, true, false, cond, ◌==◌, List, [], ◌∷◌, ◌++◌, length, length-append, zero-add, Option, Some, None, refl, sym, ap, ◌∙◌, subst, arith}
+use Rattle.std.proofs.Common.{◌≡◌, ℕ, suc, ◌+◌, ◌-◌, ◌<◌, Bool, true, false, cond, ◌==◌, List, [], ◌∷◌, ◌++◌, length}
+use Rattle.std.proofs.Common.{length-append, zero-add, Option, Some, None, refl, sym, ap, ◌∙◌, subst, arith}
 use Rattle.std.specs.List.{All, slice_get}
 use Rattle.std.specs.Option.{option_to_list}
 use Rattle.std.proofs.lemmas.Bool.{or_parts}
@@ -23,9 +24,10 @@ use Rattle.shift_checker.specs.declared.verdict.Why.{Why}
 use Rattle.shift_checker.specs.declared.verdict.Why.TheVariants as whys
 use Rattle.shift_checker.specs.declared.verdict.Verdict.TheVariants.{Yes}
 use Rattle.shift_checker.specs.Carrying.{Carried, unbegun, halted_in, settled, carried_on, carried_lines}
-use Rattle.shift_checker.specs.Judging.{granted_requests, halted_requests, with_halted, counted, fails_unless, is_told_rightly, judge_head, judge_entry, judge_entries, judge_tail, judge_block, judge_lines, verdict_from, judge}
+use Rattle.shift_checker.specs.Judging.{granted_requests, halted_requests, with_halted, counted, fails_unless, is_told_rightly, judge_head}
+use Rattle.shift_checker.specs.Judging.{judge_entry, judge_entries, judge_tail, judge_block, judge_lines, verdict_from, judge}
 use Rattle.shift_checker.proofs.Replying.{same_when}
-use Rattle.shift_checker.proofs.Verdicts.{same_behind, right_behind, right_front, each_right}
+use Rattle.shift_checker.proofs.Verdicts.{same_after, right_after, right_front, each_right}
 
 -- a line that is right passed its test
 pub passed : (right : Bool) (why : Why) → fails_unless right why ≡ None → right ≡ true
@@ -45,7 +47,7 @@ refusal_stays cell parts request why is = grind (arith, is)
 -- ---- the entries of a block
 
 module _ (cell : Cell) where
-  -- behind an entry that is told rightly are the parts behind the request, if it was granted
+  -- after an entry that is told rightly are the parts after the request, if it was granted
   entry_after : (parts : List Part) (entry : Entry) → is_told_rightly cell parts entry.request entry.told ≡ true
       → state_after_entry cell parts entry.request entry.told ≡ after_requests cell parts (granted_requests (entry ∷ []))
   entry_after parts entry right = by entry.told right where
@@ -67,7 +69,7 @@ module _ (cell : Cell) where
     by (Answered (Refused why)) = refl
     by Halted = refl
 
-  -- behind entries that are told rightly are the parts behind the requests that were granted
+  -- after entries that are told rightly are the parts after the requests that were granted
   entries_after : (parts : List Part) (entries : List Entry) → ((i : ℕ) → i < length entries → judge_entry cell parts entries i ≡ None)
       → after cell parts entries ≡ after_requests cell parts (granted_requests entries)
   entries_after parts [] right = refl
@@ -140,7 +142,7 @@ module _ (cell : Cell) where
       let front : verdict_from n (judge_head count block ∷ entries) ≡ Yes =
       right_front n (judge_head count block ∷ entries) (judge_tail cell (after cell parts block.entries) block.tail) right in
       let behind : verdict_from (n + 1) entries ≡ Yes =
-      sym (right_behind n (judge_head count block ∷ []) entries (right_front n (judge_head count block ∷ []) entries front)) ∙ front in
+      sym (right_after n (judge_head count block ∷ []) entries (right_front n (judge_head count block ∷ []) entries front)) ∙ front in
       ap (judge_entry cell parts block.entries) (sym (zero-add i))
       ∙ each_right (judge_entry cell parts block.entries) (n + 1) 0 (length block.entries) i below behind
 
@@ -157,7 +159,7 @@ module _ (cell : Cell) where
       let next : List Request = before ++ granted_requests block.entries in
       let later : counted before block blocks ≡ with_halted next (option_to_list last) blocks =
       ap (λ more. with_halted next more blocks) (halted_is block.entries block.tail this.halts) in
-      same_behind (judge_lines cell (counted before block blocks) blocks) (carried_lines cell (carried_on cell begun block) blocks) n lines
+      same_after (judge_lines cell (counted before block blocks) blocks) (carried_lines cell (carried_on cell begun block) blocks) n lines
       (λ right.
       ap (λ requests. verdict_from (n + length lines) (judge_lines cell requests blocks)) later
       ∙ same_lines (n + length lines) blocks next last (All-tail (BlockIsWellFormed cell) block blocks formed)

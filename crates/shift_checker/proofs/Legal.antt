@@ -1,5 +1,6 @@
 -- The record of a legal history and its plan is right.
-use Rattle.std.proofs.Common.{◌≡◌, ℕ, zero, suc, ◌+◌, ◌<◌, Bool, true, false, cond, ◌==◌, List, [], ◌∷◌, ◌++◌, length, append-nil, None, refl, sym, ap, ◌∙◌, subst, arith, eq-eqb}
+use Rattle.std.proofs.Common.{◌≡◌, ℕ, zero, suc, ◌+◌, ◌<◌, Bool, true, false, cond, ◌==◌, List, [], ◌∷◌}
+use Rattle.std.proofs.Common.{◌++◌, length, append-nil, None, refl, sym, ap, ◌∙◌, subst, arith, eq-eqb}
 use Rattle.std.specs.List.{All}
 use Rattle.std.proofs.lemmas.Bool.{and_parts}
 use Rattle.cell_base.specs.declared.cells.Cell.{Cell}
@@ -21,10 +22,11 @@ use Rattle.record_text.specs.declared.blocks.Tail.TheVariants as tails
 use Rattle.record_text.specs.Records.{block_of}
 use Rattle.shift_checker.specs.declared.verdict.Why.TheVariants as whys
 use Rattle.shift_checker.specs.declared.verdict.Verdict.TheVariants.{Yes}
-use Rattle.shift_checker.specs.Judging.{fails_unless, is_told_rightly, judge_entry, judge_entries, judge_step, judge_tail, judge_block, verdict_from, judge}
+use Rattle.shift_checker.specs.Judging.{fails_unless, is_told_rightly, judge_entry, judge_entries}
+use Rattle.shift_checker.specs.Judging.{judge_step, judge_tail, judge_block, verdict_from, judge}
 use Rattle.shift_checker.proofs.Replying.{same_itself}
 use Rattle.shift_checker.specs.Replies.{same_reply}
-use Rattle.shift_checker.proofs.Verdicts.{right_behind}
+use Rattle.shift_checker.proofs.Verdicts.{right_after}
 use Rattle.shift_checker.proofs.Walking.{entries_right, steps_right}
 
 module _ (cell : Cell) where
@@ -72,7 +74,7 @@ module _ (cell : Cell) where
       let entries : verdict_from 2 (judge_entries cell [] history) ≡ Yes =
       entries_right cell [] history 2 (length history) (omega arith) (λ i below. legal_at [] history i legal below) in
       subst (λ (halts : Bool). Right (cond halts tails.Halted (tails.Planned (length parts) plan))) (sym unhalted)
-      (right_behind 2 (judge_entries cell [] history) (judge_tail cell parts (tails.Planned (length parts) plan)) entries
+      (right_after 2 (judge_entries cell [] history) (judge_tail cell parts (tails.Planned (length parts) plan)) entries
       ∙ tail_right parts plan (2 + length (judge_entries cell [] history)) drains)
 
   pub record_right : CellFits cell → (shift : ℕ) (history : List Entry) → All (λ (entry : Entry). RequestFits cell entry.request) history

@@ -1,5 +1,6 @@
 -- One block more of a walk.
-use Rattle.std.proofs.Common.{◌≡◌, ℕ, zero, suc, ◌+◌, ◌-◌, ◌<◌, ◌≤◌, ◌^◌, Bool, true, false, ◌==◌, List, [], ◌∷◌, ◌++◌, length, take, drop, get_or, length-append, eq-eqb, Option, Some, None, add-zero, refl, sym, ap, ◌∙◌, subst, inl, inr, arith}
+use Rattle.std.proofs.Common.{◌≡◌, ℕ, zero, suc, ◌+◌, ◌-◌, ◌<◌, ◌≤◌, ◌^◌, Bool, true, false, ◌==◌, List, [], ◌∷◌, ◌++◌, length, take, drop}
+use Rattle.std.proofs.Common.{get_or, length-append, eq-eqb, Option, Some, None, add-zero, refl, sym, ap, ◌∙◌, subst, inl, inr, arith}
 use Rattle.std.specs.Prelude.{IfSome}
 use Rattle.std.specs.List.{All, sum_by}
 use Rattle.std.specs.Option.{option_map, option_to_list}
@@ -21,7 +22,7 @@ use Rattle.shift_checker.specs.declared.verdict.Verdict.{Verdict}
 use Rattle.shift_checker.specs.declared.verdict.Verdict.TheVariants.{Yes, No}
 use Rattle.shift_checker.specs.Carrying.{Carried, halted_in, settled, carried_on, carried_lines, IsBefore}
 use Rattle.shift_checker.specs.Judging.{judge_entry, judge_entries, judge_step, judge_tail, judge_block, verdict_from}
-use Rattle.shift_checker.proofs.Verdicts.{right_behind, wrong_behind}
+use Rattle.shift_checker.proofs.Verdicts.{right_after, wrong_after}
 use Rattle.shift_checker.proofs.Walking.{few_granted}
 
 -- ---- a block
@@ -38,12 +39,12 @@ module _ (cell : Cell) (parts : List Part) (count : ℕ) (block : Block) (n : �
 
   pub block_wrong : (line : ℕ) (why : Why) → verdict_from (n + 1) entry_lines ≡ No line why
       → verdict_from n (judge_block cell parts count block) ≡ No line why
-  block_wrong line why wrong = headed ∙ wrong_behind (n + 1) entry_lines tail_lines line why wrong
+  block_wrong line why wrong = headed ∙ wrong_after (n + 1) entry_lines tail_lines line why wrong
 
-  pub block_behind : verdict_from (n + 1) entry_lines ≡ Yes
+  pub block_after : verdict_from (n + 1) entry_lines ≡ Yes
       → verdict_from n (judge_block cell parts count block) ≡ verdict_from (n + 1 + length block.entries) tail_lines
-  block_behind right =
-      headed ∙ right_behind (n + 1) entry_lines tail_lines right
+  block_after right =
+      headed ∙ right_after (n + 1) entry_lines tail_lines right
       ∙ ap (λ k. verdict_from (n + 1 + k) tail_lines)
       (length-map-range_with_len (judge_entry cell parts block.entries) 0 (length block.entries))
 
@@ -79,8 +80,8 @@ module _ (cell : Cell) (blocks : List Block) (i : ℕ) (d : Block) (within : i <
   pub first_line_is : block.first_line ≡ 1 + sum_by line_count (take i blocks)
   first_line_is = numbered_at 1 blocks i d numbered within
 
-  pub lines_behind : sum_by line_count (take (i + 1) blocks) ≡ sum_by line_count (take i blocks) + line_count block
-  lines_behind =
+  pub lines_after : sum_by line_count (take (i + 1) blocks) ≡ sum_by line_count (take i blocks) + line_count block
+  lines_after =
       ap (sum_by line_count) (take_more blocks i d within)
       ∙ sum_by-append line_count (take i blocks) (block ∷ [])
       ∙ ap (λ k. sum_by line_count (take i blocks) + k) (sum_by-cons line_count block [] ∙ add-zero (line_count block))
@@ -91,7 +92,7 @@ module _ (cell : Cell) (blocks : List Block) (i : ℕ) (d : Block) (within : i <
         arith,
         few,
         first_line_is,
-        lines_behind,
+        lines_after,
         sum_by-append line_count (take (i + 1) blocks) (drop (i + 1) blocks),
         ap (sum_by line_count) (take-append-drop (i + 1) blocks),
       )
@@ -113,19 +114,19 @@ module _ (cell : Cell) (blocks : List Block) (i : ℕ) (d : Block) (within : i <
         → verdict_from number (carried_lines cell at (drop i blocks)) ≡ No line why
     blocks_wrong line why wrong =
         ap (verdict_from number) split
-        ∙ wrong_behind number lines (carried_lines cell (carried_on cell begun block) (drop (i + 1) blocks)) line why
+        ∙ wrong_after number lines (carried_lines cell (carried_on cell begun block) (drop (i + 1) blocks)) line why
         (ap (λ n. verdict_from n lines) (sym first_line_is) ∙ wrong)
 
-    pub blocks_behind : verdict_from block.first_line lines ≡ Yes
+    pub blocks_after : verdict_from block.first_line lines ≡ Yes
         → verdict_from (1 + sum_by line_count (take (i + 1) blocks))
         (carried_lines cell (carried_on cell begun block) (drop (i + 1) blocks))
         ≡ verdict_from number (carried_lines cell at (drop i blocks))
-    blocks_behind right =
+    blocks_after right =
         let later : List (Option Why) = carried_lines cell (carried_on cell begun block) (drop (i + 1) blocks) in
         let same : 1 + sum_by line_count (take (i + 1) blocks) ≡ number + length lines =
-        omega (arith, lines_behind, length-block cell begun.parts begun.count block) in
+        omega (arith, lines_after, length-block cell begun.parts begun.count block) in
         ap (λ n. verdict_from n later) same
-        ∙ sym (right_behind number lines later (ap (λ n. verdict_from n lines) (sym first_line_is) ∙ right))
+        ∙ sym (right_after number lines later (ap (λ n. verdict_from n lines) (sym first_line_is) ∙ right))
         ∙ ap (verdict_from number) (sym split)
 
 -- the verdict on a block to which this is carried, and what is carried on from it

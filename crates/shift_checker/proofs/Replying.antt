@@ -2,7 +2,8 @@
 use Rattle.std.proofs.Common.{◌≡◌, true, ◌&&◌, ◌==◌, refl, ap}
 use Rattle.std.proofs.lemmas.Bool.{and_parts, eqb-true, eq-eqb}
 use Rattle.cell_base.specs.declared.requests.Refusal.{Refusal}
-use Rattle.cell_base.specs.declared.requests.Refusal.TheVariants.{JobLoaded, NoSuchJob, NotProcessed, AtLast, NotLast, Idle, Saturated, NoBranch}
+use Rattle.cell_base.specs.declared.requests.Refusal.TheVariants.{JobLoaded, NoSuchJob, NotProcessed, AtLast}
+use Rattle.cell_base.specs.declared.requests.Refusal.TheVariants.{NotLast, Idle, Saturated, NoBranch}
 use Rattle.cell_base.specs.declared.requests.Reply.{Reply}
 use Rattle.cell_base.specs.declared.requests.Reply.TheVariants.{Granted, Refused}
 use Rattle.shift_checker.specs.Replies.{same_refusal, same_reply}

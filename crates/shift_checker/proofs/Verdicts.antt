@@ -1,37 +1,38 @@
 -- Verdicts on lines that follow one another.
-use Rattle.std.proofs.Common.{◌≡◌, ℕ, zero, suc, ◌+◌, ◌<◌, List, [], ◌∷◌, ◌++◌, map, length, Option, Some, None, add-zero, refl, sym, ap, ◌∙◌, arith}
+use Rattle.std.proofs.Common.{◌≡◌, ℕ, zero, suc, ◌+◌, ◌<◌, List, [], ◌∷◌, ◌++◌, map, length}
+use Rattle.std.proofs.Common.{Option, Some, None, add-zero, refl, sym, ap, ◌∙◌, arith}
 use Rattle.std.specs.List.{range_with_len}
 use Rattle.shift_checker.specs.declared.verdict.Why.{Why}
 use Rattle.shift_checker.specs.declared.verdict.Verdict.TheVariants.{Yes, No}
 use Rattle.shift_checker.specs.Judging.{verdict_from}
 
--- ---- lines behind lines
+-- ---- lines after lines
 
 module _ (later other : List (Option Why)) where
-  -- behind lines that are right only the later ones count, and behind one that fails none of them
-  pub same_behind : (n : ℕ) (lines : List (Option Why))
+  -- after lines that are right only the later ones count, and after one that fails none of them
+  pub same_after : (n : ℕ) (lines : List (Option Why))
       → (verdict_from n lines ≡ Yes → verdict_from (n + length lines) later ≡ verdict_from (n + length lines) other)
       → verdict_from n (lines ++ later) ≡ verdict_from n (lines ++ other)
-  same_behind n [] same = ap (λ m. verdict_from m later) (sym (add-zero n)) ∙ same refl ∙ ap (λ m. verdict_from m other) (add-zero n)
-  same_behind n (None ∷ lines) same =
+  same_after n [] same = ap (λ m. verdict_from m later) (sym (add-zero n)) ∙ same refl ∙ ap (λ m. verdict_from m other) (add-zero n)
+  same_after n (None ∷ lines) same =
       let number : n + suc (length lines) ≡ n + 1 + length lines = omega arith in
-      same_behind (n + 1) lines
+      same_after (n + 1) lines
       (λ right. ap (λ m. verdict_from m later) (sym number) ∙ same right ∙ ap (λ m. verdict_from m other) number)
-  same_behind n (Some why ∷ lines) same = refl
+  same_after n (Some why ∷ lines) same = refl
 
-pub right_behind : (n : ℕ) (lines later : List (Option Why)) → verdict_from n lines ≡ Yes
+pub right_after : (n : ℕ) (lines later : List (Option Why)) → verdict_from n lines ≡ Yes
     → verdict_from n (lines ++ later) ≡ verdict_from (n + length lines) later
-right_behind n [] later right = ap (λ m. verdict_from m later) (sym (add-zero n))
-right_behind n (None ∷ lines) later right =
+right_after n [] later right = ap (λ m. verdict_from m later) (sym (add-zero n))
+right_after n (None ∷ lines) later right =
     let number : n + 1 + length lines ≡ n + suc (length lines) = omega arith in
-    right_behind (n + 1) lines later right ∙ ap (λ m. verdict_from m later) number
-right_behind n (Some why ∷ lines) later right = absurd cc
+    right_after (n + 1) lines later right ∙ ap (λ m. verdict_from m later) number
+right_after n (Some why ∷ lines) later right = absurd cc
 
-pub wrong_behind : (n : ℕ) (lines later : List (Option Why)) (line : ℕ) (why : Why) → verdict_from n lines ≡ No line why
+pub wrong_after : (n : ℕ) (lines later : List (Option Why)) (line : ℕ) (why : Why) → verdict_from n lines ≡ No line why
     → verdict_from n (lines ++ later) ≡ No line why
-wrong_behind n [] later line why wrong = absurd cc
-wrong_behind n (None ∷ lines) later line why wrong = wrong_behind (n + 1) lines later line why wrong
-wrong_behind n (Some reason ∷ lines) later line why wrong = wrong
+wrong_after n [] later line why wrong = absurd cc
+wrong_after n (None ∷ lines) later line why wrong = wrong_after (n + 1) lines later line why wrong
+wrong_after n (Some reason ∷ lines) later line why wrong = wrong
 
 -- the front of lines that are right is right
 pub right_front : (n : ℕ) (lines later : List (Option Why)) → verdict_from n (lines ++ later) ≡ Yes → verdict_from n lines ≡ Yes

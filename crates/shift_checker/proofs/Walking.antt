@@ -1,5 +1,6 @@
 -- One entry and one step more of a walk.
-use Rattle.std.proofs.Common.{◌≡◌, ℕ, ◌+◌, ◌<◌, ◌≤◌, Bool, true, false, ◌&&◌, ◌==◌, List, [], ◌∷◌, ◌++◌, length, take, drop, get_or, append_assoc, length-append, None, zero-add, refl, sym, ap, ◌∙◌, subst, inl, inr, arith}
+use Rattle.std.proofs.Common.{◌≡◌, ℕ, ◌+◌, ◌<◌, ◌≤◌, Bool, true, false, ◌&&◌, ◌==◌, List, [], ◌∷◌, ◌++◌, length, take, drop}
+use Rattle.std.proofs.Common.{get_or, append_assoc, length-append, None, zero-add, refl, sym, ap, ◌∙◌, subst, inl, inr, arith}
 use Rattle.cell_base.proofs.Pairs.{lt-or-eq}
 use Rattle.std.proofs.lemmas.List.{take_more, drop_more, take-append-drop}
 use Rattle.std.proofs.lemmas.Option.{slice_get-get_or}
@@ -14,7 +15,8 @@ use Rattle.cell_base.specs.Histories.{is_granted, state_after_entry, after, afte
 use Rattle.cell_base.specs.Outcomes.{reply_to, state_after}
 use Rattle.shift_checker.specs.declared.verdict.Why.TheVariants as whys
 use Rattle.shift_checker.specs.declared.verdict.Verdict.TheVariants.{Yes, No}
-use Rattle.shift_checker.specs.Judging.{granted_requests, fails_unless, is_told_rightly, judge_entry, judge_entries, judge_step, judge_steps, verdict_from}
+use Rattle.shift_checker.specs.Judging.{granted_requests, fails_unless, is_told_rightly, judge_entry}
+use Rattle.shift_checker.specs.Judging.{judge_entries, judge_step, judge_steps, verdict_from}
 use Rattle.shift_checker.proofs.Carrying.{after_requests-append, granted_more}
 use Rattle.shift_checker.proofs.Verdicts.{all_right, first_wrong}
 
@@ -69,12 +71,12 @@ module _ (cell : Cell) (parts : List Part) (entries : List Entry) (i : ℕ) (d :
       (λ j less. ap (judge_entry cell parts entries) (zero-add j) ∙ before j less)
       (ap (judge_entry cell parts entries) (zero-add i) ∙ judged ∙ ap (λ right. fails_unless right whys.Reply) told)
 
-  pub parts_behind : after cell parts (take (i + 1) entries) ≡ state_after_entry cell now entry.request entry.told
-  parts_behind = ap (after cell parts) (take_more entries i d within) ∙ after-append cell parts (take i entries) (entry ∷ [])
+  pub parts_after_entry : after cell parts (take (i + 1) entries) ≡ state_after_entry cell now entry.request entry.told
+  parts_after_entry = ap (after cell parts) (take_more entries i d within) ∙ after-append cell parts (take i entries) (entry ∷ [])
 
-  pub count_behind : length (granted_requests (take (i + 1) entries))
+  pub count_after : length (granted_requests (take (i + 1) entries))
       ≡ length (granted_requests (take i entries)) + length (granted_requests (entry ∷ []))
-  count_behind =
+  count_after =
       ap (λ es. length (granted_requests es)) (take_more entries i d within)
       ∙ ap length (granted-append cell (take i entries) (entry ∷ []))
       ∙ length-append (granted_requests (take i entries)) (granted_requests (entry ∷ []))

@@ -31,7 +31,7 @@ settled cell at named =
     if named == at.count + 1 then record { parts = after_requests cell at.parts halted; count = at.count + length halted; halted = None }
     else record at { halted = None }
 
--- behind a block that begins there
+-- after a block that begins there
 abbrev pub carried_on : Cell → Carried → Block → Carried
 carried_on cell at block = record {
   parts = after cell at.parts block.entries;

@@ -1,5 +1,6 @@
 -- What is wrong with a record, each line judged by itself.
-use Rattle.std.specs.Prelude.{ℕ, ◌+◌, Bool, false, not, ◌||◌, ◌==◌, if◌then◌else◌, Option, Some, None, List, [], ◌∷◌, ◌++◌, length, map, take, slice_get}
+use Rattle.std.specs.Prelude.{ℕ, ◌+◌, Bool, false, not, ◌||◌, ◌==◌, if◌then◌else◌, Option}
+use Rattle.std.specs.Prelude.{Some, None, List, [], ◌∷◌, ◌++◌, length, map, take, slice_get}
 use Rattle.std.specs.List.{filter, range_with_len}
 use Rattle.std.specs.Option.{option_map_or}
 use Rattle.cell_base.specs.declared.cells.Cell.{Cell}
@@ -38,11 +39,11 @@ abbrev pub names_one_more : ℕ → List Block → Bool
 names_one_more n [] = false
 names_one_more n (next ∷ later) = next.after == n + 1
 
--- requests that count, and halted ones behind them where the head of the next block names one more
+-- requests that count, and halted ones after them where the head of the next block names one more
 abbrev pub with_halted : List Request → List Request → List Block → List Request
 with_halted granted halted later = if names_one_more (length granted) later then granted ++ halted else granted
 
--- the requests that count before the blocks behind this one: those before it, its own that were granted, and the halted one where it counts
+-- the requests that count before the blocks after this one: those before it, its own that were granted, and the halted one where it counts
 abbrev pub counted : List Request → Block → List Block → List Request
 counted before block later = with_halted (before ++ granted_requests block.entries) (halted_requests block.entries) later
 
@@ -52,7 +53,7 @@ counted before block later = with_halted (before ++ granted_requests block.entri
 abbrev pub fails_unless : Bool → Why → Option Why
 fails_unless right why = if right then None else Some why
 
--- a head, behind n requests that count
+-- a head, after n requests that count
 abbrev pub judge_head : ℕ → Block → Option Why
 judge_head n block = fails_unless (block.after == n) whys.After
 
@@ -61,7 +62,7 @@ abbrev pub is_told_rightly : Cell → List Part → Request → Told → Bool
 is_told_rightly cell parts request (Answered reply) = same_reply (reply_to cell parts request) reply
 is_told_rightly cell parts request Halted = is_granted (reply_to cell parts request)
 
--- the entry at an index, at the state behind the entries before it
+-- the entry at an index, at the state after the entries before it
 abbrev pub judge_entry : Cell → List Part → List Entry → ℕ → Option Why
 judge_entry cell parts entries i =
     option_map_or
@@ -77,7 +78,7 @@ abbrev pub judge_plan : Cell → List Part → List Request → Option Why
 judge_plan cell parts steps =
     fails_unless (not (all_granted cell parts steps) || (length (after_requests cell parts steps) == 0)) whys.Parts
 
--- the step at an index, at the state behind the steps before it
+-- the step at an index, at the state after the steps before it
 abbrev pub judge_step : Cell → List Part → List Request → ℕ → Option Why
 judge_step cell parts steps i =
     option_map_or (λ step. fails_unless (is_granted (reply_to cell (after_requests cell parts (take i steps)) step)) whys.Step)
@@ -97,12 +98,12 @@ judge_entries cell parts entries = map (judge_entry cell parts entries) (indices
 abbrev pub judge_steps : Cell → List Part → List Request → List (Option Why)
 judge_steps cell parts steps = judge_plan cell parts steps ∷ map (judge_step cell parts steps) (indices steps)
 
--- the lines behind the entries
+-- the lines after the entries
 abbrev pub judge_tail : Cell → List Part → Tail → List (Option Why)
 judge_tail cell parts (tails.Planned left steps) = judge_left parts left ∷ judge_steps cell parts steps
 judge_tail cell parts tails.Halted = []
 
--- the lines of a block that begins at these parts, behind n requests that count
+-- the lines of a block that begins at these parts, after n requests that count
 abbrev pub judge_block : Cell → List Part → ℕ → Block → List (Option Why)
 judge_block cell parts n block =
     judge_head n block ∷ judge_entries cell parts block.entries ++ judge_tail cell (after cell parts block.entries) block.tail

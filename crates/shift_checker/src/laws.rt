@@ -1,6 +1,5 @@
 //! Facts about the verdict, each the contract of a function that does nothing.
-ghost use Rattle.std.specs.Prelude.{◌≡◌, ◌∷◌, [], false};
-ghost use Rattle.std.specs.List.{All};
+ghost use Rattle.std.specs.Prelude.{◌≡◌, ◌∷◌, [], false, All};
 ghost use Rattle.cell_base.specs.Fits.{CellFits, RequestFits};
 ghost use Rattle.cell_base.specs.Histories.{IsLegal, after};
 ghost use Rattle.cell_base.specs.Plans.{plan_of};

@@ -3,11 +3,10 @@
 //! `check` recounts the parts at every line of the blocks that `read_record` gives, and has none of the controller's
 //! code. It answers exactly what `judge` of `specs/Judging` says, which judges each line by itself:
 //!
-//! ```text
-//! let blocks = read_record(alloc, &cell, &bytes)?;
-//! match check(alloc, &cell, &blocks)? {
-//!     Verdict::Yes => ..,
-//!     Verdict::No { line, why } => ..,    // the first line that fails
+//! ```rust
+//! match read_record(alloc, &cell, text) {
+//!     Ok(blocks) => Ok(Some(check(alloc, &cell, &blocks)?)),      // yes, or the first line that fails, and why
+//!     Err(_) => Ok(None),
 //! }
 //! ```
 //!

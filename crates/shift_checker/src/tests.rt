@@ -1,55 +1,10 @@
 //! Verdicts on records of a small cell.
 use crate::{Verdict, Why, check};
-use cell_base::{Cell, JobType, List, Name, NoMemory, ResId, Resource, Step, cell_fits};
+use cell_base::{NoMemory, ResId, cell_fits};
 use record_text::read_record;
+use small_cells::crossing;
 use std::alloc::Global;
 use std::test::Fail;
-
-fn add_machine(list: &mut List<Resource>, name: &[u8], order: u32) -> Result<(), NoMemory> {
-    if let Some(name) = Name::read(name) {
-        list.try_push(Resource {
-            name,
-            capacity: 1,
-            order,
-        })?;
-    }
-    Ok(())
-}
-
-fn add_type(
-    alloc: Global,
-    list: &mut List<JobType>,
-    name: &[u8],
-    machines: [u16; 2],
-) -> Result<(), NoMemory> {
-    let mut route = List::new(alloc);
-    for machine in machines {
-        route.try_push(Step {
-            on: ResId(machine),
-            works: true,
-        })?;
-    }
-    let mut behind = List::new(alloc);
-    behind.try_push(1)?;
-    let mut next = List::new(alloc);
-    next.try_push(behind)?;
-    next.try_push(List::new(alloc))?;
-    if let Some(name) = Name::read(name) {
-        list.try_push(JobType { name, route, next })?;
-    }
-    Ok(())
-}
-
-/// Two machines of one unit: A goes from the first to the second, and Z from the second to the first.
-fn crossing(alloc: Global) -> Result<Cell, NoMemory> {
-    let mut resources = List::new(alloc);
-    add_machine(&mut resources, b"M1", 1)?;
-    add_machine(&mut resources, b"M2", 2)?;
-    let mut types = List::new(alloc);
-    add_type(alloc, &mut types, b"A", [0, 1])?;
-    add_type(alloc, &mut types, b"Z", [1, 0])?;
-    Ok(Cell { resources, types })
-}
 
 /// The verdict on a text; nothing where it is no record.
 fn verdict_on(alloc: Global, text: &[u8]) -> Result<Option<Verdict>, NoMemory> {

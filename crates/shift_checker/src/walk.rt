@@ -1,11 +1,11 @@
 //! The walk over the blocks of a record, which carries one state along.
-ghost use Rattle.std.specs.Prelude.{◌≡◌, ◌+◌, ◌<◌, ◌≤◌, ◌^◌, ◌∷◌, [], length, None, IfOk, IfSome};
-ghost use Rattle.std.specs.List.{All, sum_by};
+ghost use Rattle.std.specs.Prelude.{◌≡◌, ◌+◌, ◌<◌, ◌≤◌, ◌^◌, ◌∷◌, [], length, None, All, sum_by, IfOk, IfSome};
 ghost use Rattle.cell_base.specs.Fits.{CellFits, RequestFits};
 ghost use Rattle.cell_base.specs.Histories.{after, state_after_entry};
-ghost use Rattle.record_text.specs.Blocks.{BlockIsWellFormed, AreNumbered, line_count, tail_count, steps_of};
+ghost use Rattle.record_text.specs.Blocks.{BlockIsWellFormed, AreNumbered, line_count, steps_of};
 ghost use Rattle.shift_checker.specs.declared.verdict.Verdict.TheVariants.{Yes};
-ghost use Rattle.shift_checker.specs.Judging.{granted_requests, judge_entries, judge_left, judge_steps, judge_tail, judge_block, verdict_from, is_told_rightly};
+ghost use Rattle.shift_checker.specs.Judging.{granted_requests, judge_entries, judge_left, judge_steps};
+ghost use Rattle.shift_checker.specs.Judging.{judge_tail, judge_block, verdict_from, is_told_rightly};
 ghost use Rattle.shift_checker.specs.Carrying.{unbegun, IsBefore, halted_in, settled, carried_on, carried_lines};
 
 use crate::replies::{is_granted, last_request, same_reply};
@@ -127,7 +127,7 @@ impl<'a> Walk<'a> {
         Verdict::Yes
     }
 
-    /// Whether an entry is told rightly. The state is then that behind the entry.
+    /// Whether an entry is told rightly. The state is then that after the entry.
     fn is_told_rightly(&mut self, entry: &Entry) -> bool
         requires fits { RequestFits self.old.cell entry.now.request }
         requires few { self.old.at.count + 1 < 2 ^ 64 }
@@ -171,7 +171,7 @@ impl<'a> Walk<'a> {
         }
     }
 
-    /// The left line, and the plan behind it. The steps are tried, and change nothing.
+    /// The left line, and the plan after it. The steps are tried, and change nothing.
     fn planned(&mut self, line: u32, left: u32, steps: &[Request]) -> Verdict
         requires fit { All (RequestFits self.old.cell) steps.now }
         requires lines { line + 2 + length steps.now ≤ 2 ^ 32 }

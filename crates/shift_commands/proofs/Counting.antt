@@ -1,5 +1,6 @@
 -- A history of as many entries as the sessions may ask at most: each of them has ended.
-use Rattle.std.proofs.Common.{◌≡◌, ◌≢◌, inl, inr, ℕ, zero, suc, ◌+◌, ◌-◌, ◌*◌, ◌<◌, ◌≤◌, false, Some, List, [], ◌∷◌, length, All, slice_get, get_or, refl, sym, ap, ◌∙◌, subst, arith}
+use Rattle.std.proofs.Common.{◌≡◌, ◌≢◌, inl, inr, ℕ, zero, suc, ◌+◌, ◌-◌, ◌*◌, ◌<◌, ◌≤◌, false, Some, List}
+use Rattle.std.proofs.Common.{[], ◌∷◌, length, All, slice_get, get_or, refl, sym, ap, ◌∙◌, subst, arith}
 use Rattle.std.specs.List.{sum_by}
 use Rattle.std.proofs.lemmas.Bool.{or_parts, cond-true, cond-false, cases_lt, eq-eqb, ne_eqb}
 use Rattle.std.proofs.lemmas.Option.{same_Some, slice_get_within, slice_get-get_or}
@@ -14,10 +15,10 @@ use Rattle.cell_base.specs.declared.shifts.Shift.{Shift}
 use Rattle.cell_base.specs.Fits.{steps_of}
 use Rattle.cell_base.specs.Histories.{entries_of, was_halted}
 use Rattle.cell_base.specs.Rounds.{IsSession}
-use Rattle.cell_base.specs.Scripts.{Progress, IsTrace, HasEnded, begin_at, progress_after, progress_behind, holds_halt, script_of}
-use Rattle.cell_sessions.specs.Underway.{IsWithinScript, left_of}
-use Rattle.cell_sessions.proofs.Counting.{left_of-falls, script_at}
-use Rattle.cell_sessions.proofs.Traces.{holds_halt-entries_of}
+use Rattle.cell_base.specs.Scripts.{Progress, IsTrace, HasEnded, begin_at, progress_after, progress_through, holds_halt, script_of}
+use Rattle.solo_rounds.specs.Underway.{IsWithinScript, script_asks_left}
+use Rattle.solo_rounds.proofs.Counting.{script_asks_left-falls, script_at}
+use Rattle.solo_rounds.proofs.Traces.{holds_halt-entries_of}
 
 -- ---- the entries of one session
 
@@ -25,20 +26,20 @@ module _ (script : List Request) (patience : ℕ) where
   -- an ask of a step keeps within the script, and takes one from what is left
   goes_on : (at : Progress) (told : Told) → was_halted told ≡ false → at.step < length script → at.refusals < patience
       → IsWithinScript script patience (progress_after at told)
-      × (left_of patience script (progress_after at told) < left_of patience script at)
+      × (script_asks_left patience script (progress_after at told) < script_asks_left patience script at)
   goes_on at (Answered Granted) unhalted step patient =
-      (record { step = omega (arith, step); refusals = omega arith }, left_of-falls script patience at _ Granted step patient refl)
+      (record { step = omega (arith, step); refusals = omega arith }, script_asks_left-falls script patience at _ Granted step patient refl)
   goes_on at (Answered (Refused why)) unhalted step patient = (
     record { step = omega (arith, step); refusals = omega (arith, patient) },
-    left_of-falls script patience at _ (Refused why) step patient refl,
+    script_asks_left-falls script patience at _ (Refused why) step patient refl,
   )
   goes_on at Halted unhalted step patient = absurd (cc)
 
   -- there are no more entries than there was left, and what is then left stands after them
   trace_left : (at : Progress) (entries : List Entry) → holds_halt entries ≡ false → IsTrace script patience at entries
       → IsWithinScript script patience at
-      → IsWithinScript script patience (progress_behind at entries)
-      × (length entries + left_of patience script (progress_behind at entries) ≤ left_of patience script at)
+      → IsWithinScript script patience (progress_through at entries)
+      × (length entries + script_asks_left patience script (progress_through at entries) ≤ script_asks_left patience script at)
   trace_left at [] unhalted trace within = (within, omega arith)
   trace_left at (e ∷ es) unhalted trace within =
       let both = or_parts (was_halted e.told) (holds_halt es) unhalted in
@@ -50,7 +51,7 @@ module _ (script : List Request) (patience : ℕ) where
   spare_none n refusals none few = omega (arith, none, few)
 
   -- a session that has no ask left has ended
-  none_left : (at : Progress) → IsWithinScript script patience at → left_of patience script at ≤ 0 → HasEnded script patience at
+  none_left : (at : Progress) → IsWithinScript script patience at → script_asks_left patience script at ≤ 0 → HasEnded script patience at
   none_left at within none = elim (cases_lt at.step (length script)) [
     | inl before ↦
         let more : length script - at.step ≡ (length script - (at.step + 1)) + 1 = omega (arith, before) in
@@ -63,8 +64,8 @@ module _ (script : List Request) (patience : ℕ) where
   fewer n more = omega arith
 
   -- a session that begins at some step has no more asks left than all its steps have
-  left_of-le : (step : ℕ) → step ≤ length script → left_of patience script (begin_at step) ≤ length script * patience
-  left_of-le step within =
+  script_asks_left-le : (step : ℕ) → step ≤ length script → script_asks_left patience script (begin_at step) ≤ length script * patience
+  script_asks_left-le step within =
       let all : (length script - step) + step ≡ length script = omega (arith, within) in
       omega (arith, subst (λ (n : ℕ). (length script - step) * patience ≤ n * patience) all (fewer (length script - step) step))
 
@@ -185,14 +186,14 @@ module _ (shift : Shift) (history : List Entry) (start : ℕ → ℕ) where
 
   module _ (unhalted : holds_halt history ≡ false) (traces : AreTraces) (within : AreWithin) where
     left : (session : ℕ) → IsSession shift session
-        → let script = script_of shift session in let behind = progress_behind (at_first session) (entries_of session history) in
+        → let script = script_of shift session in let behind = progress_through (at_first session) (entries_of session history) in
         IsWithinScript script shift.patience behind
-        × (length (entries_of session history) + left_of shift.patience script behind ≤ length script * shift.patience)
+        × (length (entries_of session history) + script_asks_left shift.patience script behind ≤ length script * shift.patience)
     left session is =
         let both = trace_left (script_of shift session) shift.patience (at_first session) (entries_of session history)
         (holds_halt-entries_of session history unhalted) (traces session is)
         (record { step = within session is; refusals = omega arith }) in
-        (both.0, omega (arith, both.1, left_of-le (script_of shift session) shift.patience (start session) (within session is)))
+        (both.0, omega (arith, both.1, script_asks_left-le (script_of shift session) shift.patience (start session) (within session is)))
 
     at_most : AtMost shift.patience 1 shift.scripts history
     at_most k n script at is =
@@ -205,7 +206,7 @@ module _ (shift : Shift) (history : List Entry) (start : ℕ → ℕ) where
     -- each session has ended, where there are as many entries as all of them may ask at most
     pub each_ended : All (λ (e : Entry). IsSession shift e.session) history → steps_of shift * shift.patience ≤ length history
         → (session : ℕ) → IsSession shift session
-        → HasEnded (script_of shift session) shift.patience (progress_behind (at_first session) (entries_of session history))
+        → HasEnded (script_of shift session) shift.patience (progress_through (at_first session) (entries_of session history))
     each_ended sessions all session is =
         let script : List Request = get_or shift.scripts (session - 1) [] in
         let there : slice_get shift.scripts (session - 1) ≡ Some script =

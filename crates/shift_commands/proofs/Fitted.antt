@@ -1,5 +1,6 @@
 -- The requests of a shift's history fit the cell: each is a step of a session's script.
-use Rattle.std.proofs.Common.{◌≡◌, ◌⊎◌, inl, inr, ℕ, ◌-◌, Bool, true, false, cond, Option, Some, None, List, [], ◌∷◌, Contains, All, refl, sym, ap, ◌∙◌, subst}
+use Rattle.std.proofs.Common.{◌≡◌, ◌⊎◌, inl, inr, ℕ, ◌-◌, Bool, true, false, cond, Option, Some}
+use Rattle.std.proofs.Common.{None, List, [], ◌∷◌, Contains, All, refl, sym, ap, ◌∙◌, subst}
 use Rattle.std.specs.Prelude.{slice_get, unwrap_or, ◌==◌}
 use Rattle.std.specs.List.{filter}
 use Rattle.std.proofs.lemmas.Bool.{eq-eqb, true≢false}
@@ -15,17 +16,17 @@ use Rattle.cell_base.specs.Scripts.{Progress, IsTrace, progress_after, script_of
 use Rattle.policy_laws.proofs.Lists.{All-slice_get, All-from_Contains, Contains-head, Contains-tail, Contains-none, Contains-cases}
 
 -- what passes is kept, after an element that may be kept too
-kept_behind : {X : Type 0} (p : X → Bool) (y x : X) (ys : List X) (b : Bool) → p y ≡ b → p x ≡ true → (y ≡ x) ⊎ Contains (filter p ys) x
+kept_after : {X : Type 0} (p : X → Bool) (y x : X) (ys : List X) (b : Bool) → p y ≡ b → p x ≡ true → (y ≡ x) ⊎ Contains (filter p ys) x
     → Contains (cond b (y ∷ filter p ys) (filter p ys)) x
-kept_behind p y x ys true kept passes (inl is) = subst (Contains (y ∷ filter p ys)) is (Contains-head y (filter p ys))
-kept_behind p y x ys true kept passes (inr behind) = Contains-tail y x (filter p ys) behind
-kept_behind p y x ys false dropped passes (inl is) = absurd (true≢false (sym passes ∙ ap p (sym is) ∙ dropped))
-kept_behind p y x ys false dropped passes (inr behind) = behind
+kept_after p y x ys true kept passes (inl is) = subst (Contains (y ∷ filter p ys)) is (Contains-head y (filter p ys))
+kept_after p y x ys true kept passes (inr behind) = Contains-tail y x (filter p ys) behind
+kept_after p y x ys false dropped passes (inl is) = absurd (true≢false (sym passes ∙ ap p (sym is) ∙ dropped))
+kept_after p y x ys false dropped passes (inr behind) = behind
 
 pub Contains-filter : {X : Type 0} (p : X → Bool) (xs : List X) (x : X) → Contains xs x → p x ≡ true → Contains (filter p xs) x
 Contains-filter p [] x contains passes = absurd (Contains-none x contains)
 Contains-filter p (y ∷ ys) x contains passes =
-    kept_behind p y x ys (p y) refl passes
+    kept_after p y x ys (p y) refl passes
     (elim (Contains-cases y x ys contains) [ inl is ↦ inl is | inr behind ↦ inr (Contains-filter p ys x behind passes) ])
 
 module _ (cell : Cell) where

@@ -7,13 +7,14 @@ use Rattle.cell_base.specs.declared.shifts.Entry.{Entry}
 use Rattle.cell_base.specs.declared.shifts.Grant.{Grant}
 use Rattle.cell_base.specs.declared.shifts.Shift.{Shift}
 use Rattle.cell_base.specs.Fits.{ShiftFits}
-use Rattle.cell_base.specs.Scripts.{begin_at, holds_halt, start as first_step}
-use Rattle.cell_base.specs.Starts.{AreStarted}
+use Rattle.cell_base.specs.Scripts.{begin_at, holds_halt, first_step}
+use Rattle.cell_base.specs.Starts.{AreFirstSteps}
 use Rattle.durable_cell.specs.DurableState.{DurableState}
 use Rattle.durable_cell.specs.Openings.{fresh}
-use Rattle.durable_cell.specs.Replayed.{AreDue, opened_as}
+use Rattle.shift_recovery.specs.Replayed.{AreDue, opened_as}
 use Rattle.shift_file.specs.Walk.{shift_of}
-use Rattle.cell_walks.specs.Allowed.{AtOpening, ByMemory, ByRefusal, IsAllowed, IsEndedAt, JournalOpened, NotOpened, Opened, Passed, Stopped, Unasked, AllowsFrom}
+use Rattle.cell_walks.specs.Allowed.{AtOpening, ByMemory, ByRefusal, IsAllowed, IsEndedAt, JournalOpened}
+use Rattle.cell_walks.specs.Allowed.{NotOpened, Opened, Passed, Stopped, Unasked, AllowsFrom}
 use Rattle.cell_walks.specs.DiskTold.{DiskTold, IsUntouched, disk_told}
 use Rattle.cell_walks.specs.Observed.{File, FilesTold, Observed, Shows, files_told, observed}
 use Rattle.cell_walks.specs.Outcomes.{Outcome, early}
@@ -24,7 +25,7 @@ use Rattle.cell_texts.specs.Tests.{KnownCell, cell_file, cell_reads, shift_file,
 use Rattle.cell_texts.specs.Recorded.{IsAskedUnder, IsHaltedIn, IsUnhaltedIn, recorded_or_early}
 use Rattle.cell_texts.specs.Records.{IsRecordedOrHalted}
 use Rattle.shift_commands.specs.Run.{IsShiftRun, RanPart, RanWhole, run, run_room}
-use Rattle.cell_texts.specs.Starting.{other_shift, start}
+use Rattle.cell_texts.specs.Starting.{other_shift, start_test}
 use Rattle.cell_texts.specs.declared.recorded.Recorded.{Recorded}
 use Rattle.cell_texts.proofs.Recording.{recorded_so}
 use Rattle.shift_commands.specs.JournalRuns.{EndsAtStart, HasStarted, IsAfterSessions, IsRunOnJournal, StartRefused, StartStarved}
@@ -33,7 +34,7 @@ use Rattle.shift_commands.proofs.RunHistories.{traces, whole_traces}
 
 -- ---- the record
 
-module _ {D : Type 0} (shift : Shift) (durable : DurableState D) (started : AreStarted shift durable.opening)
+module _ {D : Type 0} (shift : Shift) (durable : DurableState D) (started : AreFirstSteps shift durable.opening)
     (behind : IsAfterSessions shift durable) where
   -- everything was asked under the shift's number
   pub asked_under : ShiftFits durable.cell shift → IsAskedUnder shift.number durable
@@ -66,7 +67,8 @@ module _ {D : Type 0} (shift : Shift) (durable : DurableState D) (started : AreS
 -- a run on a journal that was opened
 pub run_opened : {D : Type 0} (reads_as : D → Option (List ℕ)) (may_leave : D → List ℕ → Type 0) (moment : D → ℕ)
     (left_since : D → ℕ → List ℕ → Type 0) (faults : D → ℕ) (held : KnownCell) (shift : Shift) (disk new : D) (durable : DurableState D)
-    (limit : ℕ) (made : Result Recorded EarlyEnd) → durable ≡ fresh held.cell held.text disk durable.found durable.disk durable.opening limit
+    (limit : ℕ) (made : Result Recorded EarlyEnd) → durable
+    ≡ fresh held.cell held.text disk durable.found durable.disk durable.opening limit
     → IfSome (reads_as disk) (λ file. opened_as held.cell file held.text (run_room shift) ≡ Ok durable.opening)
     → AreDue durable.cell durable.opening
     → HasStarted (disk_told reads_as may_leave moment left_since faults durable.entry new) durable.cell durable.text shift durable.opening
@@ -81,14 +83,14 @@ run_opened {D} reads_as may_leave moment left_since faults held shift disk new d
 
 -- the command ended at the start of the sessions
 at_start : (files : FilesTold) (shift : Shift) (opening : List Grant) (end : EarlyEnd) → EndsAtStart shift opening end
-    → IsEndedAt files (start shift opening) end
+    → IsEndedAt files (start_test shift opening) end
 at_start files shift opening end (StartRefused session other is) = ByRefusal session other (other_shift session) refl is
 at_start files shift opening end (StartStarved is) = ByMemory is
 
 module _ (seen : Observed) (held : KnownCell) (shift : Shift) where
   -- the sessions, and what the walk answers after them
   abbrev sessions : List Grant → Walk
-  sessions opening = Tests (start shift opening) λ started. Answers λ input outcome. IsShiftRun held.cell shift opening outcome
+  sessions opening = Tests (start_test shift opening) λ started. Answers λ input outcome. IsShiftRun held.cell shift opening outcome
 
   from_start : (opening : List Grant) (made : Result Recorded EarlyEnd) → HasStarted seen.disk held.cell held.text shift opening made
       → AllowsFrom seen (recorded_or_early made) (Opened held.text opening) (sessions opening)

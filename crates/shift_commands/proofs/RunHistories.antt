@@ -1,7 +1,8 @@
 -- Each session of a history without a halt went through its script.
 use mathlib.Core.List.{IsPrefix}
 use Rattle.std.specs.Prelude.{Some, None, ◌||◌}
-use Rattle.std.proofs.Common.{◌≡◌, ◌⊎◌, inl, inr, ℕ, ◌*◌, ◌<◌, ◌≤◌, ◌==◌, Bool, true, false, cond, List, [], ◌∷◌, ◌++◌, length, All, refl, sym, ap, ◌∙◌, subst, arith, length-take}
+use Rattle.std.proofs.Common.{◌≡◌, ◌⊎◌, inl, inr, ℕ, ◌*◌, ◌<◌, ◌≤◌, ◌==◌, Bool, true, false, cond, List}
+use Rattle.std.proofs.Common.{[], ◌∷◌, ◌++◌, length, All, refl, sym, ap, ◌∙◌, subst, arith, length-take}
 use Rattle.std.proofs.lemmas.Bool.{cond-true, or_parts, or_from, cases_lt, eq-eqb, true≢false}
 use Rattle.std.proofs.lemmas.Option.{same_Some}
 use Rattle.std.proofs.lemmas.List.Elements.{All-nil, All-cons}
@@ -15,17 +16,17 @@ use Rattle.cell_base.specs.declared.shifts.Shift.{Shift}
 use Rattle.cell_base.specs.Fits.{steps_of}
 use Rattle.cell_base.specs.Histories.{IsLegal, IsToldRightly, entries_of, state_after_entry, was_halted}
 use Rattle.cell_base.specs.Rounds.{IsSession}
-use Rattle.cell_base.specs.Scripts.{IsTrace, IsWholeTrace, begin_at, holds_halt, script_of, start}
-use Rattle.cell_sessions.proofs.Traces.{holds_halt-entries_of}
+use Rattle.cell_base.specs.Scripts.{IsTrace, IsWholeTrace, begin_at, holds_halt, script_of, first_step}
+use Rattle.solo_rounds.proofs.Traces.{holds_halt-entries_of}
 use Rattle.durable_cell.specs.Asked.{halted_in}
-use Rattle.cell_base.specs.Starts.{AreStarted}
+use Rattle.cell_base.specs.Starts.{AreFirstSteps}
 use Rattle.shift_commands.specs.Run.{EachSession}
 use Rattle.shift_commands.specs.JournalRuns.{HasGone}
 use Rattle.shift_commands.proofs.Counting.{each_ended}
 
 -- ---- a halt
 
--- a first part of a history without a halt has none
+-- a prefix of a history without a halt has none
 unhalted_first : (first behind : List Entry) → holds_halt (first ++ behind) ≡ false → holds_halt first ≡ false
 unhalted_first [] behind unhalted = refl
 unhalted_first (e ∷ es) behind unhalted =
@@ -37,11 +38,11 @@ prefix_unhalted seen history begins unhalted =
     unhalted_first seen begins.0 (subst (λ (es : List Entry). holds_halt es ≡ false) (sym begins.1) unhalted)
 
 prefix_short : (seen history : List Entry) → IsPrefix seen history → length seen ≤ length history
-prefix_short seen history begins = omega (arith, ap length begins.1, length_behind seen begins.0)
+prefix_short seen history begins = omega (arith, ap length begins.1, length_after seen begins.0)
   where
-    length_behind : (xs ys : List Entry) → length xs ≤ length (xs ++ ys)
-    length_behind [] ys = omega arith
-    length_behind (x ∷ xs) ys = omega (arith, length_behind xs ys)
+    length_after : (xs ys : List Entry) → length xs ≤ length (xs ++ ys)
+    length_after [] ys = omega arith
+    length_after (x ∷ xs) ys = omega (arith, length_after xs ys)
 
 -- ---- no one else has an entry
 
@@ -76,13 +77,13 @@ all_sessions shift (e ∷ es) others =
 -- ---- no session stops before its end, but for a halt
 
 -- the grants of a session that are first steps of its script are no more than the script has
-pub starts_within : (shift : Shift) (opening : List Grant) → AreStarted shift opening → (session : ℕ) → IsSession shift session
-    → start shift session opening ≤ length (script_of shift session)
+pub starts_within : (shift : Shift) (opening : List Grant) → AreFirstSteps shift opening → (session : ℕ) → IsSession shift session
+    → first_step shift session opening ≤ length (script_of shift session)
 starts_within shift opening started session is =
     let granted = started.each session is in
-    omega (arith, ap length granted, length-take (start shift session opening) (script_of shift session))
+    omega (arith, ap length granted, length-take (first_step shift session opening) (script_of shift session))
 
-module _ (shift : Shift) (opening : List Grant) (history : List Entry) (started : AreStarted shift opening)
+module _ (shift : Shift) (opening : List Grant) (history : List Entry) (started : AreFirstSteps shift opening)
     (sessions : All (λ (e : Entry). IsSession shift e.session) history)
     (gone : (session : ℕ) → IsSession shift session → HasGone shift opening history session) where
   pub traces : EachSession IsTrace shift opening history
@@ -90,11 +91,11 @@ module _ (shift : Shift) (opening : List Grant) (history : List Entry) (started 
 
   -- all asks that there are were asked: then each session has ended
   full : holds_halt history ≡ false → steps_of shift * shift.patience ≤ length history → (session : ℕ) → IsSession shift session
-      → IsWholeTrace (script_of shift session) shift.patience (begin_at (start shift session opening)) (entries_of session history)
+      → IsWholeTrace (script_of shift session) shift.patience (begin_at (first_step shift session opening)) (entries_of session history)
   full no_halt all session is = record {
     trace = traces session is;
     unhalted = holds_halt-entries_of session history no_halt;
-    ended = each_ended shift history (λ s. start shift s opening) no_halt traces (starts_within shift opening started) sessions all
+    ended = each_ended shift history (λ s. first_step shift s opening) no_halt traces (starts_within shift opening started) sessions all
         session is;
   }
 
@@ -104,9 +105,9 @@ module _ (shift : Shift) (opening : List Grant) (history : List Entry) (started 
       by_end went.seen went.begins went.ended
     where
       by_end : (seen : List Entry) → IsPrefix seen history
-          → IsWholeTrace (script_of shift session) shift.patience (begin_at (start shift session opening)) (entries_of session history)
+          → IsWholeTrace (script_of shift session) shift.patience (begin_at (first_step shift session opening)) (entries_of session history)
           ⊎ ((holds_halt seen ≡ true) ⊎ (steps_of shift * shift.patience ≤ length seen))
-          → IsWholeTrace (script_of shift session) shift.patience (begin_at (start shift session opening)) (entries_of session history)
+          → IsWholeTrace (script_of shift session) shift.patience (begin_at (first_step shift session opening)) (entries_of session history)
       by_end seen begins (inl whole) = whole
       by_end seen begins (inr (inl halted)) = absurd (true≢false (sym halted ∙ prefix_unhalted seen history begins no_halt))
       by_end seen begins (inr (inr all)) = full no_halt (omega (arith, all, prefix_short seen history begins)) session is

@@ -1,6 +1,7 @@
 -- What the sessions made of the one history under the lock.
 use mathlib.Core.List.{IsPrefix}
-use Rattle.std.proofs.Common.{◌≡◌, ◌⊎◌, inl, inr, ℕ, zero, suc, ◌+◌, ◌-◌, ◌*◌, ◌<◌, ◌≤◌, true, List, [], ◌∷◌, ◌++◌, length, All, get_or, refl, sym, ap, ◌∙◌, subst, arith}
+use Rattle.std.proofs.Common.{◌≡◌, ◌⊎◌, inl, inr, ℕ, zero, suc, ◌+◌, ◌-◌, ◌*◌, ◌<◌, ◌≤◌, true, List}
+use Rattle.std.proofs.Common.{[], ◌∷◌, ◌++◌, length, All, get_or, refl, sym, ap, ◌∙◌, subst, arith}
 use Rattle.std.proofs.lemmas.Option.{slice_get-get_or}
 use Rattle.std.proofs.lemmas.List.Elements.{All-get_or}
 use Rattle.cell_base.specs.declared.shifts.Entry.{Entry}
@@ -9,14 +10,14 @@ use Rattle.cell_base.specs.declared.shifts.Shift.{Shift}
 use Rattle.cell_base.specs.Fits.{steps_of}
 use Rattle.cell_base.specs.Histories.{entries_of, grants}
 use Rattle.cell_base.specs.Rounds.{IsSession}
-use Rattle.cell_base.specs.Scripts.{Progress, IsTrace, IsWholeTrace, begin_at, holds_halt, script_of, start}
+use Rattle.cell_base.specs.Scripts.{Progress, IsTrace, IsWholeTrace, begin_at, holds_halt, script_of, first_step}
 use Rattle.durable_cell.specs.Asked.{unsure_grant}
 use Rattle.durable_cell.specs.DurableState.{DurableState}
 use Rattle.cell_lock.specs.declared.board.Opening.{Opening}
 use Rattle.cell_lock.specs.Openings.{Outside, opening_of}
 use Rattle.cell_lock.specs.Standing.{AreAll, AreNumbered, LockId, Standing, new_pass, new_passes}
-use Rattle.cell_sessions.specs.Underway.{IsWithinScript, progress_at}
-use Rattle.cell_base.specs.Starts.{AreStarted}
+use Rattle.solo_rounds.specs.Underway.{IsWithinScript, progress_at}
+use Rattle.cell_base.specs.Starts.{AreFirstSteps}
 use Rattle.shift_commands.specs.JournalRuns.{HasGone, IsAfterSessions}
 use Rattle.cell_sessions.specs.Sessions.{HasRun, IsCutShort}
 use Rattle.cell_sessions.specs.Starting.{AreBegun}
@@ -54,11 +55,11 @@ module _ {D : Type 0} (moment : D → ℕ) (lock : LockId D) where
 -- ---- where they start
 
 module _ (shift : Shift) (opening : List Grant) (progress : List Progress) (begun : AreBegun shift opening progress) where
-  progress_is : (k : ℕ) → k < length shift.scripts → progress_at progress k ≡ begin_at (start shift (k + 1) opening)
+  progress_is : (k : ℕ) → k < length shift.scripts → progress_at progress k ≡ begin_at (first_step shift (k + 1) opening)
   progress_is k within =
       begun.each k (progress_at progress k) (slice_get-get_or progress k (begin_at 0) (omega (arith, within, begun.count)))
 
-  pub begun_within : AreStarted shift opening → (k : ℕ) → k < length shift.scripts
+  pub begun_within : AreFirstSteps shift opening → (k : ℕ) → k < length shift.scripts
       → IsWithinScript (script_of shift (k + 1)) shift.patience (progress_at progress k)
   begun_within started k within =
       subst (IsWithinScript (script_of shift (k + 1)) shift.patience) (sym (progress_is k within))
@@ -115,7 +116,7 @@ module _ {D : Type 0} (moment : D → ℕ) (shift : Shift) (lock : LockId D) (pr
         ∙ All-get_or (λ (p : Standing D). entries_of p.number durable.history ≡ p.mine) new k other inside closed.mine
         ∙ ran.mine ∙ ap (λ (es : List Entry). es ++ ran.entries) (old_mine k within)
 
-    from : progress_at progress k ≡ begin_at (start shift (k + 1) lock.opening.grants)
+    from : progress_at progress k ≡ begin_at (first_step shift (k + 1) lock.opening.grants)
     from = progress_is shift lock.opening.grants progress begun k within
 
     pass_limit : (get_or old k other).lock.opening.limit ≡ steps_of shift * shift.patience
@@ -124,7 +125,7 @@ module _ {D : Type 0} (moment : D → ℕ) (shift : Shift) (lock : LockId D) (pr
         ∙ ap (λ (l : LockId D). l.opening.limit) (old_lock 1 lock.opening.passes k (omega (arith, within, sessions))) ∙ limit
 
     abbrev Goes : (Progress → List Entry → Type 0) → Type 0
-    Goes P = P (begin_at (start shift (k + 1) lock.opening.grants)) (entries_of (k + 1) durable.history)
+    Goes P = P (begin_at (first_step shift (k + 1) lock.opening.grants)) (entries_of (k + 1) durable.history)
 
     goes : (P : Progress → List Entry → Type 0) → P (progress_at progress k) ran.entries → Goes P
     goes P is = subst (λ (at : Progress). P at (entries_of (k + 1) durable.history)) from
@@ -141,7 +142,7 @@ module _ {D : Type 0} (moment : D → ℕ) (shift : Shift) (lock : LockId D) (pr
         by_end : IsWholeTrace (script_of shift (k + 1)) shift.patience (progress_at progress k) ran.entries
             ⊎ IsCutShort (script_of shift (k + 1)) shift.patience (progress_at progress k) ran.entries pass.seen
             (get_or old k other).lock.opening.limit
-            → IsWholeTrace (script_of shift (k + 1)) shift.patience (begin_at (start shift (k + 1) lock.opening.grants))
+            → IsWholeTrace (script_of shift (k + 1)) shift.patience (begin_at (first_step shift (k + 1) lock.opening.grants))
             (entries_of (k + 1) durable.history)
             ⊎ ((holds_halt pass.seen ≡ true) ⊎ (steps_of shift * shift.patience ≤ length pass.seen))
         by_end (inl whole) = inl (goes (IsWholeTrace (script_of shift (k + 1)) shift.patience) whole)

@@ -1,11 +1,13 @@
 -- What the walk of `run` answers, told fact by fact.
-use Rattle.std.proofs.Common.{◌⊎◌, inl, inr, ℕ, List, ◌++◌, ap, subst, append-nil}
+use Rattle.std.proofs.Common.{◌⊎◌, inl, inr, ℕ, List, [], ◌++◌, ap, subst, append-nil}
+use Rattle.std.proofs.lemmas.List.Elements.{All-head}
+use Rattle.outside_io.specs.Causes.{Rose}
 use Rattle.cell_base.specs.declared.cells.Cell.{Cell}
 use Rattle.cell_base.specs.declared.shifts.Grant.{Grant}
 use Rattle.cell_base.specs.declared.shifts.Shift.{Shift}
 use Rattle.cell_base.specs.Histories.{grants}
-use Rattle.durable_cell.specs.Kept.{StandsForFirst}
-use Rattle.move_journal.specs.Journals.{StandsFor}
+use Rattle.durable_cell.specs.Asked.{grant_of}
+use Rattle.move_journal.specs.Journals.{StandsForPrefix, StandsFor}
 use Rattle.cell_walks.specs.Allowed.{StandsForAdded}
 use Rattle.cell_walks.specs.DiskTold.{DiskTold, IsAlways}
 use Rattle.cell_walks.specs.Observed.{Observed}
@@ -31,9 +33,14 @@ module _ (disk : DiskTold) (cell : Cell) (text : List ℕ) (shift : Shift) (open
         status = ap (λ (o : Outcome). o.status) is.is;
         written = is.text;
         added = ap (λ (o : Outcome). o.added) is.is;
-        stands = now_weaker disk (λ file. StandsFor file text (opening ++ since) ⊎ ⊥) (λ file. StandsFor file text (opening ++ since))
-            (λ file. elim [ inl so ↦ so | inr none ↦ absurd none ]) left.now;
-        any_moment = subst (λ (gs : List Grant). IsAlways disk (λ file. disk.leaves file ⊎ StandsForFirst text opening gs file))
+        stands = now_weaker disk
+            (λ file. StandsFor file text (opening ++ since) ⊎ StandsFor file text (opening ++ since ++ []))
+            (λ file. StandsFor file text (opening ++ since))
+            (λ file. elim [
+              | inl so ↦ so
+              | inr so ↦ subst (StandsFor file text) (append-nil (opening ++ since)) so
+            ]) left.now;
+        any_moment = subst (λ (gs : List Grant). IsAlways disk (λ file. disk.leaves file ⊎ StandsForPrefix text opening gs file))
             (append-nil since) left.any_moment;
       }
 
@@ -53,7 +60,7 @@ module _ (disk : DiskTold) (cell : Cell) (text : List ℕ) (shift : Shift) (open
         added = ap (λ (o : Outcome). o.added) is.is;
         stands = left.now;
         any_moment = left.any_moment;
-        cause = left.cause;
+        cause = All-head (λ grant. Rose disk.faults disk.faults_after) (grant_of shift.number is.last) [] left.cause;
       }
 
 -- what is answered

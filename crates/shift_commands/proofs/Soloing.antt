@@ -1,6 +1,6 @@
 -- How the outcomes of `solo` come about.
 use Rattle.std.specs.List.{concat}
-use Rattle.std.proofs.Common.{◌≡◌, ℕ, List, [], length, Option, Ok, ap, refl, ◌∙◌}
+use Rattle.std.proofs.Common.{◌≡◌, ℕ, List, [], length, All, Option, Ok, ap, refl, sym, subst, ◌∙◌}
 use Rattle.outside_io.specs.Files.{Names}
 use Rattle.cell_base.specs.declared.cells.Cell.{Cell}
 use Rattle.cell_base.specs.declared.requests.Part.{Part}
@@ -11,6 +11,7 @@ use Rattle.cell_base.specs.Histories.{after}
 use Rattle.cell_base.specs.Plans.{plan_of}
 use Rattle.cell_texts.specs.Blocks.{planned_block}
 use Rattle.cell_texts.proofs.BlockTexts.{planned_text}
+use Rattle.record_text.specs.Fitting.{EntryFits}
 use Rattle.shift_file.specs.Walk.{shift_of}
 use Rattle.cell_walks.specs.Allowed.{ByMemory, IsAllowed, IsEndedAt, Passed, Stopped, Unasked}
 use Rattle.cell_walks.specs.DiskTold.{no_disk}
@@ -22,9 +23,10 @@ use Rattle.cell_walks.specs.declared.early_end.EarlyEnd.TheVariants.{WantOfMemor
 use Rattle.cell_walks.proofs.Steps.{ended_at, ended_after, none_done, shown_before}
 use Rattle.cell_texts.specs.Tests.{KnownCell, cell_file, cell_reads, shift_file}
 use Rattle.shift_commands.specs.Solo.{IsSoloRecord, IsSoloShift, solo}
-use Rattle.shift_commands.specs.SoloRuns.{IsSoloRun, lines_of_run}
-use Rattle.shift_commands.specs.declared.solo.SoloRun.{SoloRun}
-use Rattle.shift_commands.proofs.Rounds.{rounds_drain, rounds_unhalted}
+use Rattle.shift_commands.specs.SoloRuns.{lines_of_run}
+use Rattle.solo_rounds.specs.SoloRuns.{IsSoloRun}
+use Rattle.solo_rounds.specs.declared.runs.SoloRun.{SoloRun}
+use Rattle.shift_commands.proofs.Rounds.{rounds_drain, rounds_fit, rounds_unhalted}
 
 module _ (cell : Cell) (shift : Shift) (run : SoloRun) (is : IsSoloRun cell shift run) where
   -- the lines of a run are those of its history and of the plan after it
@@ -49,6 +51,12 @@ module _ (cell : Cell) (shift : Shift) (run : SoloRun) (is : IsSoloRun cell shif
             ∙ planned_text cell [] shift.number 0 history (plan_of cell (after cell [] history))
             (rounds_unhalted cell fits shift history shift_fits is.rounds);
       }
+
+  -- its entries fit
+  pub run_fits : CellFits cell → ShiftFits cell shift → All (EntryFits run.core.cell) run.history.items
+  run_fits fits shift_fits =
+      subst (λ (on : Cell). All (EntryFits on) run.history.items) (sym is.on)
+      (rounds_fit cell fits shift run.history.items shift_fits is.rounds)
 
 module _ {F : Type 0} (holds : F → Option Names) (is_sound : F → Type 0) (faults : F → ℕ) (cell shift_name : List ℕ) where
   abbrev ran : KnownCell → Shift → Walk

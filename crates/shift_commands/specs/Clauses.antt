@@ -1,8 +1,8 @@
 -- What the clauses of `solo` and `run` name.
 pub use Rattle.cell_base.specs.declared.limits.TheConstants.{MAX_STEPS}
 pub use Rattle.cell_base.specs.Fits.{ShiftFits, steps_of}
-pub use Rattle.cell_base.specs.Starts.{AreStarted}
-pub use Rattle.durable_cell.specs.Replayed.{AreDue}
+pub use Rattle.cell_base.specs.Starts.{AreFirstSteps}
+pub use Rattle.shift_recovery.specs.Replayed.{AreDue}
 pub use Rattle.cell_lock.specs.Openings.{opening_of}
 pub use Rattle.cell_lock.specs.Standing.{new_passes}
 pub use Rattle.cell_sessions.specs.Starting.{AreBegun}
@@ -11,4 +11,4 @@ pub use Rattle.cell_walks.specs.Allowed.{StandsForAdded}
 pub use Rattle.shift_commands.specs.JournalRuns.{HasStarted, IsAfterSessions, IsRunOnJournal}
 pub use Rattle.shift_commands.specs.Run.{IsShiftRun, run}
 pub use Rattle.shift_commands.specs.Solo.{solo}
-pub use Rattle.shift_commands.specs.SoloRuns.{IsSoloRun, lines_of_run, solo_outcome}
+pub use Rattle.shift_commands.specs.SoloRuns.{lines_of_run, solo_outcome}

@@ -9,8 +9,8 @@ use Rattle.cell_base.specs.declared.shifts.Shift.{Shift}
 use Rattle.cell_base.specs.Fits.{steps_of}
 use Rattle.cell_base.specs.Histories.{entries_of, grants}
 use Rattle.cell_base.specs.Rounds.{IsSession}
-use Rattle.cell_base.specs.Scripts.{IsTrace, IsWholeTrace, begin_at, holds_halt, script_of, start as first_step}
-use Rattle.cell_base.specs.Starts.{AreStarted, IsOtherShift}
+use Rattle.cell_base.specs.Scripts.{IsTrace, IsWholeTrace, begin_at, holds_halt, script_of, first_step}
+use Rattle.cell_base.specs.Starts.{AreFirstSteps, IsOtherShift}
 use Rattle.durable_cell.specs.Asked.{unsure_grant}
 use Rattle.durable_cell.specs.DurableState.{DurableState}
 use Rattle.cell_walks.specs.Allowed.{AtOpening, StandsForAdded}
@@ -21,12 +21,12 @@ use Rattle.cell_walks.specs.declared.early_end.EarlyEnd.TheVariants.{WantOfMemor
 use Rattle.cell_texts.specs.Tests.{KnownCell, to_add}
 use Rattle.cell_texts.specs.Recorded.{recorded_outcome}
 use Rattle.shift_commands.specs.Run.{IsShiftRun, run_room}
-use Rattle.cell_texts.specs.Starting.{other_shift, start}
+use Rattle.cell_texts.specs.Starting.{other_shift, start_test}
 use Rattle.cell_texts.specs.declared.recorded.Recorded.{Recorded}
 
 -- ---- the sessions
 
--- The session's entries in the history go through its script, up to its end; or up to a fault, and then a first part of the history
+-- The session's entries in the history go through its script, up to its end; or up to a fault, and then a prefix of the history
 -- halts, or has as many entries as all steps together may be asked.
 pub record HasGone (shift : Shift) (opening : List Grant) (history : List Entry) (session : ℕ) : Type 0 where
   pub trace : IsTrace (script_of shift session) shift.patience (begin_at (first_step shift session opening)) (entries_of session history)
@@ -48,14 +48,14 @@ pub record IsAfterSessions {D : Type 0} (shift : Shift) (durable : DurableState 
 -- an end before the sessions, after these grants: they are another shift's, or memory is wanting
 pub data EndsAtStart (shift : Shift) (opening : List Grant) (end : EarlyEnd) : Type 0 where
   StartRefused : (session : ℕ) → IsOtherShift shift opening session
-      → end ≡ Refused (refusal_of (start shift opening) (other_shift session)) → EndsAtStart shift opening end
+      → end ≡ Refused (refusal_of (start_test shift opening) (other_shift session)) → EndsAtStart shift opening end
   StartStarved : end ≡ WantOfMemory → EndsAtStart shift opening end
 
 -- the sessions started after these grants and ran, or the command ended there and nothing was added
 abbrev pub HasStarted : DiskTold → Cell → List ℕ → Shift → List Grant → Result Recorded EarlyEnd → Type 0
 HasStarted disk cell text shift opening (Ok recorded) = let outcome = recorded_outcome recorded in
-    AreStarted shift opening × IsShiftRun cell shift opening outcome × StandsForAdded disk text opening outcome.added outcome.unsure
-HasStarted disk cell text shift opening (Err end) = EndsAtStart shift opening end × StandsForAdded disk text opening [] None
+    AreFirstSteps shift opening × IsShiftRun cell shift opening outcome × StandsForAdded disk text opening outcome.added outcome.unsure
+HasStarted disk cell text shift opening (Err end) = EndsAtStart shift opening end × StandsForAdded disk text opening [] []
 
 -- the journal of this cell was opened and the shift ran on it, or the command ended there
 abbrev pub IsRunOnJournal : DiskTold → KnownCell → Shift → Result Recorded EarlyEnd → Type 0

@@ -9,12 +9,12 @@ use Rattle.cell_base.specs.declared.shifts.Shift.{Shift}
 use Rattle.cell_base.specs.Fits.{steps_of}
 use Rattle.cell_base.specs.Histories.{entries_of}
 use Rattle.cell_base.specs.Rounds.{IsSession}
-use Rattle.cell_base.specs.Scripts.{Progress, IsTrace, IsWholeTrace, begin_at, script_of, start as first_step}
+use Rattle.cell_base.specs.Scripts.{Progress, IsTrace, IsWholeTrace, begin_at, script_of, first_step}
 use Rattle.cell_walks.specs.Outcomes.{Outcome}
 use Rattle.cell_walks.specs.Walks.{Walk, Tests, Opens, Answers}
-use Rattle.shift_commands.specs.declared.running.TheConstants.{MAX_RUN_ROOM}
+use Rattle.shift_commands.specs.declared.run.TheConstants.{MAX_RUN_ROOM}
 use Rattle.cell_texts.specs.Tests.{cell_file, shift_file, to_add}
-use Rattle.cell_texts.specs.Starting.{start}
+use Rattle.cell_texts.specs.Starting.{start_test}
 use Rattle.cell_texts.specs.Records.{IsRecordedOrHalted}
 
 -- how many grants a journal may have before a shift: so many that it has room for the steps of the shift and of a drain after it
@@ -46,5 +46,5 @@ run cell shift =
     Tests (cell_file cell) λ held.
     Tests (shift_file held.cell shift) λ s.
     Opens (to_add held (run_room s)) λ opening.
-    Tests (start s opening) λ started.
+    Tests (start_test s opening) λ started.
     Answers λ input outcome. IsShiftRun held.cell s opening outcome

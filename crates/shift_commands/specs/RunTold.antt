@@ -13,8 +13,7 @@ use Rattle.cell_base.specs.Policy.{IsAdmitted}
 use Rattle.cell_base.specs.Rounds.{IsSession}
 use Rattle.cell_base.specs.Scripts.{IsTrace, IsWholeTrace}
 use Rattle.durable_cell.specs.Asked.{grant_of}
-use Rattle.durable_cell.specs.Kept.{StandsForFirst}
-use Rattle.move_journal.specs.Journals.{StandsFor}
+use Rattle.move_journal.specs.Journals.{StandsForPrefix, StandsFor}
 use Rattle.record_text.specs.Records.{text_of_record}
 use Rattle.cell_walks.specs.DiskTold.{DiskTold, IsAlways, IsNow}
 use Rattle.cell_walks.specs.Outcomes.{Outcome}
@@ -41,7 +40,7 @@ pub record IsWholeRun (disk : DiskTold) (cell : Cell) (text : List ℕ) (shift :
       ≡ text_of_record cell state shift.number (length opening) history (plan_of cell (after cell state history))
   pub added : outcome.added ≡ grants shift.number history
   pub stands : IsNow disk (λ file. StandsFor file text (opening ++ grants shift.number history))
-  pub any_moment : IsAlways disk (λ file. disk.leaves file ⊎ StandsForFirst text opening (grants shift.number history) file)
+  pub any_moment : IsAlways disk (λ file. disk.leaves file ⊎ StandsForPrefix text opening (grants shift.number history) file)
 
 -- The writing of a grant halted, and no session was granted anything after it: the block that ends there is printed, and the disk
 -- stands for the grants and those of the history, without the halted request or with it.
@@ -60,5 +59,5 @@ pub record IsHaltedRun (disk : DiskTold) (cell : Cell) (text : List ℕ) (shift 
   pub stands : let granted = grants shift.number history in IsNow disk (λ file.
       StandsFor file text (opening ++ granted) ⊎ StandsFor file text (opening ++ granted ++ grant_of shift.number last ∷ []))
   pub any_moment : IsAlways disk (λ file. disk.leaves file
-      ⊎ StandsForFirst text opening (grants shift.number history ++ grant_of shift.number last ∷ []) file)
+      ⊎ StandsForPrefix text opening (grants shift.number history ++ grant_of shift.number last ∷ []) file)
   pub cause : Rose disk.faults disk.faults_after

@@ -18,9 +18,9 @@ use Rattle.cell_texts.specs.Tests.{cell_file, shift_file}
 pub record IsSoloRecord (cell : Cell) (shift : Shift) (lines : List (List ℕ)) : Type 0 where
   pub history : List Entry
   pub rounds : IsRoundRobin cell [] shift history
-  pub drains : let behind = after cell [] history in Drains cell behind (plan_of cell behind)
-  pub printed : let behind = after cell [] history in
-      lines ≡ planned_block cell shift.number 0 history (length behind) (plan_of cell behind)
+  pub drains : let left = after cell [] history in Drains cell left (plan_of cell left)
+  pub printed : let left = after cell [] history in
+      lines ≡ planned_block cell shift.number 0 history (length left) (plan_of cell left)
   pub text : concat lines ≡ text_of_record cell [] shift.number 0 history (plan_of cell (after cell [] history))
 
 -- that record is printed

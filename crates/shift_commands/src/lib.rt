@@ -4,11 +4,9 @@
 //! outcome that the walk allows.
 #![tactic(auto)]
 
-mod counts;
-mod running;
+mod run;
 mod sessions;
 mod solo;
 
-pub use counts::steps_of;
-pub use running::run_on_journal;
-pub use solo::{SoloRun, run_rounds, run_solo};
+pub use run::run_on_journal;
+pub use solo::run_solo;

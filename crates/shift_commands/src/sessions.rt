@@ -1,15 +1,16 @@
 //! The sessions of a shift after the grants of a journal: started, run under the lock, and what comes of them.
-ghost use Rattle.std.specs.Prelude.{◌≡◌, ◌*◌, [], None, Err, IfOk, length};
+ghost use Rattle.std.specs.Prelude.{◌≡◌, ◌*◌, IfOk, length};
 ghost use Rattle.cell_walks.specs.Clauses.{disk_told};
 ghost use Rattle.cell_texts.specs.Clauses.{EntriesFit, IsFresh, recorded_outcome};
-ghost use Rattle.shift_commands.specs.Clauses.{AreBegun, AreDue, AreStarted, HasStarted, IsAfterSessions, IsShiftRun, ShiftFits, StandsForAdded, new_passes, opening_of, steps_of};
+ghost use Rattle.shift_commands.specs.Clauses.{AreBegun, AreDue, AreFirstSteps, HasStarted, IsAfterSessions, IsShiftRun};
+ghost use Rattle.shift_commands.specs.Clauses.{ShiftFits, StandsForAdded, new_passes, opening_of, steps_of};
 
 use cell_base::{List, NoMemory, Shift};
 use cell_lock::{Pass, SharedCell};
 use cell_sessions::{BeginFault, Progress, begin, run_shift};
-use cell_texts::{Closed, Made, Recorded, at_other_shift, record_of};
+use cell_texts::{Closed, Made, Recorded, at_other_shift, give_back, record_of};
 use cell_walks::EarlyEnd;
-use durable_cell::{Durable, Finished};
+use durable_cell::Durable;
 use outside_io::{Disk, Pace};
 use std::alloc::Global;
 use std::sync::Wait;
@@ -39,25 +40,6 @@ pub fn start<R: Threads + Wait + Sync, D: Disk + Send, P: Pace + Sync>(
     }
 }
 
-// Hands the disk back, before the sessions start.
-fn give_back<D: Disk>(durable: Durable<D>, end: EarlyEnd) -> Made<Recorded, D>
-    requires fresh { IsFresh durable }
-    ensures made { result.made ≡ Err end }
-    ensures stands { StandsForAdded (disk_told D.reads_as D.may_leave D.moment D.left_since D.faults durable.entry result.disk)
-        durable.text durable.opening [] None }
-{
-    let Finished {
-        disk,
-        core: _,
-        history: _,
-        after: _,
-    } = durable.finish();
-    Made {
-        made: Err(end),
-        disk,
-    }
-}
-
 // Puts the durable cell under a lock, and runs the sessions.
 fn share<R: Threads + Wait + Sync, D: Disk + Send, P: Pace + Sync>(
     rt: &R,
@@ -70,7 +52,7 @@ fn share<R: Threads + Wait + Sync, D: Disk + Send, P: Pace + Sync>(
     requires fresh { IsFresh durable }
     requires limit { durable.limit ≡ steps_of shift.now * shift.now.patience }
     requires shift { ShiftFits durable.cell shift.now }
-    requires started { AreStarted shift.now durable.opening }
+    requires started { AreFirstSteps shift.now durable.opening }
     requires begun { AreBegun shift.now durable.opening progress }
     ensures started { HasStarted (disk_told D.reads_as D.may_leave D.moment D.left_since D.faults durable.entry result.disk)
         durable.cell durable.text shift.now durable.opening result.made }
@@ -102,7 +84,7 @@ fn run_sessions<R: Threads + Wait + Sync, D: Disk + Send, P: Pace + Sync>(
     requires number { cell.opening.shift ≡ shift.now.number }
     requires shift { ShiftFits cell.opening.cell shift.now }
     requires passes { (passes ≡ new_passes D.moment cell 1 cell.opening.passes) × (cell.opening.passes ≡ length shift.now.scripts) }
-    requires started { AreStarted shift.now cell.opening.grants }
+    requires started { AreFirstSteps shift.now cell.opening.grants }
     requires begun { AreBegun shift.now cell.opening.grants progress.now }
     ensures opening { opening_of result cell.opening.shift cell.opening.passes ≡ cell.opening }
     ensures after { IsAfterSessions shift.now result }
@@ -122,7 +104,7 @@ fn run_sessions<R: Threads + Wait + Sync, D: Disk + Send, P: Pace + Sync>(
 fn finish<D: Disk>(durable: Durable<D>, shift: &Shift) -> Closed<D>
     requires after { IsAfterSessions shift.now durable }
     requires shift { ShiftFits durable.cell shift.now }
-    requires started { AreStarted shift.now durable.opening }
+    requires started { AreFirstSteps shift.now durable.opening }
     ensures run { IsShiftRun durable.cell shift.now durable.opening (recorded_outcome result.recorded) }
     ensures stands { let outcome = recorded_outcome result.recorded in
         StandsForAdded (disk_told D.reads_as D.may_leave D.moment D.left_since D.faults durable.entry result.disk)

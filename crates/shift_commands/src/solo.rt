@@ -3,16 +3,12 @@ ghost use Rattle.std.specs.Prelude.{◌≡◌, IfOk};
 ghost use Rattle.std.specs.List.{All};
 ghost use Rattle.cell_walks.specs.Clauses.{Ends, IsAllowed, IsDelivered, disk_told, files_told, no_disk, observed, sink_told};
 ghost use Rattle.cell_walks.specs.Outcomes.{done};
-ghost use Rattle.cell_texts.specs.Clauses.{CellFits};
-ghost use Rattle.shift_commands.specs.Clauses.{EntryFits, IsSoloRun, ShiftFits, lines_of_run, solo, solo_outcome};
+ghost use Rattle.shift_commands.specs.Clauses.{EntryFits, lines_of_run, solo, solo_outcome};
 
-use crate::counts::asks_of;
-use admission_core::Core;
-use cell_base::{Cell, Entry, NoMemory, Shelf, Shift};
-use cell_sessions::solo;
 use cell_texts::{CommandEnd, print_block, read_cell, read_shift};
 use cell_walks::{EarlyEnd, Status, finish_early};
 use outside_io::{Disk, Files, Sink};
+use solo_rounds::{SoloRun, run_rounds};
 use std::alloc::Global;
 
 /// Runs `solo CELL SHIFT`. All memory is taken before the first session asks.
@@ -32,14 +28,6 @@ pub fn run_solo<F: Files, K: Sink, D: Disk>(
     let made = solo_of_files(alloc, files, cell, shift);
     let status = print_made(out, made);
     CommandEnd { status, disk }
-}
-
-/// A shift that ran: the core after it, its number and its history.
-#[derive(Drop)]
-pub struct SoloRun {
-    pub core: Core,
-    pub number: u32,
-    pub history: Shelf<Entry>,
 }
 
 // The shift that ran, or the early end in its place.
@@ -63,23 +51,6 @@ fn solo_of_files<F: Files>(
         },
         Err(end) => Err(end),
     }
-}
-
-/// Runs a shift on the empty cell, its sessions in rounds. All memory is taken before the first one asks.
-pub fn run_rounds(alloc: Global, cell: Cell, shift: &Shift) -> Result<SoloRun, NoMemory>
-    requires cell { CellFits cell }
-    requires shift { ShiftFits cell shift.now }
-    ensures run { IfOk result (IsSoloRun cell shift.now) }
-    ensures fits { IfOk result (λ run. All (EntryFits run.core.cell) run.history.items) }
-{
-    let mut history = Shelf::with_room(alloc, asks_of(shift))?;
-    let mut core = Core::open(alloc, cell)?;
-    solo(&mut core, shift, &mut history);
-    Ok(SoloRun {
-        core,
-        number: shift.number,
-        history,
-    })
 }
 
 // Prints the record, or the early end, and answers the status.

@@ -9,7 +9,8 @@ use Rattle.toml_walk.specs.Outcomes.{with_fault, GivesOr}
 use Rattle.step_text.specs.declared.faults.StepFault.{StepFault}
 use Rattle.step_text.specs.declared.faults.StepFault.TheVariants as step
 use Rattle.shift_file.specs.declared.faults.ShiftFault.{ShiftFault}
-use Rattle.shift_file.specs.declared.faults.ShiftFault.TheVariants.{NotToml, WrongKey, WrongKind, BadStep, BadNumber, UnknownName, Empty, TooMany, Memory}
+use Rattle.shift_file.specs.declared.faults.ShiftFault.TheVariants.{NotToml, WrongKey, WrongKind, BadStep, BadNumber}
+use Rattle.shift_file.specs.declared.faults.ShiftFault.TheVariants.{UnknownName, Empty, TooMany, Memory}
 
 -- the fault of a look-up in the document
 abbrev pub shift_fault : DocumentFault → ShiftFault

@@ -15,7 +15,7 @@ use Rattle.shift_file.specs.Faults.{looked, of_session, in_session}
 use Rattle.shift_file.specs.Names.{named_at}
 use Rattle.shift_file.specs.Paths.{first_stage, lead_out, first_branches}
 
--- the branch behind these in session k
+-- the branch after these in session k
 abbrev pub next_branch : ℕ → List ℕ → Data → Result ℕ ShiftFault
 next_branch k earlier d = looked (number_of (in_session k Path (length earlier)) 0 (MAX_BRANCHES - 1) d)
 

@@ -20,7 +20,7 @@ step_at cell place d = do
   text ← looked (string_of place d)
   with_fault (step_fault place) (step_of cell text)
 
--- the step behind these in session k
+-- the step after these in session k
 abbrev pub next_step : Cell → ℕ → List Request → Data → Result Request ShiftFault
 next_step cell k earlier d = step_at cell (in_session k Steps (length earlier)) d
 

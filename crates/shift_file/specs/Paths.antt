@@ -9,13 +9,13 @@ abbrev pub first_stage : ℕ → Stage
 first_stage kind = stage kind 0
 
 -- the stage to which branches lead from a stage, where each of them is there
-abbrev pub stage_behind : Cell → Stage → List ℕ → Option Stage
-stage_behind cell s [] = Some s
-stage_behind cell s (branch ∷ branches) = option_and_then (λ t. stage_behind cell t branches) (successor cell s branch)
+abbrev pub stage_after : Cell → Stage → List ℕ → Option Stage
+stage_after cell s [] = Some s
+stage_after cell s (branch ∷ branches) = option_and_then (λ t. stage_after cell t branches) (successor cell s branch)
 
 -- each of them is there, and they lead to a last stage
 abbrev pub lead_out : Cell → Stage → List ℕ → Bool
-lead_out cell s branches = option_map_or (is_last cell) (stage_behind cell s branches) false
+lead_out cell s branches = option_map_or (is_last cell) (stage_after cell s branches) false
 
 -- branch 0 at each stage but the last of the path that goes on by branch 0
 abbrev pub first_branches : Cell → ℕ → List ℕ

@@ -1,6 +1,7 @@
 -- Texts that differ, and parts of them.
 use Rattle.std.specs.Prelude.{Some, None, Bool, false, if◌then◌else◌, ◌==◌}
-use Rattle.std.proofs.Common.{◌≡◌, ◌≢◌, ℕ, zero, suc, ◌+◌, ◌-◌, ◌≤◌, ◌<◌, List, [], ◌∷◌, ◌++◌, length, get_or, take, drop, refl, sym, ◌∙◌, ap, arith, length-take}
+use Rattle.std.proofs.Common.{◌≡◌, ◌≢◌, ℕ, zero, suc, ◌+◌, ◌-◌, ◌≤◌, ◌<◌, List, [], ◌∷◌, ◌++◌, length}
+use Rattle.std.proofs.Common.{get_or, take, drop, refl, sym, ◌∙◌, ap, arith, length-take}
 use Rattle.std.proofs.lemmas.List.{drop_more, drop_all, take_rest, take-append-le}
 use Rattle.shift_recovery.proofs.Windowed.{drop-drop_at}
 use Rattle.std.proofs.lemmas.Bool.Decides.{nat_tests}
@@ -85,7 +86,7 @@ module _ (file kept seen text : List ℕ) (size done at used ready len : ℕ)
         ∙ (λ i. first_difference (done + length-piece i) rest (drop (length-piece i) (take_rest text done i)))
         ∙ ap (λ (l : List ℕ). first_difference (done + ready) rest l) (drop-drop_at done ready text)
 
--- behind the stored text
+-- after the stored text
 pub text_longer : (size done : ℕ) (stored text : List ℕ) → done ≡ size → done < length text
     → first_difference done (take (size - done) stored) (drop done text) ≡ Some size
 text_longer size done stored text is longer =

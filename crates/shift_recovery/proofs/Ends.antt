@@ -2,7 +2,8 @@
 use Rattle.std.specs.Prelude.{Option, Some, None, Result, Ok, Err, Bool, true, false, not, nat_lt, if◌then◌else◌, ◌==◌}
 use Rattle.std.specs.Option.{option_map_or}
 use Rattle.std.specs.List.{AllByRecursion}
-use Rattle.std.proofs.Common.{◌≡◌, ◌≢◌, ◌⊎◌, inl, inr, ℕ, zero, suc, ◌+◌, ◌≤◌, List, [], ◌∷◌, ◌++◌, length, take, drop, refl, sym, ◌∙◌, ap, subst, arith, append_assoc, take-append-drop, length-append}
+use Rattle.std.proofs.Common.{◌≡◌, ◌≢◌, ◌⊎◌, inl, inr, ℕ, zero, suc, ◌+◌, ◌≤◌, List, [], ◌∷◌, ◌++◌, length, take, drop}
+use Rattle.std.proofs.Common.{refl, sym, ◌∙◌, ap, subst, arith, append_assoc, take-append-drop, length-append}
 use Rattle.std.proofs.lemmas.List.{take_at, drop_at}
 use Rattle.std.proofs.lemmas.Bool.Decides.{nat_tests}
 use Rattle.cell_base.specs.declared.shifts.Grant.{Grant}
@@ -12,17 +13,17 @@ use Rattle.entry_codec.specs.RecordLaws.{length-record_of, record_of-grant_of}
 use Rattle.move_journal.specs.Journals.{entries, IsRead}
 use Rattle.shift_recovery.specs.declared.faults.JournalFault.{JournalFault}
 use Rattle.shift_recovery.specs.declared.faults.JournalFault.TheVariants.{Damaged, Long}
-use Rattle.shift_recovery.specs.Readings.{gate_at, with_grant, behind_gate, grants_from}
+use Rattle.shift_recovery.specs.Readings.{gate_at, with_grant, after_gate, grants_from}
 use Rattle.shift_recovery.proofs.Windowed.{gate_open}
 use Rattle.shift_recovery.proofs.Stepping.{closed_ends, one_more}
 
--- open records of the grants, and behind them a closed gate
+-- open records of the grants, and after them a closed gate
 pub record Ends (bytes : List ℕ) (grants : List Grant) : Type 0 where
   pub each : AllByRecursion IsRead grants
   pub gate : ℕ
   pub closed : gate ≢ 1
-  pub behind : List ℕ
-  pub split : bytes ≡ entries grants ++ gate ∷ behind
+  pub later : List ℕ
+  pub split : bytes ≡ entries grants ++ gate ∷ later
 
 abbrev gate_by : (shut short : Bool) (at : ℕ) → Option Grant → Result (Option Grant) JournalFault
 gate_by shut short at found = if shut then Ok None else if short then Err (Damaged at) else option_map_or
@@ -52,7 +53,7 @@ unfolding gate_at
 closed_there at [] is = absurd (cc)
 closed_there at (gate ∷ behind) is =
     let shut = by_none (not (gate == 1)) (nat_lt (length behind) 17) at (grant_of (take 16 behind)) is in
-    record { each = tt; gate = gate; closed = is_shut gate shut; behind = behind; split = refl }
+    record { each = tt; gate = gate; closed = is_shut gate shut; later = behind; split = refl }
 
 open_there : (at : ℕ) (bytes : List ℕ) (grant : Grant) → gate_at at bytes ≡ Ok (Some grant)
     → (bytes ≡ (1 ∷ record_of grant) ++ drop 17 bytes) × IsRead grant
@@ -67,7 +68,7 @@ open_there at (gate ∷ behind) grant is =
     )
 
 walk_by : (found : Result (Option Grant) JournalFault) (rest : Result (List Grant) JournalFault) (grants : List Grant)
-    → behind_gate found rest ≡ Ok grants
+    → after_gate found rest ≡ Ok grants
     → ((found ≡ Ok None) × (grants ≡ []))
     ⊎ ((grant : Grant) × (others : List Grant) × (found ≡ Ok (Some grant)) × (rest ≡ Ok others) × (grants ≡ grant ∷ others))
 walk_by (Err why) rest grants is = absurd (cc)
@@ -83,9 +84,9 @@ joins at bytes grant others is ends =
       each = (there.1, ends.each);
       gate = ends.gate;
       closed = ends.closed;
-      behind = ends.behind;
+      later = ends.later;
       split = there.0 ∙ ap (λ (l : List ℕ). (1 ∷ record_of grant) ++ l) ends.split
-          ∙ sym (append_assoc (1 ∷ record_of grant) (entries others) (ends.gate ∷ ends.behind));
+          ∙ sym (append_assoc (1 ∷ record_of grant) (entries others) (ends.gate ∷ ends.later));
     }
 
 pub walk_back : (total room at : ℕ) (bytes : List ℕ) (grants : List Grant) → grants_from total room at bytes ≡ Ok grants → Ends bytes grants

@@ -1,6 +1,8 @@
--- What the head of a file and what stands behind it are read as.
-use Rattle.std.specs.Prelude.{Option, Some, None, Result, Err, Bool, true, false, not, nat_lt, slice_index, slice_range, if◌then◌else◌, ◌==◌, ◌||◌}
-use Rattle.std.proofs.Common.{◌≡◌, ◌≢◌, ◌⊎◌, inl, inr, ℕ, ◌+◌, ◌*◌, ◌≤◌, min, List, [], ◌∷◌, ◌++◌, length, take, drop, refl, sym, ◌∙◌, ap, subst, arith, length-take, length-drop}
+-- What the head of a file and what stands after it are read as.
+use Rattle.std.specs.Prelude.{Option, Some, None, Result, Err, Bool, true, false, not, nat_lt}
+use Rattle.std.specs.Prelude.{slice_index, slice_range, if◌then◌else◌, ◌==◌, ◌||◌}
+use Rattle.std.proofs.Common.{◌≡◌, ◌≢◌, ◌⊎◌, inl, inr, ℕ, ◌+◌, ◌*◌, ◌≤◌, min, List, [], ◌∷◌, ◌++◌, length}
+use Rattle.std.proofs.Common.{take, drop, refl, sym, ◌∙◌, ap, subst, arith, length-take, length-drop}
 use Rattle.std.proofs.lemmas.List.{append-nil, drop_all}
 use Rattle.std.proofs.lemmas.Bool.{cases_eq, cases_lt}
 use Rattle.std.proofs.lemmas.Bool.Decides.{nat_tests}
@@ -17,7 +19,7 @@ use Rattle.shift_recovery.specs.declared.faults.JournalFault.TheVariants.{OtherC
 use Rattle.shift_recovery.specs.declared.heads.Head.{Head}
 use Rattle.shift_recovery.specs.declared.heads.Head.TheVariants.{Blank, Open}
 use Rattle.shift_recovery.proofs.HeadTests.{head_by, blank_by, open_by, neither, both_true}
-use Rattle.shift_recovery.specs.Readings.{has_name, head_of, first_difference, grants_from, found, behind_head, from_head, read_as}
+use Rattle.shift_recovery.specs.Readings.{has_name, head_of, first_difference, grants_from, found, after_head, from_head, read_as}
 
 -- the head shows in the first thirteen bytes
 pub head_longer : (n : ℕ) (window more : List ℕ) → (13 ≤ length window) ⊎ (more ≡ []) → head_of n (window ++ more) ≡ head_of n window
@@ -94,12 +96,12 @@ by_difference file room size o =
     option_map_or (λ at. Err (OtherCell at)) o (found (grants_from room room (13 + size) (drop (13 + size) file)))
 
 pub other_text : (file text : List ℕ) (room size at : ℕ) → first_difference 0 (take size (drop 13 file)) text ≡ Some at
-    → behind_head file text room size ≡ Err (OtherCell at)
+    → after_head file text room size ≡ Err (OtherCell at)
 other_text file text room size at is = ap (by_difference file room size) is
 
 pub same_text_then : (file text : List ℕ) (room size : ℕ) (grants : Result (List Grant) JournalFault)
     → first_difference 0 (take size (drop 13 file)) text ≡ None
-    → grants_from room room (13 + size) (drop (13 + size) file) ≡ grants → behind_head file text room size ≡ found grants
+    → grants_from room room (13 + size) (drop (13 + size) file) ≡ grants → after_head file text room size ≡ found grants
 same_text_then file text room size grants none is = (λ i. option_map_or (λ at. Err (OtherCell at)) (none i) (found (is i)))
 
 pub no_difference : (at : ℕ) (xs ys : List ℕ) → first_difference at xs ys ≡ None → xs ≡ ys
@@ -117,9 +119,9 @@ no_difference at (x ∷ xs) (y ∷ ys) is = elim (cases_eq x y) [
     passed : (x y at : ℕ) (rest : Option ℕ) → x ≢ y → (if x == y then rest else Some at) ≡ None → ⊥
     passed x y at rest other is = grind (arith, nat_tests)
 
-pub gate_behind : (file text : List ℕ) (size gate : ℕ) (grants : List Grant) → 13 + size ≤ length file
+pub gate_after : (file text : List ℕ) (size gate : ℕ) (grants : List Grant) → 13 + size ≤ length file
     → first_difference 0 (take size (drop 13 file)) text ≡ None → gate ≡ 13 + size + 17 * length grants → gate ≡ gate_of text grants
-gate_behind file text size gate grants long none is =
+gate_after file text size gate grants long none is =
     omega (
       arith,
       is,

@@ -8,3 +8,4 @@ pub mod HeadReading
 pub mod Ends
 pub mod OpenHeads
 pub mod Standing
+pub mod Replaying

@@ -1,6 +1,7 @@
 -- The head of a journal.
 use Rattle.std.specs.Prelude.{false, not, nat_lt, slice_index, slice_range, ◌==◌, ◌||◌}
-use Rattle.std.proofs.Common.{◌≡◌, ℕ, zero, suc, ◌+◌, ◌^◌, ◌<◌, ◌≤◌, List, [], ◌∷◌, ◌++◌, length, get_or, take, drop, refl, sym, ◌∙◌, ap, arith, append_assoc, length-take, length-drop, take-append-drop, lit<}
+use Rattle.std.proofs.Common.{◌≡◌, ℕ, zero, suc, ◌+◌, ◌^◌, ◌<◌, ◌≤◌, List, [], ◌∷◌, ◌++◌, length, get_or, take, drop, refl}
+use Rattle.std.proofs.Common.{sym, ◌∙◌, ap, arith, append_assoc, length-take, length-drop, take-append-drop, lit<}
 use Rattle.std.specs.Int.{to_be_bytes, w32}
 use Rattle.std.proofs.lemmas.Nat.{be_bytes_4}
 use Rattle.std.proofs.lemmas.List.{take-append-le}
@@ -61,7 +62,7 @@ pub open_small : (len : ℕ) (bytes : List ℕ) (size : ℕ) → ((i : ℕ) → 
     → size < 2 ^ 32
 open_small len bytes size below is = omega (arith, (open_head len bytes size is).2, below 9, below 10, below 11, below 12)
 
--- an open head, the text behind it, and grants behind the text
+-- an open head, the text after it, and grants after the text
 pub journal_found : (file kept more text : List ℕ) (len size : ℕ) (grants : List Grant) → file ≡ kept ++ more → 13 ≤ length kept
     → ((i : ℕ) → slice_index kept i < 256) → head_of len kept ≡ Open size
     → 13 + size ≤ length file → take size (drop 13 file) ≡ text → Ends (drop (13 + size) file) grants → IsJournal file text grants
@@ -72,15 +73,15 @@ journal_found file kept more text len size grants split long below is fits text_
     let first : take 13 file ≡ (1 ∷ name) ++ to_be_bytes w32 (length text) =
     ap (λ (l : List ℕ). take 13 l) split ∙ take-append-le 13 kept more long
     ∙ head_bytes kept (length text) long tests.1 tests.0 below (tests.2 ∙ sym size_is) in
-    let rest : drop 13 file ≡ text ++ (entries grants ++ ends.gate ∷ ends.behind) =
+    let rest : drop 13 file ≡ text ++ (entries grants ++ ends.gate ∷ ends.later) =
     sym (take-append-drop size (drop 13 file)) ∙ (λ i. text_is i ++ (drop-drop_at 13 size file ∙ ends.split) i) in
     record {
       size = small;
       each = ends.each;
       gate = ends.gate;
       closed = ends.closed;
-      behind = ends.behind;
+      later = ends.later;
       split = sym (take-append-drop 13 file) ∙ (λ i. first i ++ rest i)
           ∙ ap (λ (l : List ℕ). (1 ∷ name ++ to_be_bytes w32 (length text)) ++ l)
-          (sym (append_assoc text (entries grants) (ends.gate ∷ ends.behind)));
+          (sym (append_assoc text (entries grants) (ends.gate ∷ ends.later)));
     }

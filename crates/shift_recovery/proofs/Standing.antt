@@ -1,6 +1,8 @@
 -- What stands for grants is found, where there is room.
-use Rattle.std.specs.Prelude.{Some, None, Ok, Bool, true, false, not, nat_lt, nat_le, nat_eq, slice_index, slice_range, if◌then◌else◌, ◌==◌, ◌&&◌, ◌||◌}
-use Rattle.std.proofs.Common.{◌≡◌, ◌≢◌, inl, inr, ℕ, suc, ◌+◌, ◌<◌, ◌≤◌, ◌^◌, List, [], ◌∷◌, ◌++◌, length, get_or, take, drop, refl, sym, ◌∙◌, ap, arith, append_assoc, length-append, length-take}
+use Rattle.std.specs.Prelude.{Some, None, Ok, Bool, true, false, not, nat_lt, nat_le, nat_eq}
+use Rattle.std.specs.Prelude.{slice_index, slice_range, if◌then◌else◌, ◌==◌, ◌&&◌, ◌||◌}
+use Rattle.std.proofs.Common.{◌≡◌, ◌≢◌, inl, inr, ℕ, suc, ◌+◌, ◌<◌, ◌≤◌, ◌^◌, List, [], ◌∷◌, ◌++◌, length, get_or}
+use Rattle.std.proofs.Common.{take, drop, refl, sym, ◌∙◌, ap, arith, append_assoc, length-append, length-take}
 use Rattle.std.specs.Int.{to_be_bytes, w32}
 use Rattle.std.proofs.lemmas.Nat.{from_be_bytes-to_be_bytes_4}
 use Rattle.std.proofs.lemmas.List.{take_at, drop_at}
@@ -110,21 +112,21 @@ stands_found file text room grants (inl blank) = λ fits.
     let head = blank_head file blank.0.0 blank.0.1 in
     inl (reads_by_head file text room (Blank head.0) head.1, blank.1)
 stands_found file text room grants (inr journal) = λ fits.
-    let rest : List ℕ = text ++ (entries grants ++ journal.gate ∷ journal.behind) in
+    let rest : List ℕ = text ++ (entries grants ++ journal.gate ∷ journal.later) in
     let whole : file ≡ 1 ∷ name ++ to_be_bytes w32 (length text) ++ rest =
     journal.split ∙ ap (λ (l : List ℕ). 1 ∷ name ++ to_be_bytes w32 (length text) ++ l)
-    (append_assoc text (entries grants) (journal.gate ∷ journal.behind)) in
+    (append_assoc text (entries grants) (journal.gate ∷ journal.later)) in
     let long : 13 + length text ≤ length file =
-    omega (arith, ap length whole, length-append text (entries grants ++ journal.gate ∷ journal.behind)) in
+    omega (arith, ap length whole, length-append text (entries grants ++ journal.gate ∷ journal.later)) in
     let head : head_of (length file) file ≡ Open (length text) = ap (head_of (length file)) whole
     ∙ journal_head text rest (length file) journal.size long in
     let behind : drop 13 file ≡ rest = ap (λ (l : List ℕ). drop 13 l) whole in
     let stored : take (length text) (drop 13 file) ≡ text = ap (λ (l : List ℕ). take (length text) l) behind
-    ∙ take_at text (entries grants ++ journal.gate ∷ journal.behind) (length text) refl in
-    let gates : drop (13 + length text) file ≡ entries grants ++ journal.gate ∷ journal.behind =
+    ∙ take_at text (entries grants ++ journal.gate ∷ journal.later) (length text) refl in
+    let gates : drop (13 + length text) file ≡ entries grants ++ journal.gate ∷ journal.later =
     sym (drop-drop_at 13 (length text) file) ∙ ap (λ (l : List ℕ). drop (length text) l) behind
-    ∙ drop_at text (entries grants ++ journal.gate ∷ journal.behind) (length text) refl in
+    ∙ drop_at text (entries grants ++ journal.gate ∷ journal.later) (length text) refl in
     inr (reads_by_head file text room (Open (length text)) head
     ∙ same_text_then file text room (length text) (Ok grants) (ap (λ (l : List ℕ). first_difference 0 l text) stored ∙ same_first 0 text)
     (ap (grants_from room room (13 + length text)) gates
-    ∙ walk_there room room (13 + length text) grants journal.gate journal.behind journal.each journal.closed fits))
+    ∙ walk_there room room (13 + length text) grants journal.gate journal.later journal.each journal.closed fits))

@@ -1,30 +1,31 @@
 -- One gate more of a walk.
 use Rattle.std.specs.Prelude.{Option, Some, None, Result, Ok, Err, IsTrue, eqb}
-use Rattle.std.proofs.Common.{◌≡◌, ◌≢◌, ℕ, zero, suc, ◌+◌, ◌-◌, ◌≤◌, List, [], ◌∷◌, ◌++◌, length, take, drop, refl, sym, ◌∙◌, ap, arith, append_assoc}
+use Rattle.std.proofs.Common.{◌≡◌, ◌≢◌, ℕ, zero, suc, ◌+◌, ◌-◌, ◌≤◌, List, [], ◌∷◌, ◌++◌}
+use Rattle.std.proofs.Common.{length, take, drop, refl, sym, ◌∙◌, ap, arith, append_assoc}
 use Rattle.std.proofs.lemmas.List.{append-nil, take_rest, drop_all, drop-append-le, length_push}
 use Rattle.std.proofs.lemmas.Bool.Decides.{nat_tests}
 use Rattle.shift_recovery.proofs.Windowed.{drop-drop_at}
 use Rattle.cell_base.specs.declared.shifts.Grant.{Grant}
 use Rattle.shift_recovery.specs.declared.faults.JournalFault.{JournalFault}
 use Rattle.shift_recovery.specs.declared.faults.JournalFault.TheVariants.{Long}
-use Rattle.shift_recovery.specs.Readings.{gate_at, with_grant, behind_gate, grants_from}
+use Rattle.shift_recovery.specs.Readings.{gate_at, with_grant, after_gate, grants_from}
 use Rattle.shift_recovery.specs.Walked.{with_grants}
 
 pub closed_ends : (total room at : ℕ) (bytes : List ℕ) → gate_at at bytes ≡ Ok None → grants_from total room at bytes ≡ Ok []
 unfolding grants_from
-closed_ends total zero at bytes is = ap (λ r. behind_gate r (Err (Long (total + 1)))) is
-closed_ends total (suc room) at bytes is = ap (λ r. behind_gate r (grants_from total room (at + 17) (drop 17 bytes))) is
+closed_ends total zero at bytes is = ap (λ r. after_gate r (Err (Long (total + 1)))) is
+closed_ends total (suc room) at bytes is = ap (λ r. after_gate r (grants_from total room (at + 17) (drop 17 bytes))) is
 
 pub fault_ends : (total room at : ℕ) (bytes : List ℕ) (why : JournalFault) → gate_at at bytes ≡ Err why
     → grants_from total room at bytes ≡ Err why
 unfolding grants_from
-fault_ends total zero at bytes why is = ap (λ r. behind_gate r (Err (Long (total + 1)))) is
-fault_ends total (suc room) at bytes why is = ap (λ r. behind_gate r (grants_from total room (at + 17) (drop 17 bytes))) is
+fault_ends total zero at bytes why is = ap (λ r. after_gate r (Err (Long (total + 1)))) is
+fault_ends total (suc room) at bytes why is = ap (λ r. after_gate r (grants_from total room (at + 17) (drop 17 bytes))) is
 
 pub too_long : (total room at : ℕ) (bytes : List ℕ) (grant : Grant) → room ≡ 0 → gate_at at bytes ≡ Ok (Some grant)
     → grants_from total room at bytes ≡ Err (Long (total + 1))
 unfolding grants_from
-too_long total zero at bytes grant none is = ap (λ r. behind_gate r (Err (Long (total + 1)))) is
+too_long total zero at bytes grant none is = ap (λ r. after_gate r (Err (Long (total + 1)))) is
 too_long total (suc room) at bytes grant none is = absurd (omega arith)
 
 pub one_more : (total room left at : ℕ) (bytes : List ℕ) (grant : Grant) → room ≡ left + 1 → gate_at at bytes ≡ Ok (Some grant)
@@ -33,7 +34,7 @@ unfolding grants_from
 one_more total zero left at bytes grant more is = absurd (omega arith)
 one_more total (suc room) left at bytes grant more is =
     let same : room ≡ left = omega arith in
-    ap (λ r. behind_gate r (grants_from total room (at + 17) (drop 17 bytes))) is
+    ap (λ r. after_gate r (grants_from total room (at + 17) (drop 17 bytes))) is
     ∙ ap (λ (k : ℕ). with_grant grant (grants_from total k (at + 17) (drop 17 bytes))) same
 
 abbrev ok : List Grant → Result (List Grant) JournalFault

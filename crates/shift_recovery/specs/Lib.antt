@@ -4,3 +4,4 @@ pub mod Reads
 pub mod Windows
 pub mod Walked
 pub mod Opening
+pub mod Replayed

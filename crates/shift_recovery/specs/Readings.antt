@@ -1,5 +1,6 @@
 -- What the bytes of a disk are read as.
-use Rattle.std.specs.Prelude.{ℕ, zero, suc, ◌+◌, ◌==◌, Bool, not, ◌&&◌, ◌||◌, if◌then◌else◌, nat_eq, nat_lt, nat_le, Option, Some, None, Result, Ok, Err, List, [], ◌∷◌, length, take, drop, slice_index, slice_range}
+use Rattle.std.specs.Prelude.{ℕ, zero, suc, ◌+◌, ◌==◌, Bool, not, ◌&&◌, ◌||◌, if◌then◌else◌, nat_eq, nat_lt, nat_le, Option}
+use Rattle.std.specs.Prelude.{Some, None, Result, Ok, Err, List, [], ◌∷◌, length, take, drop, slice_index, slice_range}
 use Rattle.std.specs.Option.{option_map_or}
 use lib.Pointwise.{pointwise}
 use Rattle.cell_base.specs.declared.shifts.Grant.{Grant}
@@ -11,7 +12,7 @@ use Rattle.shift_recovery.specs.declared.faults.JournalFault.TheVariants.{NotAJo
 use Rattle.shift_recovery.specs.declared.heads.Head.{Head}
 use Rattle.shift_recovery.specs.declared.heads.Head.TheVariants.{Blank, Faulty, Open}
 
--- the name stands behind the file's gate
+-- the name stands after the file's gate
 abbrev pub has_name : ℕ → List ℕ → Bool
 has_name len bytes = nat_le 9 len && pointwise nat_eq (slice_range bytes 1 9) name
 
@@ -32,29 +33,29 @@ first_difference at [] (y ∷ ys) = Some at
 first_difference at (x ∷ xs) [] = Some at
 first_difference at (x ∷ xs) (y ∷ ys) = if x == y then first_difference (at + 1) xs ys else Some at
 
--- What begins with the gate at an offset: nothing behind a closed gate, or a grant.
+-- What begins with the gate at an offset: nothing after a closed gate, or a grant.
 unfoldable pub gate_at : ℕ → List ℕ → Result (Option Grant) JournalFault
 gate_at at [] = Err (Damaged at)
-gate_at at (gate ∷ behind) =
+gate_at at (gate ∷ rest) =
     if not (gate == 1) then Ok None
-    else if nat_lt (length behind) 17 then Err (Damaged at)
-    else option_map_or (λ grant. Ok (Some grant)) (grant_of (take 16 behind)) (Err (Damaged at))
+    else if nat_lt (length rest) 17 then Err (Damaged at)
+    else option_map_or (λ grant. Ok (Some grant)) (grant_of (take 16 rest)) (Err (Damaged at))
 
--- a grant and those behind it
+-- a grant and those after it
 abbrev pub with_grant : Grant → Result (List Grant) JournalFault → Result (List Grant) JournalFault
 with_grant grant (Ok grants) = Ok (grant ∷ grants)
 with_grant grant (Err why) = Err why
 
--- what is found at a gate, and behind it
-abbrev pub behind_gate : Result (Option Grant) JournalFault → Result (List Grant) JournalFault → Result (List Grant) JournalFault
-behind_gate (Err why) rest = Err why
-behind_gate (Ok None) rest = Ok []
-behind_gate (Ok (Some grant)) rest = with_grant grant rest
+-- what is found at a gate, and after it
+abbrev pub after_gate : Result (Option Grant) JournalFault → Result (List Grant) JournalFault → Result (List Grant) JournalFault
+after_gate (Err why) rest = Err why
+after_gate (Ok None) rest = Ok []
+after_gate (Ok (Some grant)) rest = with_grant grant rest
 
 -- The grants from the gate at an offset on, up to the first closed gate, where there is room for so many of `total`.
 unfoldable pub grants_from : ℕ → ℕ → ℕ → List ℕ → Result (List Grant) JournalFault
-grants_from total zero at bytes = behind_gate (gate_at at bytes) (Err (Long (total + 1)))
-grants_from total (suc room) at bytes = behind_gate (gate_at at bytes) (grants_from total room (at + 17) (drop 17 bytes))
+grants_from total zero at bytes = after_gate (gate_at at bytes) (Err (Long (total + 1)))
+grants_from total (suc room) at bytes = after_gate (gate_at at bytes) (grants_from total room (at + 17) (drop 17 bytes))
 
 -- a blank file has no list of grants
 abbrev pub found : Result (List Grant) JournalFault → Result (Option (List Grant)) JournalFault
@@ -62,15 +63,15 @@ found (Ok grants) = Ok (Some grants)
 found (Err why) = Err why
 
 -- the text of so many bytes is this one, and then come grants
-abbrev pub behind_head : List ℕ → List ℕ → ℕ → ℕ → Result (Option (List Grant)) JournalFault
-behind_head bytes text room size =
+abbrev pub after_head : List ℕ → List ℕ → ℕ → ℕ → Result (Option (List Grant)) JournalFault
+after_head bytes text room size =
     option_map_or (λ at. Err (OtherCell at)) (first_difference 0 (take size (drop 13 bytes)) text)
     (found (grants_from room room (13 + size) (drop (13 + size) bytes)))
 
 abbrev pub from_head : List ℕ → List ℕ → ℕ → Head → Result (Option (List Grant)) JournalFault
 from_head bytes text room (Blank form) = Ok None
 from_head bytes text room (Faulty why) = Err why
-from_head bytes text room (Open size) = behind_head bytes text room size
+from_head bytes text room (Open size) = after_head bytes text room size
 
 -- The bytes of a disk, read with this cell text and with room for so many grants: blank, a list of grants, or a fault.
 unfoldable pub read_as : List ℕ → List ℕ → ℕ → Result (Option (List Grant)) JournalFault

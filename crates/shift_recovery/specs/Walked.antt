@@ -6,7 +6,7 @@ use Rattle.shift_recovery.specs.declared.walks.Walked.{Walked}
 use Rattle.shift_recovery.specs.declared.walks.Walked.TheVariants.{Closed, Faulty}
 use Rattle.shift_recovery.specs.Readings.{grants_from}
 
--- grants, and those behind them
+-- grants, and those after them
 abbrev pub with_grants : List Grant → Result (List Grant) JournalFault → Result (List Grant) JournalFault
 with_grants front (Ok grants) = Ok (front ++ grants)
 with_grants front (Err why) = Err why

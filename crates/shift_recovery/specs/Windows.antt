@@ -14,7 +14,7 @@ pub record IsAt (offset len at used : ℕ) (kept : List ℕ) : Type 0 where
 abbrev pub Shows : Option (List ℕ) → ℕ → ℕ → ℕ → ℕ → List ℕ → Type 0
 Shows told offset len at used kept = IfSome told (λ file. (length file ≡ len) × (drop offset file ≡ drop used kept ++ drop at file))
 
--- the first difference of the stored text, or a window behind it
+-- the first difference of the stored text, or a window after it
 abbrev pub IsTextEnd : {D : Type 0} → (D → Option (List ℕ)) → D → ℕ → ℕ → List ℕ → Compared → Type 0
 IsTextEnd reads_as disk len size text (Differs at) =
     IfSome (reads_as disk) (λ file. first_difference 0 (take size (drop 13 file)) text ≡ Some at)

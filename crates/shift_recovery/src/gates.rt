@@ -1,4 +1,4 @@
-//! A gate and the record behind it. `move_journal::entry_write` has the table of their bytes.
+//! A gate and the record after it. `move_journal::entry_write` has the table of their bytes.
 ghost use Rattle.std.specs.Prelude.{◌≡◌, ◌<◌, ◌≤◌, ℕ, List, [], ◌++◌, length, false, IsTrue, Some, Ok, IfSome, IfNone};
 ghost use Rattle.cell_base.specs.declared.shifts.Grant.{Grant};
 ghost use Rattle.shift_recovery.specs.Readings as spec;
@@ -23,18 +23,18 @@ pub(crate) fn gate_in(
     match window {
         [] if is_last => Some(Err(JournalFault::Damaged { at })),
         [] => None,
-        [gate, behind @ ..] => {
+        [gate, rest @ ..] => {
             if *gate != 1 {
                 return Some(Ok(None));
             }
-            if behind.len() < 17 {
+            if rest.len() < 17 {
                 return if is_last {
                     Some(Err(JournalFault::Damaged { at }))
                 } else {
                     None
                 };
             }
-            match behind.first_chunk::<16>() {
+            match rest.first_chunk::<16>() {
                 Some(bytes) => match decode(bytes) {
                     Some(grant) => Some(Ok(Some(grant))),
                     None => Some(Err(JournalFault::Damaged { at })),

@@ -18,7 +18,7 @@ pub(crate) enum Head {
 /// The head of a file of `len` bytes, which begins with these.
 #[tactic(auto, unfolding(crate::specs::Readings::head_of))]
 pub(crate) fn read_head(start: &[u8], len: u64) -> Head
-    requires { min 13 len ≤ length start.now }
+    requires { min TEXT_AT len ≤ length start.now }
     ensures head { result ≡ head_of len start.now }
     ensures in_range { (i : ℕ) → slice_index start.now i < 256 }
 {

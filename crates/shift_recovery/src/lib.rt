@@ -3,7 +3,7 @@
 //! ```text
 //! match recover(alloc, disk, cell_text, room) {
 //!     Opened::Fresh(blank) => ..,                   // no journal: `blank.clear()`, and then `create`
-//!     Opened::Found { journal, grants } => ..,      // `journal.append(..)` goes on behind the grants
+//!     Opened::Found { journal, grants } => ..,      // `journal.append(..)` goes on after the grants
 //!     Opened::Refused { disk, why } => ..,          // another file, another cell, damage, or too many grants
 //!     Opened::Device { disk } => ..,
 //!     Opened::Memory { disk } => ..,

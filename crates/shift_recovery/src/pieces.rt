@@ -12,7 +12,7 @@ use std::alloc::Global;
 /// The most bytes that one call reads.
 pub(crate) const PIECE: u64 = 4_096;
 
-/// The kept bytes and behind them the next piece of a file of `len` bytes, of which those before `at` have been read.
+/// The kept bytes and after them the next piece of a file of `len` bytes, of which those before `at` have been read.
 pub(crate) fn with_piece<D: Disk>(
     alloc: Global,
     disk: &mut D,

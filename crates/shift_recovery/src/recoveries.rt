@@ -1,9 +1,8 @@
 //! The recovery of what stands on a disk.
-ghost use Rattle.std.specs.Prelude.{◌≡◌, ℕ, List as Sequence, length, IfOk, IfSome, OnOk, IsErrOf};
+ghost use Rattle.std.specs.Prelude.{◌≡◌, ℕ, List as Sequence, IfOk, IfSome, OnOk, IsErrOf};
 ghost use Rattle.outside_io.specs.Causes.{Rose};
-ghost use Rattle.outside_io.specs.Disk.{Only, LeavesOnly};
+ghost use Rattle.outside_io.specs.Disk.{Only};
 ghost use Rattle.cell_base.specs.declared.shifts.Grant.{Grant};
-ghost use Rattle.move_journal.specs.Disks.{Rests};
 ghost use Rattle.move_journal.specs.Journals.{StandsFor};
 ghost use Rattle.shift_recovery.specs.Reads.{OnlyReads};
 ghost use Rattle.shift_recovery.specs.Readings.{read_as};

@@ -53,8 +53,8 @@ pub(crate) fn compare<D: Disk>(
     size: u64,
     text: &[u8],
 ) -> Result<Compared, Stop>
-    requires within { 13 + size ≤ len }
-    requires read { (length kept.items ≤ len) × (13 ≤ length kept.items) }
+    requires within { TEXT_AT + size ≤ len }
+    requires read { (length kept.items ≤ len) × (TEXT_AT ≤ length kept.items) }
     requires bytes { ForSome (D.reads_as disk.old)
         (λ file. (length file ≡ len) × (file ≡ kept.items ++ drop (length kept.items) file)) }
     ensures reads { OnlyReads D.reads_as D.may_leave D.moment D.left_since disk.old disk.new }

@@ -1,5 +1,5 @@
 //! The walk over the gates of a file, with a part of a record kept from one piece to the next.
-ghost use Rattle.std.specs.Prelude.{◌≡◌, ◌+◌, ◌≤◌, length, IfOk, OnOk, IsErrOf};
+ghost use Rattle.std.specs.Prelude.{◌≡◌, ◌+◌, IfOk, OnOk, IsErrOf};
 ghost use Rattle.outside_io.specs.Causes.{Rose};
 ghost use Rattle.shift_recovery.specs.Reads.{OnlyReads};
 ghost use Rattle.shift_recovery.specs.Windows.{IsAt, Shows};

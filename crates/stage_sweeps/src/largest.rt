@@ -40,18 +40,18 @@ fn job_type(alloc: Global, name: Name, kind: u64) -> Result<JobType, NoMemory>
             on: ResId(((kind + place) % MAX_RESOURCES) as u16),
             works: true,
         })?;
-        next.try_push(places_behind(alloc, place)?)?;
+        next.try_push(places_after(alloc, place)?)?;
     }
     Ok(JobType { name, route, next })
 }
 
-// The places behind a place, up to the most that a stage may have.
-fn places_behind(alloc: Global, place: u64) -> Result<List<u16>, NoMemory>
+// The places after a place, up to the most that a stage may have.
+fn places_after(alloc: Global, place: u64) -> Result<List<u16>, NoMemory>
     requires { place < MAX_PLACES }
 {
     let mut places = List::new(alloc);
-    for behind in place + 1..(place + 1 + MAX_BRANCHES).min(MAX_PLACES) {
-        places.try_push(behind as u16)?;
+    for later in place + 1..(place + 1 + MAX_BRANCHES).min(MAX_PLACES) {
+        places.try_push(later as u16)?;
     }
     Ok(places)
 }

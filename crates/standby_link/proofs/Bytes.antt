@@ -33,7 +33,7 @@ small bytes each zero k i = omega arith
 small bytes each (suc n) k zero = each k
 small bytes each (suc n) k (suc i) = small bytes each n (suc k) i
 
--- bytes are those of their index, and what stands behind it
+-- bytes are those of their index, and what stands after it
 pub index-bytes : (bytes : List ℕ) → length bytes ≡ 24 → ((k : ℕ) → get_or bytes k 0 < 256)
     → bytes ≡ to_be_bytes w64 (index_in bytes) ++ drop 8 bytes
 index-bytes bytes all each =

@@ -19,7 +19,7 @@ use Rattle.standby_link.specs.Following.{World, Event, grows, sends, delivers, h
 use mathlib.Core.List.{IsPrefix}
 use Rattle.standby_link.specs.Following.{after_event, ArePossible, after_events, IsStart, FollowingLaw}
 
-both : (a b : Bool) → (a && b) ≡ true → (a ≡ true) × (b ≡ true)
+pub both : (a b : Bool) → (a && b) ≡ true → (a ≡ true) × (b ≡ true)
 both true b is = (refl, is)
 both false b is = absurd (let h : false ≡ true = is in cc)
 
@@ -32,7 +32,7 @@ grown-get [] i ys x is = absurd (let h : None ≡ Some x = is in cc)
 grown-get (first ∷ xs) zero ys x is = is
 grown-get (first ∷ xs) (suc i) ys x is = grown-get xs i ys x is
 
--- what stands behind a list is the first of the rest
+-- what stands after a list is the first of the rest
 behind-get : {X : Type 0} (xs rest : List X) → slice_get (xs ++ rest) (length xs) ≡ slice_get rest 0
 behind-get [] rest = refl
 behind-get (x ∷ xs) rest = behind-get xs rest
@@ -45,10 +45,10 @@ grown-frame grants more i frame is = by_grant (slice_get grants i) refl is
     by_grant None here none = absurd (let h : None ≡ Some frame = none in cc)
     by_grant (Some grant) here some = ap (option_map (framed i)) (grown-get grants i more grant here) ∙ some
 
--- a standby's grants stay first ones of the first controller's
-received_behind : (some all : List Grant) (frame : Frame) → IsPrefix some all → frame_at all frame.index ≡ Some frame
+-- a standby's grants stay a prefix of the first controller's
+pub received_after : (some all : List Grant) (frame : Frame) → IsPrefix some all → frame_at all frame.index ≡ Some frame
     → IsPrefix (received some frame) all
-received_behind some all frame prefix is = by_index (frame.index == length some) refl
+received_after some all frame prefix is = by_index (frame.index == length some) refl
   where
     first : (rest : List Grant) → all ≡ some ++ rest → option_map (framed frame.index) (slice_get rest 0) ≡ Some frame
         → IsPrefix (some ++ frame.grant ∷ []) all
@@ -79,7 +79,7 @@ received_more some frame =
 
 module _ (cell : Cell) where
   -- requests that are granted in turn, in two parts
-  granted-append : (parts : List Part) (xs ys : List Request)
+  pub granted-append : (parts : List Part) (xs ys : List Request)
       → all_granted cell parts (xs ++ ys) ≡ (all_granted cell parts xs && all_granted cell (after_requests cell parts xs) ys)
   granted-append parts [] ys = refl
   granted-append parts (x ∷ xs) ys =
@@ -90,14 +90,14 @@ module _ (cell : Cell) where
       and-assoc true b c = refl
       and-assoc false b c = refl
 
-  -- the first ones of grants that are granted in their turns are granted in their turns
-  prefix_granted : (some all : List Grant) → IsPrefix some all → is_replay cell all ≡ true → is_replay cell some ≡ true
+  -- a prefix of grants that are granted in their turns is granted in its turns
+  pub prefix_granted : (some all : List Grant) → IsPrefix some all → is_replay cell all ≡ true → is_replay cell some ≡ true
   prefix_granted some all prefix granted =
       let parted : requests_of all ≡ requests_of some ++ requests_of prefix.0 =
       ap requests_of (sym prefix.1) ∙ map-append (λ (g : Grant). g.request) some prefix.0 in
       (both _ _ (sym (granted-append [] (requests_of some) (requests_of prefix.0)) ∙ ap (all_granted cell []) (sym parted) ∙ granted)).0
 
-  -- one more that is granted behind them
+  -- one more that is granted after them
   one_granted : (grants : List Grant) (grant : Grant) → is_replay cell grants ≡ true
       → reply_to cell (replay cell grants) grant.request ≡ Granted → is_replay cell (grants ++ grant ∷ []) ≡ true
   one_granted grants grant granted next =
@@ -120,7 +120,7 @@ module _ (cell : Cell) where
       let more = received_more world.standby frame in
       record {
         granted = keeps.granted;
-        behind = received_behind world.standby world.first frame keeps.behind
+        behind = received_after world.standby world.first frame keeps.behind
             (All-contains (λ (f : Frame). frame_at world.first f.index ≡ Some f) world.sent frame keeps.sent sent);
         sent = keeps.sent;
         answered = λ k d within. let few = keeps.answered k d within in omega (arith, few, more);

@@ -1,3 +1,7 @@
 -- The lemmas, by what they are about.
+pub mod Fed
 pub mod Following
 pub mod Bytes
+pub mod Histories
+pub mod Keeping
+pub mod Taking

@@ -26,11 +26,11 @@ pub data Event : Type 0 where
   hears : ℕ → Event
   stops : Frame → Bool → Event
 
--- what a standby has behind a frame: the grant that is next is appended, every other one leaves its grants
+-- what a standby has after a frame: the grant that is next is appended, every other one leaves its grants
 abbrev pub received : List Grant → Frame → List Grant
 received grants frame = if frame.index == length grants then grants ++ frame.grant ∷ [] else grants
 
--- a grant is granted behind those before it; a frame is one of the first controller's; what comes was sent, and what is heard was answered
+-- a grant is granted after those before it; a frame is one of the first controller's; what comes was sent, and what is heard was answered
 abbrev pub IsPossible : Cell → World → Event → Type 0
 IsPossible cell world (grows grant) = reply_to cell (replay cell world.first) grant.request ≡ Granted
 IsPossible cell world (sends frame) = frame_at world.first frame.index ≡ Some frame
@@ -38,7 +38,7 @@ IsPossible cell world (delivers frame) = Contains world.sent frame
 IsPossible cell world (hears answer) = Contains world.answers answer
 IsPossible cell world (stops frame kept) = Contains world.sent frame
 
--- The world behind an event. A standby that is stopped in a delivery comes up with its grants as before or as behind it, and has answered
+-- The world after an event. A standby that is stopped in a delivery comes up with its grants as before or as after it, and has answered
 -- nothing.
 abbrev pub after_event : World → Event → World
 after_event world (grows grant) = record world { first = world.first ++ grant ∷ [] }
@@ -53,12 +53,12 @@ abbrev pub ArePossible : Cell → World → List Event → Type 0
 ArePossible cell world [] = ⊤
 ArePossible cell world (event ∷ events) = IsPossible cell world event × ArePossible cell (after_event world event) events
 
--- the world behind events
+-- the world after events
 abbrev pub after_events : World → List Event → World
 after_events world [] = world
 after_events world (event ∷ events) = after_events (after_event world event) events
 
--- at the start the standby has first grants of the first controller's, and nothing was sent or heard
+-- at the start the standby has a prefix of the first controller's grants, and nothing was sent or heard
 pub record IsStart (cell : Cell) (world : World) : Type 0 where
   pub granted : is_replay cell world.first ≡ true
   pub behind : IsPrefix world.standby world.first
@@ -66,7 +66,7 @@ pub record IsStart (cell : Cell) (world : World) : Type 0 where
   pub nothing_answered : world.answers ≡ []
   pub nothing_known : world.known ≡ 0
 
--- the standby has first grants of the first controller's, each granted in its turn, and as many at least as are known
+-- the standby has a prefix of the first controller's grants, each granted in its turn, and as many at least as are known
 pub record IsFollowed (cell : Cell) (world : World) : Type 0 where
   pub behind : IsPrefix world.standby world.first
   pub granted : is_replay cell world.standby ≡ true

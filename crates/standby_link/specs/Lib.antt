@@ -1,3 +1,6 @@
 -- What the contracts cite.
-pub mod Frames
+pub mod Deliveries
+pub mod Fed
+pub mod Followers
 pub mod Following
+pub mod Frames

@@ -1,5 +1,7 @@
 -- The reading of a start file is exact.
-use Rattle.std.proofs.Common.{◌≡◌, ◌⊎◌, inl, inr, ℕ, ◌+◌, ◌<◌, ◌≤◌, Bool, true, false, cond, ◌==◌, nat_lt, List, [], ◌∷◌, ◌++◌, length, Option, Some, None, Result, Ok, Err, IfOk, IfErr, refl, sym, ap, ◌∙◌, subst, arith, eqb-true, ne_eqb, ltb-true, append_assoc, append-nil}
+use Rattle.std.proofs.Common.{◌≡◌, ◌⊎◌, inl, inr, ℕ, ◌+◌, ◌<◌, ◌≤◌, Bool, true, false, cond, ◌==◌, nat_lt, List}
+use Rattle.std.proofs.Common.{[], ◌∷◌, ◌++◌, length, Option, Some, None, Result, Ok, Err, IfOk, IfErr, refl, sym}
+use Rattle.std.proofs.Common.{ap, ◌∙◌, subst, arith, eqb-true, ne_eqb, ltb-true, append_assoc, append-nil}
 use Rattle.std.specs.List.{All, join_with_byte}
 use Rattle.std.specs.Option.{option_map_or}
 use Rattle.std.proofs.lemmas.Bool.{true≢false}
@@ -15,6 +17,7 @@ use Rattle.step_text.specs.Steps.{request_words}
 use Rattle.record_text.specs.BadLines.{is_newline, pieces}
 use Rattle.record_text.specs.declared.record.RecordFault.{RecordFault}
 use Rattle.record_text.specs.declared.record.RecordFault.TheVariants.{Bad, Memory}
+use Rattle.record_text.proofs.Ending.{same_Ok, same_Err}
 use Rattle.record_text.proofs.Pieces.{pieces_lines, pieces_some}
 use Rattle.record_text.proofs.Splitting.{IsLine, joined-pieces, joined-words}
 use Rattle.start_file.specs.declared.reading.TheConstants.{MAX_START_BYTES, MAX_START_LINES}
@@ -22,12 +25,6 @@ use Rattle.start_file.specs.Reading.{Gives, next_of, placing_of, read_from}
 use Rattle.start_file.specs.StartFiles.{IsBadLine, IsPlacing, IsStartOf, RefusedAt, place_line, start_reads, start_text}
 use Rattle.start_file.proofs.Lines.{first_piece, next_is, read_all, read_cons}
 use Rattle.start_file.proofs.Placing.{placing-sound}
-
-same_Ok : {A E : Type 0} (x y : A) → ◌≡◌ {A = Result A E} (Ok x) (Ok y) → x ≡ y
-same_Ok x y is = cc
-
-same_Err : {A E : Type 0} (x y : E) → ◌≡◌ {A = Result A E} (Err x) (Err y) → x ≡ y
-same_Err x y is = cc
 
 same_rest : (line : List ℕ) (one other : List (List ℕ)) → line ∷ one ≡ line ∷ other → one ≡ other
 same_rest line one other is = cc

@@ -1,5 +1,6 @@
 -- The lines of a start file, read one after the other.
-use Rattle.std.proofs.Common.{◌≡◌, ℕ, ◌+◌, ◌<◌, ◌≤◌, List, [], ◌∷◌, ◌++◌, length, Option, Some, Err, sym, ap, ◌∙◌, subst, arith, lt-ltb, append_assoc, append-nil}
+use Rattle.std.proofs.Common.{◌≡◌, ℕ, ◌+◌, ◌<◌, ◌≤◌, List, [], ◌∷◌, ◌++◌, length, Option, Some}
+use Rattle.std.proofs.Common.{Err, sym, ap, ◌∙◌, subst, arith, lt-ltb, append_assoc, append-nil}
 use Rattle.std.specs.List.{All}
 use Rattle.std.specs.Option.{option_map_or}
 use Rattle.std.proofs.lemmas.List.{length-append}
@@ -18,7 +19,7 @@ use Rattle.start_file.specs.StartFiles.{IsPlacing, place_line, start_text}
 use Rattle.start_file.proofs.Placing.{is_line, placing-complete, words_again}
 
 module _ (cell : Cell) (found : List Request) where
-  -- what a line and others behind it are read as
+  -- what a line and others after it are read as
   pub read_cons : (line rest : List ℕ) (others : List (List ℕ)) (o : Option Request) → next_of cell found line ≡ o
       → read_from cell found (line ∷ rest ∷ others)
       ≡ option_map_or (λ (request : Request). read_from cell (found ++ request ∷ []) (rest ∷ others)) o (Err (length found + 1))

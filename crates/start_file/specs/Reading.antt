@@ -13,11 +13,11 @@ use Rattle.start_file.specs.declared.reading.TheConstants.{MAX_START_LINES}
 unfoldable pub placing_of : Cell → Words → Option Request
 placing_of cell ws = place_at cell ws >>= λ read. ended read.0 read.1
 
--- the same of a line that comes behind those of so many requests
+-- the same of a line that comes after those of so many requests
 abbrev pub next_of : Cell → List Request → List ℕ → Option Request
 next_of cell found line = if nat_lt (length found) MAX_START_LINES then placing_of cell (words line) else None
 
--- the requests of the pieces between newlines, behind those that were found, or the number of the first bad line
+-- the requests of the pieces between newlines, after those that were found, or the number of the first bad line
 abbrev pub read_from : Cell → List Request → List (List ℕ) → Result (List Request) ℕ
 read_from cell found [] = Err (length found + 1)
 read_from cell found (rest ∷ []) = if length rest == 0 then Ok found else Err (length found + 1)

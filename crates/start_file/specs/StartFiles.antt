@@ -20,7 +20,7 @@ IsPlacing cell request = ⊥
 abbrev pub place_line : Cell → Request → List ℕ
 place_line cell request = line_of (request_words cell request)
 
--- their lines, one behind the other
+-- their lines, one after the other
 abbrev pub start_text : Cell → List Request → List ℕ
 start_text cell requests = flat_map (place_line cell) requests
 
@@ -31,7 +31,7 @@ pub record IsStartOf (cell : Cell) (bytes : List ℕ) (requests : List Request) 
   pub placing : All (IsPlacing cell) requests
   pub text : bytes ≡ start_text cell requests
 
--- the n-th line is bad: the lines of requests stand before it, and behind these stands something that doesn't begin with the line of a
+-- the n-th line is bad: the lines of requests stand before it, and after these stands something that doesn't begin with the line of a
 -- request; or they are as many as there may be
 pub record IsBadLine (cell : Cell) (bytes : List ℕ) (n : ℕ) : Type 0 where
   pub before : List Request

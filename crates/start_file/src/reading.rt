@@ -1,16 +1,15 @@
 //! A start file, read line by line.
-ghost use Rattle.std.specs.Prelude.{◌≡◌, ◌<◌, ◌≤◌, ◌⊎◌, ◌∷◌, [], length, position, IfSome, IfOk, IfErr, List as Items};
-ghost use Rattle.std.specs.Option.{option_map_or, option_copied};
+ghost use Rattle.std.specs.Prelude.{◌≡◌, ◌<◌, ◌⊎◌, [], length, IfSome, IfOk, IfErr, List as Items};
 ghost use Rattle.cell_base.specs.Fits.{CellFits};
 ghost use Rattle.cell_base.specs.declared.requests.Request.{Request};
-ghost use Rattle.record_text.specs.BadLines.{is_newline, pieces};
+ghost use Rattle.record_text.specs.BadLines.{pieces};
 ghost use Rattle.start_file.specs.Reading.{Gives, next_of, read_from};
 ghost use Rattle.start_file.specs.declared.reading.TheConstants.{MAX_START_LINES};
 ghost use Rattle.start_file.specs.StartFiles.{IsStartOf, RefusedAt};
 
 use crate::place::read_place;
 use cell_base::{Cell, List, Request};
-use record_text::RecordFault;
+use record_text::{RecordFault, cut_line};
 use std::alloc::Global;
 
 /// The most bytes of a start file.
@@ -56,7 +55,7 @@ fn read_lines(alloc: Global, cell: &Cell, bytes: &[u8]) -> Result<List<Request>,
     }
 }
 
-// The request of a line behind those that were found.
+// The request of a line after those that were found.
 fn next_of(cell: &Cell, found: &List<Request>, line: &[u8]) -> Option<Request>
     requires { CellFits cell.now }
     ensures request { result ≡ next_of cell.now found.now line.now }
@@ -66,23 +65,4 @@ fn next_of(cell: &Cell, found: &List<Request>, line: &[u8]) -> Option<Request>
         return None;
     }
     read_place(cell, line)
-}
-
-// The first line, and what stands behind its newline.
-#[tactic(auto, using(record_text::proofs::Pieces::cut_at, record_text::proofs::Pieces::cut_nowhere))]
-fn cut_line(bytes: &[u8]) -> (&[u8], Option<&[u8]>)
-    ensures pieces { pieces bytes.now ≡ result.0.now ∷ option_map_or pieces (option_copied result.1) [] }
-    ensures shorter { IfSome result.1 (λ rest. length rest.now < length bytes.now) }
-{
-    match first_newline(bytes) {
-        Some(at) => (&bytes[..at], Some(&bytes[at + 1..])),
-        None => (bytes, None),
-    }
-}
-
-// Where the first newline stands.
-fn first_newline(bytes: &[u8]) -> Option<usize>
-    ensures { result ≡ position is_newline bytes.now }
-{
-    bytes.iter().position(|byte| *byte == b'\n')
 }

@@ -1,23 +1,27 @@
 //! The program `starved_calls`: one call of the controller over objects in memory, and how it ended. What refuses it memory runs outside.
 //!
 //! Its words are a file with what the disk holds, and then those of the call; each of these that is a file has its bytes in memory under
-//! that name. A line `called` stands before the call, so that a failure before it is told from one in it. Behind it stand the status and
-//! how often the sink and the disk found no memory, and then in hexadecimal digits what was printed and what the disk holds.
+//! that name. `serve` is asked the lines of standard input, all at once. A line `called` stands before the call, so that a failure before
+//! it is told from one in it. After it stand the status and how often the sink and the disk found no memory, and then in hexadecimal digits
+//! what was printed and what the disk holds.
 #![tactic(auto)]
 
 use anyhow::{Context, Result, bail};
 use cell_base::List;
-use cell_program::{Ended, cell_main};
-use outside_io::{FreePace, MemDisk, MemFiles, MemSink};
-use std::io::ErrorKind;
+use cell_program::{Ended, Served, cell_main, serve_main, served_in};
+use outside_io::{FreePace, MemDisk, MemFiles, MemSink, MemSource};
+use std::io::{ErrorKind, Read};
 use std::process::ExitCode;
 use std::rt::{Env, Files};
 use std::sync::Wait;
 use std::thread::Threads;
 use std::{env, fs};
 
+// More bytes than the lines for `serve` have.
+const PIECE: usize = 4096;
+
 fn main(rt: HostRuntime) -> ExitCode {
-    match call(&rt) {
+    match play(&rt) {
         Ok(()) => ExitCode::SUCCESS,
         Err(error) => {
             let _ = println!(rt; "{error:?}");
@@ -26,27 +30,73 @@ fn main(rt: HostRuntime) -> ExitCode {
     }
 }
 
-// Calls the controller, and prints how it ended.
-fn call<R: Env + Files + Print + AllocGlobal + Threads + Wait + Sync>(rt: &R) -> Result<()> {
-    let alloc = rt.alloc();
+// Makes the call that the words of the program are.
+fn play<R: Env + Files + Input + Print + AllocGlobal + Threads + Wait + Sync>(
+    rt: &R,
+) -> Result<()> {
     let words = words_of(rt)?;
     let Some((journal, words)) = words.as_slice().split_first() else {
         bail!("no journal");
     };
     let bytes = fs::read(rt, journal.as_str())?;
-    let disk = MemDisk::new(alloc, bytes.as_slice(), List::new(alloc));
+    let disk = MemDisk::new(rt.alloc(), bytes.as_slice(), List::new(rt.alloc()));
     let disk = disk.ok().context("no memory")?;
+    match served_in(words) {
+        Some(served) => serve(rt, words, &served, disk),
+        None => call(rt, words, disk),
+    }
+}
+
+// Calls the controller, and prints how it ended.
+fn call<R: Files + Print + AllocGlobal + Threads + Wait + Sync>(
+    rt: &R,
+    words: &[String],
+    disk: MemDisk,
+) -> Result<()> {
+    let alloc = rt.alloc();
     let mut files = files_of(rt, words)?;
     let mut out = MemSink::new(alloc, List::new(alloc));
     println!(rt; "called")?;
     let Ended { status, disk } = cell_main(rt, alloc, words, &mut files, &mut out, disk, &FreePace);
+    print_end(rt, status, &out, &disk)
+}
+
+// Serves the lines of standard input, and prints how that ended.
+fn serve<R: Files + Input + Print + AllocGlobal + Wait>(
+    rt: &R,
+    words: &[String],
+    served: &Served<'_>,
+    disk: MemDisk,
+) -> Result<()> {
+    let alloc = rt.alloc();
+    let mut files = files_of(rt, words)?;
+    let mut lines = Vec::new(alloc);
+    rt.reader().read_to_end(&mut lines)?;
+    let input = MemSource::new(alloc, &lines, PIECE, List::new(alloc));
+    let mut input = input.ok().context("no memory")?;
+    let mut out = MemSink::new(alloc, List::new(alloc));
+    println!(rt; "called")?;
+    let Ended { status, disk } = serve_main(
+        rt,
+        alloc,
+        &mut files,
+        &mut input,
+        &mut out,
+        served.cell,
+        disk,
+    );
+    print_end(rt, status, &out, &disk)
+}
+
+// Prints how a call ended.
+fn print_end<R: Print>(rt: &R, status: u8, out: &MemSink, disk: &MemDisk) -> Result<()> {
     let (of_sink, of_disk) = (out.starved(), disk.starved());
     println!(rt; "status {status} sink {of_sink} disk {of_disk}")?;
     print_bytes(rt, out.bytes())?;
     print_bytes(rt, disk.bytes())
 }
 
-// The words behind the program's name.
+// The words after the program's name.
 fn words_of<R: Env + AllocGlobal>(rt: &R) -> Result<Vec<String>> {
     let mut words = Vec::new(rt.alloc());
     for word in env::args(rt)?.skip(1) {

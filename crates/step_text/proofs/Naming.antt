@@ -1,5 +1,6 @@
 -- Names of a cell and their numbers, both ways.
-use Rattle.std.proofs.Common.{◌≡◌, ◌≢◌, ℕ, zero, suc, ◌<◌, true, false, List, [], ◌∷◌, map, length, get_or, Ok, position, refl, sym, ◌∙◌, arith}
+use Rattle.std.proofs.Common.{◌≡◌, ◌≢◌, ℕ, zero, suc, ◌<◌, true, false, List, [], ◌∷◌, map, length}
+use Rattle.std.proofs.Common.{get_or, Ok, Some, position, refl, sym, subst, ◌∙◌, arith}
 use Rattle.std.specs.List.{All, AllPairs, position_or_len, slice_get}
 use Rattle.std.specs.Option.{option_map_or}
 use Rattle.std.specs.Str.{bytes_eq}
@@ -43,6 +44,16 @@ name_again names k are within =
     (λ i lt. differs (get_or names k []) (get_or names i []) (λ e. are.differ i k lt within (sym e)))
     (λ _. (bytes_eq-Decides (get_or names k []) (get_or names k [])).1 refl) in
     rw (test_passes (get_or names k []) (are.spelled k within), first, lt-ltb k (length names) within) refl
+
+-- a word that stands among names is a name
+found_name : (names : List (List ℕ)) (word : List ℕ) (k : ℕ) → AreNames names → position (bytes_eq word) names ≡ Some k
+    → number_of_name names word ≡ Ok k
+unfolding number_of_name
+found_name names word k are found =
+    let at = position-Some (bytes_eq word) names k [] found in
+    let is : word ≡ get_or names k [] = (bytes_eq-Decides word (get_or names k [])).0 at.1 in
+    let name : IsName word = subst IsName (sym is) (are.spelled k at.0) in
+    rw (test_passes word name, found) refl
 
 -- a word that is read as a number is the name of that number
 pub record IsNameAt (names : List (List ℕ)) (k : ℕ) (word : List ℕ) : Type 0 where
@@ -108,6 +119,14 @@ module _ (cell : Cell) (fits : CellFits cell) where
 
   pub type_named : (k : ℕ) → k < length cell.types → IsName (type_name cell k)
   type_named k within = spelled_at (λ (t : JobType). t.name) cell.types k types_are within
+
+  pub resource_found : (word : List ℕ) (k : ℕ) → position (bytes_eq word) (resource_names cell.resources) ≡ Some k
+      → number_of_name (resource_names cell.resources) word ≡ Ok k
+  resource_found word k found = found_name _ word k resources_are found
+
+  pub type_found : (word : List ℕ) (k : ℕ) → position (bytes_eq word) (type_names cell.types) ≡ Some k
+      → number_of_name (type_names cell.types) word ≡ Ok k
+  type_found word k found = found_name _ word k types_are found
 
   pub resource_again : (k : ℕ) → k < length cell.resources → number_of_name (resource_names cell.resources) (resource_name cell k) ≡ Ok k
   resource_again k within = listed_again (λ (r : Resource). r.name) cell.resources k resources_are within

@@ -1,5 +1,6 @@
 -- That a text that is refused for a name lacks that name alone.
-use Rattle.std.proofs.Common.{◌≡◌, ◌≢◌, ℕ, ◌<◌, ◌^◌, ◌↔◌, Bool, true, false, ◌&&◌, nat_lt, nat_le, List, [], ◌∷◌, ◌++◌, length, get_or, Option, Some, None, Result, Ok, Err, position, refl, sym, ap, subst, ◌∙◌, arith, inl, inr}
+use Rattle.std.proofs.Common.{◌≡◌, ◌≢◌, ℕ, ◌<◌, ◌^◌, ◌↔◌, Bool, true, false, ◌&&◌, nat_lt, nat_le, List, [], ◌∷◌, ◌++◌, length}
+use Rattle.std.proofs.Common.{get_or, Option, Some, None, Result, Ok, Err, position, refl, sym, ap, subst, ◌∙◌, arith, inl, inr}
 use Rattle.std.specs.Prelude.{codes, if◌then◌else◌, slice_get}
 use Rattle.std.specs.Fmt.{decimal}
 use Rattle.std.specs.List.{list_all, position_or_len}
@@ -23,7 +24,8 @@ use Rattle.cell_base.proofs.NameTests.{name_of-name}
 use Rattle.step_text.specs.declared.faults.StepFault.{StepFault}
 use Rattle.step_text.specs.declared.faults.StepFault.TheVariants.{BadStep, UnknownName}
 use Rattle.step_text.specs.Words.{words, joined, number_of}
-use Rattle.step_text.specs.Steps.{step_text, job_of, number_of_name, load_of, process_of, move_of, branch_of, unload_of, step_of_two, step_of_three, step_of_words, step_of}
+use Rattle.step_text.specs.Steps.{step_text, job_of, number_of_name, load_of, process_of, move_of, branch_of}
+use Rattle.step_text.specs.Steps.{unload_of, step_of_two, step_of_three, step_of_words, step_of}
 use Rattle.step_text.specs.Lacking.{with_resource, with_type, IsNew, LacksName}
 use Rattle.step_text.proofs.Chains.{if_some}
 use Rattle.step_text.proofs.Joined.{IsWord, words_again, word_by_test, decimal_word, name_word}
@@ -99,7 +101,7 @@ new_is_unknown : (names : List (List ℕ)) (word : List ℕ) → IsName word →
 unfolding number_of_name
 new_is_unknown names word spelled new = rw (name_of-name word spelled, none_from_new names word new) refl
 
--- ---- steps before and behind it
+-- ---- steps before and after it
 
 -- a value that is wrapped is unknown where the value is
 wrapped : (m : Result ℕ StepFault) (f : ℕ → Request) → IsUnknown (m >>= λ n. Ok (f n)) → IsUnknown m
@@ -111,11 +113,11 @@ number_known : (o : Option ℕ) (f : ℕ → Request) → IsUnknown (or_fault o 
 number_known None f e = absurd cc
 number_known (Some n) f e = absurd cc
 
--- behind the job, what is unknown comes after it
-behind_job : (word : List ℕ) (f : ℕ → Result Request StepFault) → IsUnknown (job_of word >>= f)
+-- after the job, what is unknown comes after it
+after_job : (word : List ℕ) (f : ℕ → Result Request StepFault) → IsUnknown (job_of word >>= f)
     → (job : ℕ) × ((job_of word ≡ Ok job) × IsUnknown (f job))
 unfolding job_of
-behind_job word f e = at (number_of 0 4294967295 word) e
+after_job word f e = at (number_of 0 4294967295 word) e
   where
     at : (o : Option ℕ) → IsUnknown (or_fault o BadStep >>= f) → (job : ℕ) × ((or_fault o BadStep ≡ Ok job) × IsUnknown (f job))
     at None h = absurd cc
@@ -147,9 +149,9 @@ module _ (cell : Cell) where
       (resource word (unknown_is_new (resource_names cell.resources) word
       (wrapped (number_of_name (resource_names cell.resources) word) (λ machine. Process (record { 0 = machine })) h))))
       (by_verb verb (codes "move") (move_of word) _ (Lacks cell (verb ∷ word ∷ []))
-      (λ same h. let found = behind_job word (λ job. Ok (Move (record { 0 = job }) 0)) h in absurd (ok_known found.1.1))
+      (λ same h. let found = after_job word (λ job. Ok (Move (record { 0 = job }) 0)) h in absurd (ok_known found.1.1))
       (by_verb verb (codes "unload") (unload_of word) _ (Lacks cell (verb ∷ word ∷ []))
-      (λ same h. let found = behind_job word (λ job. Ok (Unload (record { 0 = job }))) h in absurd (ok_known found.1.1))
+      (λ same h. let found = after_job word (λ job. Ok (Unload (record { 0 = job }))) h in absurd (ok_known found.1.1))
       (λ h. absurd cc))) e
     where
       ok_known : {r : Request} → IsUnknown (Ok r) → ⊥
@@ -163,14 +165,14 @@ module _ (cell : Cell) where
       (λ same h.
       let branch_of_job : ℕ → Result Request StepFault =
       λ job. or_fault (number_of 1 7 last) BadStep >>= λ branch. Ok (Move (record { 0 = job }) branch) in
-      let found = behind_job word branch_of_job h in
+      let found = after_job word branch_of_job h in
       absurd (number_known (number_of 1 7 last) (λ branch. Move (record { 0 = found.0 }) branch) found.1.1))
       (λ h. absurd cc)) e
     where
       load : verb ≡ codes "load" → IsUnknown (load_of cell word last) → Lacks cell (verb ∷ word ∷ last ∷ [])
       load same h =
           let kind_of : Result ℕ StepFault = number_of_name (type_names cell.types) last in
-          let found = behind_job word (λ job. kind_of >>= λ kind. Ok (Load (record { 0 = job }) (record { 0 = kind }))) h in
+          let found = after_job word (λ job. kind_of >>= λ kind. Ok (Load (record { 0 = job }) (record { 0 = kind }))) h in
           let new = unknown_is_new (type_names cell.types) last
           (wrapped kind_of (λ kind. Load (record { 0 = found.0 }) (record { 0 = kind })) found.1.1) in
           subst (λ (v : List ℕ). Lacks cell (v ∷ word ∷ last ∷ [])) (sym same)

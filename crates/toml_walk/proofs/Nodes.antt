@@ -1,10 +1,13 @@
 -- Tables as they are defined: no array in them gets too long.
-use Rattle.std.proofs.Common.{◌≡◌, ℕ, ◌+◌, ◌≤◌, Bool, true, false, List, [], ◌∷◌, Option, Some, None, Ordering, Less, Equal, Greater, refl, arith}
+use Rattle.std.proofs.Common.{◌≡◌, ℕ, ◌+◌, ◌≤◌, Bool, true, false, List, [], ◌∷◌, Option}
+use Rattle.std.proofs.Common.{Some, None, Ordering, Less, Equal, Greater, refl, arith}
 use Rattle.std.specs.Prelude.{⊤, if◌then◌else◌}
 use Rattle.std.specs.Ordering.{nat_cmp, match_ordering}
 use Rattle.std.specs.Cmp.Lexicographic.{slice_cmp}
 use Rattle.toml.specs.Data.{Data, table, Items, no_items, item, same_key, push_item}
-use Rattle.toml.specs.Tables.{implicit, dotted, header, Node, value, open_table, open_array, Nodes, no_nodes, node, get_node, insert, replace, close_node, close, Edit, header_node, dot_node, by_header, by_dot, along_header, along_dots, Definition, key_value, std_table, array_table, new_node, redefine, at_found, at_key}
+use Rattle.toml.specs.Tables.{implicit, dotted, header, Node, value, open_table, open_array, Nodes, no_nodes, node, get_node}
+use Rattle.toml.specs.Tables.{insert, replace, close_node, close, Edit, header_node, dot_node, by_header, by_dot, along_header}
+use Rattle.toml.specs.Tables.{along_dots, Definition, key_value, std_table, array_table, new_node, redefine, at_found, at_key}
 use Rattle.toml_walk.specs.Widths.{item_count, width, items_width, members_width}
 use Rattle.toml_walk.proofs.Steps.{Holds, nothing, something, mapped, either}
 

@@ -1,9 +1,11 @@
 -- What a reader of the grammar leaves is no longer than what it was given.
-use Rattle.std.proofs.Common.{ℕ, zero, suc, ◌≤◌, Bool, true, false, List, [], ◌∷◌, length, drop, length-drop, Option, Some, None, unwrap_or, arith}
+use Rattle.std.proofs.Common.{ℕ, zero, suc, ◌≤◌, Bool, true, false, List, [], ◌∷◌, length}
+use Rattle.std.proofs.Common.{drop, length-drop, Option, Some, None, unwrap_or, arith}
 use Rattle.std.specs.Prelude.{if◌then◌else◌, ◌==◌, nat_lt, is_some}
 use Rattle.std.specs.List.{prefix_len}
 use Rattle.toml_parser.specs.Lexical.{Read, first, line_feed, starts_newline, skip_ws, skip_from, skip_turn}
-use Rattle.toml_parser.specs.Strings.{hex_escape, escape_char, escape, at_delims, special, after_piece, body, trim_newline, one_line, quoted, simple_key, key_after, key}
+use Rattle.toml_parser.specs.Strings.{hex_escape, escape_char, escape, at_delims, special, after_piece}
+use Rattle.toml_parser.specs.Strings.{body, trim_newline, one_line, quoted, simple_key, key_after, key}
 use Rattle.toml_parser.specs.Numbers.{unquoted}
 use Rattle.toml_walk.proofs.Steps.{Holds, nothing, something, and_then, mapped, mapped_any, either, either_le, weaker}
 

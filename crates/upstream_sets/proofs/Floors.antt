@@ -1,5 +1,6 @@
 -- The bits of resources of at least an order, and the mask of a stage from them.
-use Rattle.std.proofs.Common.{◌≡◌, ℕ, ◌+◌, ◌*◌, ◌^◌, ◌%◌, ◌<◌, ◌≤◌, ◌==◌, ◌≢◌, Bool, true, false, ◌||◌, ◌&&◌, nat_lt, nat_le, length, bit_and, bit_or, ap, ap₂, refl, sym, ◌∙◌, ⊎_elim, arith}
+use Rattle.std.proofs.Common.{◌≡◌, ℕ, ◌+◌, ◌*◌, ◌^◌, ◌%◌, ◌<◌, ◌≤◌, ◌==◌, ◌≢◌, Bool, true, false, ◌||◌, ◌&&◌}
+use Rattle.std.proofs.Common.{nat_lt, nat_le, length, bit_and, bit_or, ap, ap₂, refl, sym, ◌∙◌, ⊎_elim, arith}
 use Rattle.std.specs.List.{list_any}
 use Rattle.std.proofs.lemmas.Bool.{false≢true, eq-eqb, ne_eqb, lt-ltb, le-ltb, cases_lt, cases_eq, or_left}
 use Rattle.cell_base.specs.declared.cells.Cell.{Cell}
@@ -60,14 +61,16 @@ module _ (cell : Cell) (fits : CellFits cell) (s : Stage) (standing : IsStage ce
           lt-ltb _ _ (leads-resource cell fits r found.0 found.2)
 
       same : (r : ℕ) → r ≡ on → has_bit (bit_or (bit_and onward least) (1 * 2 ^ on % 2 ^ 64)) r
-          ≡ ((resource_at cell s == r) || (nat_le (order_at cell s) (order_of cell r) && list_any (λ t. leads cell t r) (successors cell s)))
+          ≡ ((resource_at cell s == r)
+          || (nat_le (order_at cell s) (order_of cell r) && list_any (λ t. leads cell t r) (successors cell s)))
       same r e =
           ap (has_bit (bit_or (bit_and onward least) (1 * 2 ^ on % 2 ^ 64))) e
           ∙ has_bit_set_same (bit_and onward least) on fit
           ∙ sym (or_left _ _ (eq-eqb _ _ (sym here ∙ sym e)))
 
       other : (r : ℕ) → (r ≡ on → ⊥) → has_bit (bit_or (bit_and onward least) (1 * 2 ^ on % 2 ^ 64)) r
-          ≡ ((resource_at cell s == r) || (nat_le (order_at cell s) (order_of cell r) && list_any (λ t. leads cell t r) (successors cell s)))
+          ≡ ((resource_at cell s == r)
+          || (nat_le (order_at cell s) (order_of cell r) && list_any (λ t. leads cell t r) (successors cell s)))
       other r away =
           has_bit_set_other (bit_and onward least) on r fit away
           ∙ has_bit-and onward least r

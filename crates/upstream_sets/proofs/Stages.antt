@@ -1,5 +1,6 @@
 -- The masks by the numbers of the stages, and the neighborhoods that they tell of.
-use Rattle.std.proofs.Common.{◌≡◌, ℕ, zero, suc, ◌+◌, ◌<◌, ◌≤◌, ◌≢◌, Bool, true, false, cond, List, [], ◌∷◌, ◌++◌, length, map, get_or, set, get_or-set_same, get_or-set_other, ap, refl, sym, ◌∙◌, ⊎_elim, arith}
+use Rattle.std.proofs.Common.{◌≡◌, ℕ, zero, suc, ◌+◌, ◌<◌, ◌≤◌, ◌≢◌, Bool, true, false, cond, List, [], ◌∷◌, ◌++◌, length}
+use Rattle.std.proofs.Common.{map, get_or, set, get_or-set_same, get_or-set_other, ap, refl, sym, ◌∙◌, ⊎_elim, arith}
 use Rattle.std.specs.List.{filter, range_with_len}
 use Rattle.std.proofs.lemmas.Bool.{cases_eq}
 use Rattle.std.proofs.lemmas.List.{length-map, get_or-map, map-append, ext_get_or}
@@ -68,7 +69,8 @@ module _ (cell : Cell) (fits : CellFits cell) (masks : List ℕ) (made : masks �
       ∙ map-append (stage_no cell) (filter (λ s. leads cell s r) (map (stage_numbered cell) (range_with_len 0 n))) _
       ∙ ap (λ ks. members_before n ++ ks) (one (leads cell (stage_numbered cell n) r))
     where
-      one : (b : Bool) → map (stage_no cell) (cond b (stage_numbered cell n ∷ []) []) ≡ cond b (stage_no cell (stage_numbered cell n) ∷ []) []
+      one : (b : Bool) → map (stage_no cell) (cond b (stage_numbered cell n ∷ []) [])
+          ≡ cond b (stage_no cell (stage_numbered cell n) ∷ []) []
       one true = refl
       one false = refl
 

@@ -3,7 +3,7 @@ use Rattle.std.specs.Prelude.{◌≡◌, ℕ, ◌<◌, ◌≤◌, ◌&&◌, nat_
 use Rattle.cell_base.specs.declared.cells.Cell.{Cell}
 use Rattle.cell_base.specs.Masks.{has_bit}
 use Rattle.cell_base.specs.Stages.{order_of}
-use Rattle.cell_base.specs.Numbers.{IsNumber, stage_numbered}
+pub use Rattle.cell_base.specs.Numbers.{IsNumber, stage_numbered}
 use Rattle.cell_base.specs.Neighborhoods.{mask_of}
 
 -- the masks of the stages from a number on

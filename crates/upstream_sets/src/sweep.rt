@@ -7,10 +7,9 @@ ghost use Rattle.std.specs.List.{list_any};
 ghost use Rattle.cell_base.specs.declared.limits.TheConstants.{MAX_RESOURCES};
 ghost use Rattle.cell_base.specs.Masks.{has_bit};
 ghost use Rattle.cell_base.specs.Stages.{Stage, stages, successors, successor};
-ghost use Rattle.cell_base.specs.Numbers.{IsNumber, stage_numbered};
 ghost use Rattle.cell_base.specs.Neighborhoods.{leads, mask_of, masks_of};
 ghost use Rattle.cell_base.specs.Fits.{CellFits};
-ghost use Rattle.upstream_sets.specs.Sweeps.{KnowsMasks, IsFloor, AreFloors};
+ghost use Rattle.upstream_sets.specs.Sweeps.{KnowsMasks, IsFloor, AreFloors, IsNumber, stage_numbered};
 
 use cell_base::{MAX_RESOURCES, NoMemory, ResId};
 use route_table::{StageNo, StageTable};
@@ -33,13 +32,13 @@ pub fn sweep(alloc: Global, table: &StageTable) -> Result<Vec<u64>, NoMemory>
     Ok(masks)
 }
 
-/// The mask of a stage, once those behind it have theirs.
+/// The mask of a stage, once those after it have theirs.
 fn mask_at(table: &StageTable, floors: &[u64; RESOURCES], masks: &[u64], stage: StageNo) -> u64
     requires fits { CellFits table.now }
     requires stage { IsNumber table.now stage.0 }
     requires floors { AreFloors table.now (length table.now.resources) floors.now }
     requires length { length masks.now ≡ length (stages table.now) }
-    requires behind { KnowsMasks table.now (stage.0 + 1) masks.now }
+    requires later { KnowsMasks table.now (stage.0 + 1) masks.now }
     ensures { result ≡ mask_of table.now (stage_numbered table.now stage.0) }
 {
     let on = table.resource_of(stage);
@@ -51,7 +50,7 @@ fn joined(table: &StageTable, masks: &[u64], stage: StageNo) -> u64
     requires fits { CellFits table.now }
     requires stage { IsNumber table.now stage.0 }
     requires length { length masks.now ≡ length (stages table.now) }
-    requires behind { KnowsMasks table.now (stage.0 + 1) masks.now }
+    requires later { KnowsMasks table.now (stage.0 + 1) masks.now }
     ensures { (r : ℕ) → has_bit result r ≡ list_any (λ t. leads table.now t r) (successors table.now (stage_numbered table.now stage.0)) }
 {
     let mut mask = 0;
@@ -65,7 +64,7 @@ fn joined(table: &StageTable, masks: &[u64], stage: StageNo) -> u64
 fn next_mask(table: &StageTable, masks: &[u64], stage: StageNo, branch: u16) -> u64
     requires stage { IsNumber table.now stage.0 }
     requires length { length masks.now ≡ length (stages table.now) }
-    requires behind { KnowsMasks table.now (stage.0 + 1) masks.now }
+    requires later { KnowsMasks table.now (stage.0 + 1) masks.now }
     ensures { (t : Stage) → successor table.now (stage_numbered table.now stage.0) branch ≡ Some t → result ≡ mask_of table.now t }
 {
     match table.next_of(stage, branch) {

@@ -1,5 +1,5 @@
 //! The masks of all stages, and the neighborhoods that they tell of.
-ghost use Rattle.std.specs.Prelude.{◌≡◌, ◌<◌, length, map, slice_index, IfOk};
+ghost use Rattle.std.specs.Prelude.{◌≡◌, ◌<◌, length, slice_index, IfOk};
 ghost use Rattle.cell_base.specs.declared.limits.TheConstants.{MAX_RESOURCES};
 ghost use Rattle.cell_base.specs.Masks.{has_bit};
 ghost use Rattle.cell_base.specs.Neighborhoods.{masks_of};

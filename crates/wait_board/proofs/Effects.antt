@@ -1,4 +1,4 @@
--- The parts on a board are those behind its history.
+-- The parts on a board are those after its history.
 use Rattle.std.proofs.Common.{◌≡◌, ℕ, zero, suc, true, false, cond, Some, None, List, [], ◌∷◌, ◌++◌, length, refl}
 use Rattle.std.proofs.Common.{sym, ◌∙◌, ap, find}
 use Rattle.std.specs.Option.{option_map_or}
@@ -14,28 +14,28 @@ use Rattle.wait_board.specs.declared.entries.BoardTold.TheVariants as told
 use Rattle.wait_board.specs.declared.entries.BoardEntry.{BoardEntry}
 use Rattle.policy_laws.specs.Decisions.{is_saturation}
 use Rattle.wait_board.specs.Boards.{OnBoard, entry, is_ready, end_of_wait, decided, settled}
-use Rattle.wait_board.specs.Boards.{scan_within, noted, joined, told_on, board, takes_effect, parts_behind}
+use Rattle.wait_board.specs.Boards.{scan_within, noted, joined, told_on, board, takes_effect, parts_after}
 
 module _ (cell : Cell) (law : RefusalLaw cell) (first : List Part) where
   -- the last entry of several
   last : (parts : List Part) (history : List BoardEntry) (e : BoardEntry)
-      → parts_behind cell parts (history ++ e ∷ [])
-      ≡ cond (takes_effect e.told) (state_after cell (parts_behind cell parts history) e.request) (parts_behind cell parts history)
+      → parts_after cell parts (history ++ e ∷ [])
+      ≡ cond (takes_effect e.told) (state_after cell (parts_after cell parts history) e.request) (parts_after cell parts history)
   last parts [] e = refl
   last parts (one ∷ history) e = last (cond (takes_effect one.told) (state_after cell parts one.request) parts) history e
 
-  -- the board's parts are those behind its history
-  abbrev pub IsBehind : OnBoard → Type 0
-  IsBehind on = parts_behind cell first on.history ≡ on.parts
+  -- the board's parts are those after its history
+  abbrev pub StandsAfter : OnBoard → Type 0
+  StandsAfter on = parts_after cell first on.history ≡ on.parts
 
-  more : (on : OnBoard) (e : BoardEntry) → IsBehind on
-      → parts_behind cell first (on.history ++ e ∷ []) ≡ cond (takes_effect e.told) (state_after cell on.parts e.request) on.parts
+  more : (on : OnBoard) (e : BoardEntry) → StandsAfter on
+      → parts_after cell first (on.history ++ e ∷ []) ≡ cond (takes_effect e.told) (state_after cell on.parts e.request) on.parts
   more on e is =
       last first on.history e
       ∙ ap (λ (ps : List Part). cond (takes_effect e.told) (state_after cell ps e.request) ps) is
 
-  decided_behind : (on : OnBoard) (w : Waiter) → IsBehind on → IsBehind (decided cell on w)
-  decided_behind on w is =
+  decided_after : (on : OnBoard) (w : Waiter) → StandsAfter on → StandsAfter (decided cell on w)
+  decided_after on w is =
       more on (entry w.session w.request (end_of_wait (reply_to cell on.parts w.request))) is
       ∙ by_reply (reply_to cell on.parts w.request) refl
     where
@@ -44,26 +44,26 @@ module _ (cell : Cell) (law : RefusalLaw cell) (first : List Part) where
       by_reply Granted e = refl
       by_reply (Refused why) e = sym (law on.parts w.request why e)
 
-  scan_behind : (n : ℕ) (on : OnBoard) → IsBehind on → IsBehind (scan_within n cell on)
-  scan_behind zero on is = is
-  scan_behind (suc n) on is =
+  scan_after : (n : ℕ) (on : OnBoard) → StandsAfter on → StandsAfter (scan_within n cell on)
+  scan_after zero on is = is
+  scan_after (suc n) on is =
       elim (find (is_ready cell on.parts) on.waiters) as (λ o.
-      IsBehind (option_map_or (λ waiter. scan_within n cell (decided cell on waiter)) o (settled cell on))) [
+      StandsAfter (option_map_or (λ waiter. scan_within n cell (decided cell on waiter)) o (settled cell on))) [
         | None ↦ is
-        | Some w ↦ scan_behind n (decided cell on w) (decided_behind on w is)
+        | Some w ↦ scan_after n (decided cell on w) (decided_after on w is)
       ]
 
   -- an ask keeps it
-  pub board_behind : (on : OnBoard) (session : ℕ) (request : Request) → IsBehind on → IsBehind (board cell on session request)
-  board_behind on session request is = by_reply (reply_to cell on.parts request)
+  pub board_after : (on : OnBoard) (session : ℕ) (request : Request) → StandsAfter on → StandsAfter (board cell on session request)
+  board_after on session request is = by_reply (reply_to cell on.parts request)
     where
-      by_reply : (r : Reply) → IsBehind (told_on cell on session request r)
+      by_reply : (r : Reply) → StandsAfter (told_on cell on session request r)
       by_reply Granted =
-          scan_behind (length on.waiters) (record (noted on session request told.Granted) { parts = state_after cell on.parts request })
+          scan_after (length on.waiters) (record (noted on session request told.Granted) { parts = state_after cell on.parts request })
           (more on (entry session request told.Granted) is)
       by_reply (Refused why) =
           let refused = noted on session request (told.Refused why) in
-          elim (is_saturation why) as (λ b. IsBehind (cond b (joined on session request why) refused)) [
+          elim (is_saturation why) as (λ b. StandsAfter (cond b (joined on session request why) refused)) [
             | true ↦ more on (entry session request (told.Waits why)) is
             | false ↦ more on (entry session request (told.Refused why)) is
           ]

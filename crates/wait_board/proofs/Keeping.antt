@@ -20,7 +20,7 @@ use Rattle.wait_board.specs.Boards.{OnBoard, noted, joined, told_on, board, wait
 use Rattle.wait_board.specs.BoardState.{IsWaiting, IsOther, AreApart, Keeps}
 use Rattle.wait_board.proofs.Scans.{full, Stands, scan-settled}
 use Rattle.wait_board.proofs.Asks.{asked_on}
-use Rattle.wait_board.proofs.Effects.{board_behind}
+use Rattle.wait_board.proofs.Effects.{board_after}
 use Rattle.wait_board.proofs.Room.{others_wait}
 
 module _ (cell : Cell) (fits : CellFits cell) (sessions : ℕ) (on : OnBoard) (session : ℕ) (request : Request)
@@ -37,7 +37,7 @@ module _ (cell : Cell) (fits : CellFits cell) (sessions : ℕ) (on : OnBoard) (s
   abbrev pub Waits : OnBoard → Type 0
   Waits now = All (IsWaiting cell now.parts sessions) now.waiters × AreApart now.waiters
 
-  -- who waits behind an ask
+  -- who waits after an ask
   pub waiting_on : Waits (board cell on session request)
   waiting_on = by_reply (reply_to cell on.parts request) refl
     where
@@ -71,7 +71,7 @@ keeps cell opening on spare left sessions session request fits law admitted kept
     let wait = waiting_on cell fits sessions on session request admitted kept.waiting kept.apart fit within free in
     record {
       asked = asked_on cell _ on session request kept.asked;
-      behind = board_behind cell law opening on session request kept.behind;
+      after_history = board_after cell law opening on session request kept.after_history;
       waiting = wait.0;
       apart = wait.1;
     }

@@ -118,11 +118,11 @@ takes_effect told.Granted = true
 takes_effect told.Served = true
 takes_effect _ = false
 
--- the parts behind a history: its granted and served requests took effect, in their order
-abbrev pub parts_behind : Cell → List Part → List BoardEntry → List Part
-parts_behind cell parts [] = parts
-parts_behind cell parts (entry ∷ entries) =
-    parts_behind cell (if takes_effect entry.told then state_after cell parts entry.request else parts) entries
+-- the parts after a history: its granted and served requests took effect, in their order
+abbrev pub parts_after : Cell → List Part → List BoardEntry → List Part
+parts_after cell parts [] = parts
+parts_after cell parts (entry ∷ entries) =
+    parts_after cell (if takes_effect entry.told then state_after cell parts entry.request else parts) entries
 
 -- what a board comes to by asks in their order
 abbrev pub asked_in_turn : Cell → OnBoard → List BoardEntry → OnBoard

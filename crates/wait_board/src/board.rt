@@ -1,7 +1,6 @@
 //! The board.
-ghost use Rattle.std.specs.Prelude.{◌≡◌, ◌+◌, ◌<◌, ◌≤◌, None, [], length, IfOk, IfErr, vec_capacity};
+ghost use Rattle.std.specs.Prelude.{◌≡◌, ◌<◌, ◌≤◌, None, [], length, IfOk, IfErr, vec_capacity};
 ghost use Rattle.cell_base.specs.Fits.{RequestFits, IsWithin};
-ghost use Rattle.cell_base.specs.Policy.{IsAdmitted};
 ghost use Rattle.wait_board.specs.Boards.{waiter_of};
 ghost use Rattle.wait_board.specs.BoardState.{Answers, IsAsked, IsOpened, Keeps};
 
@@ -25,7 +24,7 @@ pub struct Board {
 }
 
 impl Model for Board {
-    ghost use Rattle.std.specs.Prelude.{◌+◌, ◌≤◌, vec_capacity};
+    ghost use Rattle.std.specs.Prelude.{◌≤◌, vec_capacity};
     ghost use Rattle.wait_board.specs.BoardState.{BoardState, on_board, Keeps};
 
     ghost Value = { BoardState };
@@ -100,7 +99,7 @@ impl Board {
         }
     }
 
-    /// Decides a request of a session that does not wait. A saturated one waits; behind a grant those that wait are decided as
+    /// Decides a request of a session that does not wait. A saturated one waits; after a grant those that wait are decided as
     /// far as there is room now. Each entry takes one of the room.
     pub fn ask(&mut self, session: u16, request: &Request) -> BoardReply
         requires request { RequestFits self.old.cell request.now }
@@ -162,7 +161,7 @@ impl Board {
         self.history.as_slice()
     }
 
-    /// The core, behind the history.
+    /// The core, after the history.
     pub fn core(&self) -> &Core
         ensures core { result.now ≡ record { cell = self.now.cell; parts = self.now.on.parts } }
         ensures kept { Keeps self.now }
@@ -170,7 +169,7 @@ impl Board {
         &self.core
     }
 
-    /// The core, behind the history; nobody waits any longer.
+    /// The core, after the history; nobody waits any longer.
     pub fn into_core(self) -> Core
         ensures { result ≡ record { cell = self.cell; parts = self.on.parts } }
     {

@@ -1,5 +1,5 @@
 //! The scan of the waiters.
-ghost use Rattle.std.specs.Prelude.{◌≡◌, ℕ, ◌+◌, ◌<◌, ◌≤◌, Some, [], ◌∷◌, ◌++◌, length, map, vec_len, vec_capacity, position};
+ghost use Rattle.std.specs.Prelude.{◌≡◌, ◌+◌, ◌<◌, ◌≤◌, Some, [], ◌∷◌, ◌++◌, length, map, vec_capacity, position};
 ghost use Rattle.std.specs.List.{All};
 ghost use Rattle.cell_base.specs.Fits.{RequestFits};
 ghost use Rattle.cell_base.specs.Outcomes.{reply_to, state_after};

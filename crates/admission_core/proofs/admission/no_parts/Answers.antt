@@ -12,7 +12,8 @@ use Rattle.admission_core.specs.CoreState.{AreCounts}
 use Rattle.admission_core.proofs.admission.no_parts.Goals as goal
 
 -- the capacities of all resources
-capacity_at : (cell : Cell) (r : ℕ) → r < length cell.resources → get_or (map (λ (x : Resource). x.capacity) cell.resources) r 0 ≡ capacity_of cell r
+capacity_at : (cell : Cell) (r : ℕ) → r < length cell.resources → get_or (map (λ (x : Resource). x.capacity) cell.resources) r 0
+    ≡ capacity_of cell r
 capacity_at cell r within =
     let none : Resource = record { name = []; capacity = 0; order = 0 } in
     get_or-map (λ (x : Resource). x.capacity) cell.resources r none 0 within

@@ -36,7 +36,7 @@ module _ (cell : Cell) (before : Tally) (sound : IsSound cell before) (machine :
 
   module _ (new : Table)
       (change : new ≡ record before.parts { parts = finish_first (is_waiting_on before.parts.cell machine.0) before.parts.parts }) where
-    -- the parts behind the work
+    -- the parts after the work
     now : new.parts ≡ finish_first (is_waiting_on cell machine.0) before.parts.parts
     now =
         ap (λ (table : Table). table.parts) change

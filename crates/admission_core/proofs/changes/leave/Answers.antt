@@ -16,10 +16,12 @@ take_out-requires-clause-found c =
 pub returns-in-Some-clause-parts : goal.returns-in-Some-clause-parts
 returns-in-Some-clause-parts c =
     let parts = c.args.tally.now.parts.parts in
-    let known = part_known c.args.table.now parts c.args.job c.in-Some.part c.requires.sound.admitted (sym c.get.ensures.part ∙ c.in-Some.is) in
+    let known = part_known c.args.table.now parts c.args.job c.in-Some.part c.requires.sound.admitted
+    (sym c.get.ensures.part ∙ c.in-Some.is) in
     c.take_out.ensures.parts ∙ ap (without parts) known.of
 
 pub returns-in_default-clause-parts : goal.returns-in_default-clause-parts
 returns-in_default-clause-parts c =
     let parts = c.args.tally.now.parts.parts in
-    sym (without-absent parts c.args.job (not_found parts c.args.job (sym c.get.ensures.part ∙ none_left c.get.result c.in_default.not-Some)))
+    sym (without-absent parts c.args.job
+    (not_found parts c.args.job (sym c.get.ensures.part ∙ none_left c.get.result c.in_default.not-Some)))

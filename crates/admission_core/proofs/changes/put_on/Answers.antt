@@ -26,13 +26,15 @@ pub shift-requires-clause-from_mask : goal.shift-requires-clause-from_mask
 shift-requires-clause-from_mask c =
     let sound = c.requires.sound in
     subst (IsMaskOf c.args.tally.now.counts) (sym c.mask.ensures)
-    (mask_is_of c.args.table.now sound.fits c.args.tally.now.counts c.args.tally.now.parts.parts sound.tallied.counts (stage_of c.args.part))
+    (mask_is_of c.args.table.now sound.fits c.args.tally.now.counts c.args.tally.now.parts.parts sound.tallied.counts
+    (stage_of c.args.part))
 
 pub shift-requires-clause-to_mask : goal.shift-requires-clause-to_mask
 shift-requires-clause-to_mask c =
     let sound = c.requires.sound in
     subst (IsMaskOf c.args.tally.now.counts) (sym c.mask-2.ensures)
-    (mask_is_of c.args.table.now sound.fits c.args.tally.now.counts c.args.tally.now.parts.parts sound.tallied.counts (stage_of c.args.next))
+    (mask_is_of c.args.table.now sound.fits c.args.tally.now.counts c.args.tally.now.parts.parts sound.tallied.counts
+    (stage_of c.args.next))
 
 pub shift-requires-clause-room : goal.shift-requires-clause-room
 shift-requires-clause-room c =
@@ -53,7 +55,8 @@ shift-requires-clause-held c =
     let here = part_known cell parts c.args.part.job c.args.part sound.admitted c.requires.found in
     subst (λ from. AreHeld c.args.tally.now.counts (bits_only_of from c.mask-2.result)) (sym c.mask.ensures)
     (subst (λ to. AreHeld c.args.tally.now.counts (bits_only_of (mask_of cell (stage_of c.args.part)) to)) (sym c.mask-2.ensures)
-    (only_held cell sound.fits c.args.tally.now.counts parts sound.tallied.counts c.args.part c.args.next sound.admitted.state.distinct here.stands))
+    (only_held cell sound.fits c.args.tally.now.counts parts sound.tallied.counts c.args.part c.args.next sound.admitted.state.distinct
+    here.stands))
 
 pub advance-requires-clause-present : goal.advance-requires-clause-present
 advance-requires-clause-present c =
@@ -71,7 +74,12 @@ overflow_sub-tally c =
     let parts = c.args.tally.now.parts.parts in
     let sound = c.requires.sound in
     let here = part_known cell parts c.args.part.job c.args.part sound.admitted c.requires.found in
-    omega (arith, sound.tallied.work, c.work_of.ensures, work_without cell sound.fits parts c.args.part sound.admitted.state.distinct here.stands)
+    omega (
+      arith,
+      sound.tallied.work,
+      c.work_of.ensures,
+      work_without cell sound.fits parts c.args.part sound.admitted.state.distinct here.stands,
+    )
 
 pub overflow_add-tally : goal.overflow_add-tally
 overflow_add-tally c =
@@ -86,7 +94,7 @@ overflow_add-tally c =
       work_of-le cell sound.fits parts c.args.next c.requires.stage,
     )
 
--- the parts behind the move
+-- the parts after the move
 now : (c : goal.After-tally-1) → c.advance.new.self.parts ≡ without c.args.tally.now.parts.parts c.args.part.job ++ c.args.next ∷ []
 now c =
     let parts = c.args.tally.now.parts.parts in

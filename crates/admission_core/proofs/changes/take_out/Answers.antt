@@ -21,7 +21,8 @@ pub leave-requires-clause-mask : goal.leave-requires-clause-mask
 leave-requires-clause-mask c =
     let sound = c.requires.sound in
     subst (IsMaskOf c.args.tally.now.counts) (sym c.mask.ensures)
-    (mask_is_of c.args.table.now sound.fits c.args.tally.now.counts c.args.tally.now.parts.parts sound.tallied.counts (stage_of c.args.part))
+    (mask_is_of c.args.table.now sound.fits c.args.tally.now.counts c.args.tally.now.parts.parts sound.tallied.counts
+    (stage_of c.args.part))
 
 pub leave-requires-clause-held : goal.leave-requires-clause-held
 leave-requires-clause-held c =
@@ -48,7 +49,12 @@ overflow_sub-tally c =
     let parts = c.args.tally.now.parts.parts in
     let sound = c.requires.sound in
     let stands = (part_known cell parts c.args.part.job c.args.part sound.admitted c.requires.found).stands in
-    omega (arith, sound.tallied.work, c.work_of.ensures, work_without cell sound.fits parts c.args.part sound.admitted.state.distinct stands)
+    omega (
+      arith,
+      sound.tallied.work,
+      c.work_of.ensures,
+      work_without cell sound.fits parts c.args.part sound.admitted.state.distinct stands,
+    )
 
 pub returns-clause-parts : goal.returns-clause-parts
 returns-clause-parts c =

@@ -6,7 +6,7 @@ use Rattle.std.proofs.lemmas.List.{get_or_default}
 use Rattle.cell_base.specs.declared.cells.Cell.{Cell}
 use Rattle.cell_base.specs.declared.cells.ResId.{ResId}
 use Rattle.cell_base.specs.Stages.{IsStage, stage_of}
-use Rattle.cell_base.specs.Plans.{place_of, step_of}
+use Rattle.cell_base.specs.Plans.{resource_of_part, step_of}
 use Rattle.policy_laws.proofs.Lists.{All-found}
 use Rattle.admission_core.proofs.Moving.{none_left}
 use Rattle.admission_core.proofs.Ranking.{picked, unoccupied}
@@ -18,14 +18,15 @@ loop-r-preserved c k d early within =
     let parts = c.args.tally.now.parts.parts in
     let none : ResId = record { 0 = 0 } in
     let r : ResId = get_or c.args.ranks.now c.loop-r.r-index none in
-    let nobody : find (λ part. place_of table part == r.0) parts ≡ None =
-    ap (λ (cell : Cell). find (λ part. place_of cell part == r.0) parts) (sym c.requires.sound.tallied.same_cell) ∙ sym c.first_on.ensures
+    let nobody : find (λ part. resource_of_part table part == r.0) parts ≡ None =
+    ap (λ (cell : Cell). find (λ part. resource_of_part cell part == r.0) parts) (sym c.requires.sound.tallied.same_cell)
+    ∙ sym c.first_on.ensures
     ∙ none_left c.first_on.result c.in_default.not-Some in
     ⊎_elim
     (λ (h : k < c.loop-r.r-index). c.loop-r.invariant k d h within)
     (λ (h : c.loop-r.r-index ≤ k).
     let at : k ≡ c.loop-r.r-index = omega arith in
-    ap (λ (q : ResId). find (λ part. place_of table part == q.0) parts)
+    ap (λ (q : ResId). find (λ part. resource_of_part table part == q.0) parts)
     (get_or_default c.args.ranks.now k d none within ∙ ap (λ k. get_or c.args.ranks.now k none) at)
     ∙ nobody)
     (cases_lt k c.loop-r.r-index)
@@ -34,9 +35,9 @@ pub step_of-requires : goal.step_of-requires
 step_of-requires c =
     let cell = c.args.table.now in
     let r : ResId = get_or c.args.ranks.now c.loop-r.r-index (record { 0 = 0 }) in
-    All-found (λ part. IsStage cell (stage_of part)) (λ part. place_of cell part == r.0)
+    All-found (λ part. IsStage cell (stage_of part)) (λ part. resource_of_part cell part == r.0)
     c.args.tally.now.parts.parts c.in-Some.part c.requires.sound.admitted.state.standing
-    (ap (λ (cell : Cell). find (λ part. place_of cell part == r.0) c.args.tally.now.parts.parts)
+    (ap (λ (cell : Cell). find (λ part. resource_of_part cell part == r.0) c.args.tally.now.parts.parts)
     (sym c.requires.sound.tallied.same_cell)
     ∙ sym c.first_on.ensures ∙ c.in-Some.is)
 
@@ -49,8 +50,9 @@ returns-in-Some c =
     ∙ ap (option_map (step_of cell))
     (sym
     (picked cell c.requires.sound.fits c.args.ranks.now c.requires.ranking parts c.requires.sound.admitted.state.standing c.loop-r.r-index r
-    c.loop-r-test.true (get_or_default c.args.ranks.now c.loop-r.r-index r (record { 0 = 0 }) c.loop-r-test.true) c.loop-r.invariant c.in-Some.part
-    (ap (λ (cell : Cell). find (λ part. place_of cell part == r.0) parts) (sym c.requires.sound.tallied.same_cell)
+    c.loop-r-test.true (get_or_default c.args.ranks.now c.loop-r.r-index r (record { 0 = 0 }) c.loop-r-test.true) c.loop-r.invariant
+    c.in-Some.part
+    (ap (λ (cell : Cell). find (λ part. resource_of_part cell part == r.0) parts) (sym c.requires.sound.tallied.same_cell)
     ∙ sym c.first_on.ensures ∙ c.in-Some.is)))
 
 pub returns : goal.returns

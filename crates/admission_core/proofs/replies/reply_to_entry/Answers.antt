@@ -19,7 +19,8 @@ pub reply_at-requires-clause-mask : goal.reply_at-requires-clause-mask
 reply_at-requires-clause-mask c =
     let sound = c.requires.sound in
     subst (IsMaskOf c.args.tally.now.counts) (sym c.mask.ensures)
-    (mask_is_of c.args.table.now sound.fits c.args.tally.now.counts c.args.tally.now.parts.parts sound.tallied.counts (stage_of c.args.part))
+    (mask_is_of c.args.table.now sound.fits c.args.tally.now.counts c.args.tally.now.parts.parts sound.tallied.counts
+    (stage_of c.args.part))
 
 pub returns-in-None : goal.returns-in-None
 returns-in-None c =
@@ -30,5 +31,6 @@ returns-in-None c =
     rw absent
     (c.reply_at.ensures
     ∙ ap (λ mask. reply_at cell parts (first_full c.args.tally.now.counts mask)) c.mask.ensures
-    ∙ ap (reply_at cell parts) (entry_over cell sound.fits c.args.tally.now.counts parts sound.tallied.counts c.args.part sound.admitted.within)
+    ∙ ap (reply_at cell parts)
+    (entry_over cell sound.fits c.args.tally.now.counts parts sound.tallied.counts c.args.part sound.admitted.within)
     ∙ sym (admit_reply cell parts (parts ++ c.args.part ∷ [])))

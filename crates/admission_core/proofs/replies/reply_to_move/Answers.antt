@@ -12,10 +12,12 @@ use Rattle.admission_core.proofs.Saturating.{only_is_of, move_over}
 use Rattle.admission_core.proofs.replies.reply_to_move.Goals as goal
 
 pub is_last-requires : goal.is_last-requires
-is_last-requires c = (part_known c.args.table.now c.args.tally.now.parts.parts c.args.part.job c.args.part c.requires.sound.admitted c.requires.found).stage
+is_last-requires c =
+    (part_known c.args.table.now c.args.tally.now.parts.parts c.args.part.job c.args.part c.requires.sound.admitted c.requires.found).stage
 
 pub next_place-requires : goal.next_place-requires
-next_place-requires c = (part_known c.args.table.now c.args.tally.now.parts.parts c.args.part.job c.args.part c.requires.sound.admitted c.requires.found).stage
+next_place-requires c =
+    (part_known c.args.table.now c.args.tally.now.parts.parts c.args.part.job c.args.part c.requires.sound.admitted c.requires.found).stage
 
 pub mask-requires : goal.mask-requires
 mask-requires c =

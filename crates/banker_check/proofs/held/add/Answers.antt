@@ -8,13 +8,13 @@ use Rattle.banker_check.proofs.held.add.Goals as goal
 
 pub returns : goal.returns
 returns c parts are =
-    let cell = c.args.cell.now in
+    let cell = c.args.table.now in
     let counts = c.args.held.now in
-    let within : resource_at cell (stage_of c.args.part) < length cell.resources = resource_within cell c.requires.fits
+    let within : resource_at cell (stage_of c.args.part) < length cell.resources = resource_within cell c.cell-cell.ensures.fits
     (stage_of c.args.part) c.requires.stage in
     subst (λ r. AreHeld cell (parts ++ c.args.part ∷ []) (record {
       on = set counts.on r
           (get_or counts.on r 0 + 1);
       parts = counts.parts + 1;
     }))
-    (sym c.resource_at-r.ensures) (AreHeld-push cell parts c.args.part counts (omega (arith, within, c.requires.fits.resource_count.1)) are)
+    (sym c.resource_at-r.ensures.value) (AreHeld-push cell parts c.args.part counts (omega (arith, within, c.cell-cell.ensures.fits.resource_count.1)) are)

@@ -6,5 +6,5 @@ use Rattle.banker_check.proofs.rounds.round.Given as goal
 
 abbrev pub invariant-loop-part : goal.invariant-loop-part
 invariant-loop-part l =
-    AreHeld l.cell (filter (λ part. not (is_of_job l.last.job part) && counts_on l.cell l.before l.first part)
+    AreHeld l.table (filter (λ part. not (is_of_job l.last.job part) && counts_on l.table l.before l.first part)
     (take l.part-index l.parts)) l.held

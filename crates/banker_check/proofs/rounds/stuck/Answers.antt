@@ -10,7 +10,7 @@ use Rattle.banker_check.proofs.rounds.stuck.Goals as goal
 
 pub loop-init : goal.loop-init
 loop-init c =
-    let cell = c.args.cell.now in
+    let cell = c.args.table.now in
     let parts : List Part = without c.args.parts.now c.args.last.job ++ c.args.last ∷ [] in (
       (counts_on cell (replicate 64 0) true, round-first cell parts (replicate 64 0) c.round-held.result c.round-held.ensures),
       omega (
@@ -27,11 +27,11 @@ returns-then-next-held c =
     let parts : List Part = without c.args.parts.now c.args.last.job ++ c.args.last ∷ [] in
     let distinct = distinct-in_place c.args.parts.now c.args.last c.requires.distinct in
     let round = c.loop.invariant.0 in
-    sym (round-last c.args.cell.now parts distinct round.0 c.loop.held c.round-next.result round.1 c.round-next.ensures c.if-next-held.true)
+    sym (round-last c.args.table.now parts distinct round.0 c.loop.held c.round-next.result round.1 c.round-next.ensures c.if-next-held.true)
 
 pub loop-preserved : goal.loop-preserved
 loop-preserved c =
-    let cell = c.args.cell.now in
+    let cell = c.args.table.now in
     let parts : List Part = without c.args.parts.now c.args.last.job ++ c.args.last ∷ [] in
     let distinct = distinct-in_place c.args.parts.now c.args.last c.requires.distinct in
     let round = c.loop.invariant.0 in (

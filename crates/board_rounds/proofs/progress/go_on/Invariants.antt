@@ -1,4 +1,4 @@
--- The progress is that behind the entries so far.
+-- The progress is that after the entries so far.
 use Rattle.std.proofs.Common.{take}
 use Rattle.board_rounds.specs.Underway.{Stands}
 use Rattle.board_rounds.proofs.progress.go_on.Given as goal

@@ -1,4 +1,4 @@
--- The rounds begin with no entry, and end behind one that leaves the board.
+-- The rounds begin with no entry, and end after one that leaves the board.
 use Rattle.std.proofs.Common.{suc, refl, arith}
 use Rattle.std.proofs.lemmas.Bool.{OnTrue_at}
 use Rattle.board_rounds.proofs.Going.{few_asks}

@@ -5,8 +5,8 @@ use Rattle.durable_cell.specs.DurableState.{DurableState}
 use Rattle.cell_walks.specs.Allowed.{StandsForAdded}
 use Rattle.cell_walks.specs.DiskTold.{disk_told}
 use Rattle.cell_texts.specs.Recorded.{recorded_outcome}
+use Rattle.cell_texts.proofs.AskedSteps.{asked_so, asked_under, same_opening}
 use Rattle.start_file.specs.StartFiles.{IsPlacing}
-use Rattle.carry_commands.proofs.Asked.{asked_so, asked_under, same_opening}
 use Rattle.carry_commands.proofs.Granting.{placing_fits}
 use Rattle.carry_commands.proofs.asking.ask_all.Goals as goal
 
@@ -18,7 +18,8 @@ record_of-requires g c =
 
 pub returns-clause-begun : goal.returns-clause-begun
 returns-clause-begun g c =
-    asked_so c.args.requests.now c.args.durable c.ask_each.new.durable c.ask_each.ensures.asked (recorded_outcome c.record_of.result.recorded)
+    asked_so c.args.requests.now c.args.durable c.ask_each.new.durable c.ask_each.ensures.asked
+    (recorded_outcome c.record_of.result.recorded)
     c.record_of.ensures.recorded
 
 pub returns-clause-stands : goal.returns-clause-stands

@@ -9,7 +9,8 @@ pub returns-in-Ok-clause-ended : goal.returns-in-Ok-clause-ended
 returns-in-Ok-clause-ended g c =
     ends_after (disk_told g.D.Disk.reads_as g.D.Disk.may_leave g.D.Disk.moment g.D.Disk.left_since g.D.Disk.faults c.args.disk
     c.read_journal-made.result.disk)
-    (to_read (known c.args.held)) c.args.new c.in-Ok.after (rw c.in-Ok.is at c.read_journal-made.ensures.read) c.carry_parts.result c.carry_parts.ensures.ended
+    (to_read (known c.args.held)) c.args.new c.in-Ok.after (rw c.in-Ok.is at c.read_journal-made.ensures.read) c.carry_parts.result
+    c.carry_parts.ensures.ended
 
 pub returns-in-Err-clause-ended : goal.returns-in-Err-clause-ended
 returns-in-Err-clause-ended g c = Unopened (rw c.in-Err.is at c.read_journal-made.ensures.ended)

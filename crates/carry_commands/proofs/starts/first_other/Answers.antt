@@ -5,7 +5,8 @@ use Rattle.carry_commands.proofs.Firsts.{another, one_more, too_many}
 use Rattle.cell_base.specs.declared.requests.Request.TheVariants.{Process}
 use Rattle.cell_base.specs.declared.shifts.Grant.{Grant}
 use Rattle.carry_commands.proofs.starts.first_other.Goals as goal
-use Rattle.carry_commands.proofs.starts.first_other.Goals.{then-at-requests-via-then-at-requests, then-at-requests-via-else-at-requests+then-not-is_grant_of}
+use Rattle.carry_commands.proofs.starts.first_other.Goals.{then-at-requests-via-then-at-requests}
+use Rattle.carry_commands.proofs.starts.first_other.Goals.{then-at-requests-via-else-at-requests+then-not-is_grant_of}
 
 -- stands for a grant where there is none
 other : Grant

@@ -1,25 +1,30 @@
 -- Every step is asked under number 0, and the record is that of what was asked.
-use Rattle.durable_cell.specs.DurableState.{DurableState}
+use Rattle.cell_base.specs.Plans.{plan_of}
+use Rattle.durable_cell.specs.DurableState.{DurableState, first_parts}
 use Rattle.cell_walks.specs.Allowed.{StandsForAdded}
 use Rattle.cell_walks.specs.DiskTold.{disk_told}
 use Rattle.cell_texts.specs.Recorded.{recorded_outcome}
-use Rattle.cell_commands.proofs.Draining.{asked_under, drained_so, same_opening}
+use Rattle.cell_texts.proofs.AskedSteps.{asked_so, asked_under, same_opening}
+use Rattle.cell_commands.proofs.PlanSteps.{plan_fits}
 use Rattle.cell_commands.proofs.drain.drain_all.Goals as goal
 
 pub record_of-requires : goal.record_of-requires
 record_of-requires g c =
-    asked_under c.args.durable c.ask_steps.new.durable c.ask_steps.ensures.kept.fits c.ask_steps.ensures.admitted
-    c.ask_steps.ensures.drained
+    let durable = c.args.durable in
+    let fits = c.ask_steps.ensures.kept.fits in
+    asked_under (plan_of durable.cell (first_parts durable)) durable c.ask_steps.new.durable fits
+    (plan_fits durable.cell fits (first_parts durable) c.ask_steps.ensures.admitted) c.ask_steps.ensures.drained
 
 pub returns-clause-drained : goal.returns-clause-drained
 returns-clause-drained g c =
-    drained_so c.args.durable c.ask_steps.new.durable c.ask_steps.ensures.drained (recorded_outcome c.record_of.result.recorded)
-    c.record_of.ensures.recorded
+    asked_so (plan_of c.args.durable.cell (first_parts c.args.durable)) c.args.durable c.ask_steps.new.durable
+    c.ask_steps.ensures.drained (recorded_outcome c.record_of.result.recorded) c.record_of.ensures.recorded
 
 pub returns-clause-stands : goal.returns-clause-stands
 returns-clause-stands g c =
     let outcome = recorded_outcome c.record_of.result.recorded in
-    same_opening c.args.durable c.ask_steps.new.durable c.ask_steps.ensures.drained
+    same_opening (plan_of c.args.durable.cell (first_parts c.args.durable)) c.args.durable c.ask_steps.new.durable
+    c.ask_steps.ensures.drained
     (λ (durable : DurableState _). StandsForAdded
     (disk_told g.D.Disk.reads_as g.D.Disk.may_leave g.D.Disk.moment g.D.Disk.left_since g.D.Disk.faults durable.entry
     c.record_of.result.disk) durable.text durable.opening outcome.added outcome.unsure)

@@ -1,4 +1,4 @@
--- The first k passes are dealt, and the seat has the numbers behind them.
+-- The first k passes are dealt, and the seat has the numbers after them.
 use Rattle.std.proofs.Common.{◌≡◌, ◌+◌, ◌-◌, ◌≤◌, []}
 use Rattle.cell_lock.specs.Views.{stock}
 use Rattle.cell_lock.specs.Standing.{new_passes}

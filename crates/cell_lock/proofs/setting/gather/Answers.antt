@@ -1,4 +1,4 @@
--- The last pass that is left takes in those behind it.
+-- The last pass that is left takes in those after it.
 use Rattle.std.proofs.Common.{◌≡◌, ◌+◌, ◌∷◌, [], ◌++◌, ℕ, List, length, length-append, append_assoc, arith, sym, ap, ◌∙◌, subst}
 use Rattle.cell_lock.specs.declared.board.View.{View}
 use Rattle.cell_lock.specs.Views.{AtSeat, gathered, passing}

@@ -1,4 +1,4 @@
--- The passes behind those that are left have come together.
+-- The passes after those that are left have come together.
 use Rattle.std.proofs.Common.{◌≡◌, ◌+◌, ◌++◌, List, [], length}
 use Rattle.cell_lock.specs.Standing.{Standing}
 use Rattle.cell_lock.specs.Steps.{gathering}

@@ -1,4 +1,4 @@
--- The durable cell is in hand, and fits the lock behind the answer.
+-- The durable cell is in hand, and fits the lock after the answer.
 use Rattle.std.proofs.Common.{◌≡◌, ℕ, List, get_or, sym, ap, subst}
 use Rattle.durable_cell.specs.Asked.{Answers}
 use Rattle.durable_cell.specs.DurableState.{DurableState}

@@ -1,4 +1,4 @@
--- The resources so far, and the number behind their draws.
+-- The resources so far, and the number after their draws.
 use Rattle.std.proofs.Common.{◌≡◌, ◌*◌}
 use Rattle.cell_make.specs.Draws.{number_after}
 use Rattle.cell_make.specs.Cells.{drawn_resources}

@@ -1,4 +1,4 @@
--- One place more, by two draws, behind the draw of the length.
+-- One place more, by two draws, after the draw of the length.
 use Rattle.std.proofs.Common.{◌+◌, ◌*◌, ◌++◌, ◌∷◌, [], List, ℕ, length, ap, ap₂, sym, ◌∙◌, arith}
 use Rattle.cell_base.specs.declared.cells.Step.{Step}
 use Rattle.cell_make.specs.Draws.{next_number}

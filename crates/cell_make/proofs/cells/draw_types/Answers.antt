@@ -1,14 +1,14 @@
 -- One type more.
 use Rattle.std.proofs.Common.{◌++◌, ◌∷◌, [], List, ℕ, ap, ap₂, sym, ◌∙◌}
 use Rattle.cell_base.specs.declared.cells.JobType.{JobType}
-use Rattle.cell_make.specs.Cells.{drawn_type, number_behind_type}
-use Rattle.cell_make.proofs.Lists.{types-none, types-more, behind_types-none, behind_types-more}
+use Rattle.cell_make.specs.Cells.{drawn_type, number_after_type}
+use Rattle.cell_make.proofs.Lists.{types-none, types-more, after_types-none, after_types-more}
 use Rattle.cell_make.proofs.cells.draw_types.Goals as goal
 
 pub loop-t-init : goal.loop-t-init
 loop-t-init c = record {
   so_far = c.new-types.ensures ∙ sym (types-none c.args.draws.now.number);
-  after = sym (behind_types-none c.args.draws.now.number);
+  after = sym (after_types-none c.args.draws.now.number);
 }
 
 pub loop-t-preserved : goal.loop-t-preserved
@@ -22,5 +22,5 @@ loop-t-preserved c =
           ∙ ap₂ (λ (list : List JobType) (one : JobType). list ++ one ∷ []) kept.so_far
           (c.in_ok-draw_type.ensures.value ∙ ap (λ (y : ℕ). drawn_type y t) kept.after)
           ∙ sym (types-more x t);
-      after = c.in_ok-draw_type.ensures.after ∙ ap number_behind_type kept.after ∙ sym (behind_types-more x t);
+      after = c.in_ok-draw_type.ensures.after ∙ ap number_after_type kept.after ∙ sym (after_types-more x t);
     }

@@ -6,7 +6,7 @@ use Rattle.cell_base.specs.declared.cells.TypeId.{TypeId}
 use Rattle.cell_base.specs.declared.shifts.Shift.{Shift}
 use Rattle.cell_base.specs.Fits.{CellFits, ShiftFits}
 use Rattle.cell_make.specs.Draws.{number_after}
-use Rattle.cell_make.specs.Cells.{drawn_cell, number_behind_cell}
+use Rattle.cell_make.specs.Cells.{drawn_cell, number_after_cell}
 use Rattle.cell_make.specs.Shifts.{drawn_kinds, shift_of, drawn_shift}
 use Rattle.cell_make.proofs.Lists.{length-kinds}
 use Rattle.cell_make.proofs.CellFit.{cell_fits}
@@ -22,7 +22,7 @@ shift_of-requires-clause-kinds c =
     let drawn = c.as_slice.ensures ∙ c.in_ok-kinds.ensures ∙ ap (λ (y : ℕ). drawn_kinds y 48) c.in_ok-cell.ensures.after in
     subst (λ (cell : Cell). All (λ (kind : TypeId). kind.0 < length cell.types) c.as_slice.result.now) (sym c.in_ok-cell.ensures.value)
     (subst (λ (kinds : List TypeId). All (λ (kind : TypeId). kind.0 < length (drawn_cell x).types) kinds) (sym drawn)
-    (kinds_within (number_after x 32) (number_behind_cell x)))
+    (kinds_within (number_after x 32) (number_after_cell x)))
 
 pub shift_of-requires-clause-few : goal.shift_of-requires-clause-few
 shift_of-requires-clause-few c =

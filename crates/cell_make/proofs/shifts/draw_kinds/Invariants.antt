@@ -1,4 +1,4 @@
--- The types of the jobs so far, and the number behind their draws.
+-- The types of the jobs so far, and the number after their draws.
 use Rattle.std.proofs.Common.{◌≡◌}
 use Rattle.cell_make.specs.Draws.{number_after}
 use Rattle.cell_make.specs.Shifts.{drawn_kinds}

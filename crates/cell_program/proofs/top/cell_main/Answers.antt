@@ -1,7 +1,9 @@
 -- The command promises what its walk does.
 use Rattle.cell_program.proofs.Headlines.{headline}
 use Rattle.cell_program.proofs.Promised.{command_promises, no_journal, none_promises}
-use Rattle.cell_program.specs.Words.{Run}
+use Rattle.standby_commands.proofs.FollowTold.{completes}
+use Rattle.cell_program.proofs.Statuses.{numbered}
+use Rattle.cell_program.specs.Words.{Follow, Run}
 use Rattle.cell_program.proofs.top.cell_main.Goals as goal
 
 pub returns-clause-command : goal.returns-clause-command
@@ -27,3 +29,10 @@ returns-clause-headline g c cell shift journal so =
     (command_promises _ _ c.run_command-status.result.status _ c.reads_an_image.ensures c.run_command-status.ensures.ends
     (Run cell shift journal) so)
     _ c.number.ensures
+
+pub returns-clause-followed : goal.returns-clause-followed
+returns-clause-followed g c cell frames journal so accepts reads serves takes of_one =
+    numbered _ _ c.number.ensures
+    (completes _ _ cell frames c.run_command-status.result.status
+    (command_promises _ _ c.run_command-status.result.status _ c.reads_an_image.ensures c.run_command-status.ensures.ends
+    (Follow cell frames journal) so) accepts reads serves takes of_one)

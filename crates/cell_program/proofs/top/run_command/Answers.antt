@@ -88,3 +88,13 @@ pub returns-in-Some-Parts-clause-ends : goal.returns-in-Some-Parts-clause-ends
 returns-in-Some-Parts-clause-ends g c =
     ends_as _ _ c.run_parts.result.status _ c.in-Some-Parts.field-0 _ c.in-Some-Parts.ensures.written c.in-Some-Parts.field-0-is
     c.run_parts.ensures
+
+pub returns-in-Some-Feed-clause-ends : goal.returns-in-Some-Feed-clause-ends
+returns-in-Some-Feed-clause-ends g c =
+    ends_as _ _ c.run_feed.result.status _ c.in-Some-Feed.field-0 _ c.in-Some-Feed.ensures.written c.in-Some-Feed.field-0-is
+    (rw c.usage-in-Some-Feed.ensures at c.run_feed.ensures)
+
+pub returns-in-Some-Follow-clause-ends : goal.returns-in-Some-Follow-clause-ends
+returns-in-Some-Follow-clause-ends g c =
+    ends_as _ _ c.run_follow.result.status _ c.in-Some-Follow.field-0 _ c.in-Some-Follow.ensures.written c.in-Some-Follow.field-0-is
+    c.run_follow.ensures

@@ -1,4 +1,4 @@
--- The session's step in the table is the grant's request, and the session goes on behind it; or it is another.
+-- The session's step in the table is the grant's request, and the session goes on after it; or it is another.
 use Rattle.std.proofs.Common.{◌+◌, ◌-◌, slice_get, refl, sym, ap, ◌∙◌, arith}
 use Rattle.std.proofs.lemmas.Bool.{false≢true}
 use Rattle.std.proofs.lemmas.Option.{slice_get_within}

@@ -1,7 +1,8 @@
 -- One grant more leads its session on, is another shift's, or is a stray.
 use Rattle.cell_sessions.proofs.Starts.{is_other_shift, one_more, pass_by, reached-none}
 use Rattle.cell_sessions.proofs.beginning.reach.Goals as goal
-use Rattle.cell_sessions.proofs.beginning.reach.Goals.{else-grant-shift-via-then-grant-shift+else-not-lead_on, else-grant-shift-via-else-grant-shift}
+use Rattle.cell_sessions.proofs.beginning.reach.Goals.{else-grant-shift-via-then-grant-shift+else-not-lead_on}
+use Rattle.cell_sessions.proofs.beginning.reach.Goals.{else-grant-shift-via-else-grant-shift}
 
 pub loop-grant-init : goal.loop-grant-init
 loop-grant-init c = reached-none c.args.shift.now 64 c.begin_at-reached.result c.begin_at-reached.ensures

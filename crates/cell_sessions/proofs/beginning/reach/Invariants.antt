@@ -1,4 +1,4 @@
--- The sessions stand behind the grants so far.
+-- The sessions stand after the grants so far.
 use Rattle.std.proofs.Common.{take}
 use Rattle.cell_sessions.specs.Starting.{IsReached}
 use Rattle.cell_sessions.proofs.beginning.reach.Given as goal

@@ -1,7 +1,7 @@
 -- A script is no longer than all together.
 use Rattle.std.proofs.Common.{length, arith}
 use Rattle.cell_base.specs.Fits.{steps_of}
-use Rattle.cell_sessions.proofs.Counting.{length-script-le}
+use Rattle.solo_rounds.proofs.Counting.{length-script-le}
 use Rattle.cell_sessions.proofs.Sessions.{asks-le}
 use Rattle.cell_sessions.proofs.run.run_at.Goals as goal
 

@@ -3,8 +3,8 @@ use Rattle.std.proofs.Common.{◌≡◌, List, Some, slice_get, subst, arith}
 use Rattle.cell_base.specs.declared.requests.Request.{Request}
 use Rattle.cell_base.specs.Scripts.{HasEnded, Progress}
 use Rattle.cell_lock.specs.Standing.{Asked}
-use Rattle.cell_sessions.proofs.Counting.{left_of-falls}
-use Rattle.cell_sessions.proofs.Going.{step_left, patience_left, within_next}
+use Rattle.solo_rounds.proofs.Counting.{script_asks_left-falls}
+use Rattle.solo_rounds.proofs.Going.{step_left, patience_left, within_next}
 use Rattle.cell_sessions.proofs.Sessions.{Asks, answered, faulted}
 use Rattle.cell_sessions.proofs.session.run_session.Goals as goal
 
@@ -32,7 +32,7 @@ asks-preserved g c =
       name = c.ask.ensures.same;
       seen = c.ask.ensures.seen;
     } in
-    let fewer = left_of-falls script patience at c.after-at.result c.in-Ok.reply step patient goes in
+    let fewer = script_asks_left-falls script patience at c.after-at.result c.in-Ok.reply step patient goes in
     record {
       run = answered script patience c.args.start asks c.in-Ok.reply c.after-at.result c.in-Ok.ensures.answer goes;
       within = within_next script patience at i.within going c.after-at.result c.in-Ok.reply goes;
@@ -46,7 +46,7 @@ asks-smaller g c =
     let at : Progress = c.asks.at in
     let i = c.asks.invariant in
     let going : HasEnded script patience at → ⊥ = λ ended. let yes = c.has_ended.ensures.1 ended in let no = c.asks-test in (cc) in
-    left_of-falls script patience at c.after-at.result c.in-Ok.reply (step_left script patience at i.within going)
+    script_asks_left-falls script patience at c.after-at.result c.in-Ok.reply (step_left script patience at i.within going)
     (patience_left script patience at i.within going) c.after-at.ensures
 
 pub returns-in_default : goal.returns-in_default

@@ -3,7 +3,7 @@ use Rattle.std.specs.Prelude.{IfSome, Ok, Err}
 use Rattle.std.proofs.Common.{◌≡◌, ◌⊎◌, List, ℕ, refl, subst}
 use Rattle.durable_cell.specs.Made.{IsUnmade}
 use Rattle.durable_cell.specs.Openings.{fresh}
-use Rattle.durable_cell.specs.Replayed.{opened_as}
+use Rattle.shift_recovery.specs.Replayed.{opened_as}
 use Rattle.shift_recovery.specs.Reads.{OnlyReads}
 use Rattle.cell_walks.specs.Allowed.{OpeningFailed, OpeningRefused, OpeningStarved}
 use Rattle.cell_texts.proofs.Disks.{adds_nothing, only_read}

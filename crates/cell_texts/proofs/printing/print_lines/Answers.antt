@@ -1,4 +1,4 @@
--- One more line was taken, or the sink failed at it; behind the last one all were.
+-- One more line was taken, or the sink failed at it; after the last one all were.
 use Rattle.std.proofs.Common.{ℕ, List, arith, subst, ◌∙◌}
 use Rattle.std.proofs.lemmas.List.{drop_all, map-id}
 use Rattle.outside_io.specs.Puts.{SinkTold, TookAll, TookSome, sink_told}

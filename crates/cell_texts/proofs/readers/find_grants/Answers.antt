@@ -1,7 +1,7 @@
 -- The bytes are refused.
 use Rattle.std.proofs.Common.{◌≡◌, List, ℕ, Err, subst}
 use Rattle.std.specs.Prelude.{IfSome}
-use Rattle.durable_cell.specs.Replayed.{opened_as}
+use Rattle.shift_recovery.specs.Replayed.{opened_as}
 use Rattle.durable_cell.specs.declared.replays.TheConstants.{MAX_ROOM}
 use Rattle.cell_walks.specs.Allowed.{OpeningRefused}
 use Rattle.cell_texts.proofs.Disks.{only_read}

@@ -11,7 +11,7 @@ use Rattle.drain_planner.proofs.plans.plan.Goals.{in-Some+in_ok-try_push, in_def
 abbrev plan_at : CoreState → List Request
 plan_at state = plan_of state.cell state.parts
 
--- the first step of what is left goes behind the steps so far
+-- the first step of what is left goes after the steps so far
 step_on : (made left all rest : List Request) (step : Request) → made ++ left ≡ all → left ≡ step ∷ rest
     → (made ++ step ∷ []) ++ rest ≡ all
 step_on made left all rest step whole first = append_assoc made (step ∷ []) rest ∙ sym (ap (λ xs. made ++ xs) first) ∙ whole

@@ -1,4 +1,4 @@
--- The steps so far, and behind them the plan of the present state, are the whole plan.
+-- The steps so far, and after them the plan of the present state, are the whole plan.
 use Rattle.std.proofs.Common.{◌≡◌, ◌++◌, length}
 use Rattle.cell_base.specs.Plans.{plan_of}
 use Rattle.drain_planner.proofs.plans.plan.Given as goal

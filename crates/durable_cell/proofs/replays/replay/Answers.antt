@@ -2,8 +2,8 @@
 use Rattle.std.specs.Prelude.{None}
 use Rattle.std.proofs.Common.{◌≡◌, ◌+◌, [], length, ap, ◌∙◌, arith}
 use Rattle.std.proofs.lemmas.List.{drop_all}
-use Rattle.durable_cell.specs.Replayed.{first_stray}
-use Rattle.durable_cell.proofs.Replaying.{none_strays}
+use Rattle.shift_recovery.specs.Replayed.{first_stray}
+use Rattle.shift_recovery.proofs.Replaying.{none_strays}
 use Rattle.durable_cell.proofs.replays.replay.Goals as goal
 
 pub returns-clause-due : goal.returns-clause-due

@@ -1,7 +1,7 @@
 -- The grants from the present one on stray where all do, and lead to the same state.
 use Rattle.std.proofs.Common.{◌≡◌, ◌+◌, ◌*◌, [], length, drop}
 use Rattle.cell_base.specs.Histories.{after_requests, requests_of}
-use Rattle.durable_cell.specs.Replayed.{first_stray}
+use Rattle.shift_recovery.specs.Replayed.{first_stray}
 use Rattle.durable_cell.proofs.replays.replay.Given as goal
 
 abbrev pub invariant-loop-grant : goal.invariant-loop-grant

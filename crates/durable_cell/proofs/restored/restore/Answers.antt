@@ -3,8 +3,9 @@ use Rattle.std.proofs.Common.{◌∙◌, sym, ap}
 use Rattle.outside_io.specs.Telling.{told}
 use Rattle.cell_base.specs.declared.cells.Cell.{Cell}
 use Rattle.admission_core.specs.CoreState.{CoreState}
-use Rattle.durable_cell.specs.Replayed.{replayed, replayed_reading}
-use Rattle.durable_cell.proofs.Replaying.{stands_opened, replay_found}
+use Rattle.shift_recovery.specs.Replayed.{replayed, replayed_reading}
+use Rattle.durable_cell.proofs.Replaying.{replay_found}
+use Rattle.shift_recovery.proofs.Replaying.{stands_opened}
 use Rattle.durable_cell.proofs.restored.restore.Goals as goal
 
 pub returns-in-Fresh-clause-stands : goal.returns-in-Fresh-clause-stands

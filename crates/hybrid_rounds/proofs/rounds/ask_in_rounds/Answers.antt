@@ -3,7 +3,7 @@ use Rattle.std.proofs.Common.{◌+◌, ◌∙◌, refl, ap₂, List}
 use Rattle.cell_base.specs.declared.cells.Cell.{Cell}
 use Rattle.cell_base.specs.declared.requests.Part.{Part}
 use Rattle.banker_check.specs.HybridState.{HybridState}
-use Rattle.cell_sessions.proofs.Counting.{ready_at_start}
+use Rattle.solo_rounds.proofs.Counting.{ready_at_start}
 use Rattle.hybrid_rounds.proofs.Turning.{begin, finish}
 use Rattle.hybrid_rounds.proofs.rounds.ask_in_rounds.Goals as goal
 

@@ -1,6 +1,6 @@
--- The rounds are under way, with fewer asks left behind each.
+-- The rounds are under way, with fewer asks left after each.
 use Rattle.std.proofs.Common.{◌≡◌, ℕ}
-use Rattle.cell_sessions.specs.Underway.{IsReady, asks_left}
+use Rattle.solo_rounds.specs.Underway.{IsReady, asks_left}
 use Rattle.hybrid_rounds.specs.Underway.{IsUnderway}
 use Rattle.hybrid_rounds.proofs.rounds.ask_in_rounds.Given as goal
 

@@ -2,8 +2,8 @@
 use Rattle.std.proofs.Common.{ℕ, List, ◌<◌, ◌+◌, ◌∙◌, sym, arith}
 use Rattle.std.proofs.lemmas.Bool.{true≢false, OnTrue_at, OnTrue_from, OnFalse_at, OnFalse_from}
 use Rattle.cell_base.specs.Scripts.{Progress}
-use Rattle.cell_sessions.specs.Underway.{HaveEnded, asks_left}
-use Rattle.cell_sessions.proofs.Turns.{HaveEnded-more, OnFalse-map}
+use Rattle.solo_rounds.specs.Underway.{HaveEnded, asks_left}
+use Rattle.solo_rounds.proofs.Turns.{HaveEnded-more, OnFalse-map}
 use Rattle.hybrid_rounds.proofs.Turning.{turn_over}
 use Rattle.hybrid_rounds.proofs.rounds.play_round.Goals as goal
 use Rattle.hybrid_rounds.proofs.rounds.play_round.Goals.{then-take_turn, else-take_turn}

@@ -2,7 +2,7 @@
 use Rattle.std.proofs.Common.{◌≡◌, ◌<◌, ◌≤◌, ℕ, List}
 use Rattle.std.specs.Bool.{OnTrue, OnFalse}
 use Rattle.cell_base.specs.declared.requests.Part.{Part}
-use Rattle.cell_sessions.specs.Underway.{IsReady, HaveEnded, asks_left}
+use Rattle.solo_rounds.specs.Underway.{IsReady, HaveEnded, asks_left}
 use Rattle.hybrid_rounds.specs.Underway.{IsUnderway}
 use Rattle.hybrid_rounds.proofs.rounds.play_round.Given as goal
 

@@ -1,11 +1,11 @@
--- The session goes on: its step is there, there is room, and the rounds are under way behind its ask.
+-- The session goes on: its step is there, there is room, and the rounds are under way after its ask.
 use Rattle.std.proofs.Common.{ap, arith}
 use Rattle.std.proofs.lemmas.Bool.{false≢true}
 use Rattle.cell_base.specs.Fits.{RequestFits}
 use Rattle.policy_laws.proofs.Lists.{All-slice_get}
 use Rattle.banker_check.specs.HybridState.{HybridState}
-use Rattle.cell_sessions.proofs.Counting.{length-script-le, script_fits}
-use Rattle.cell_sessions.proofs.Going.{goes_on, room_for_ask, asks_left-falls, ready_next}
+use Rattle.solo_rounds.proofs.Counting.{length-script-le, script_fits}
+use Rattle.solo_rounds.proofs.Going.{goes_on, room_for_ask, asks_left-falls, ready_next}
 use Rattle.hybrid_rounds.proofs.Asking.{asks}
 use Rattle.hybrid_rounds.proofs.rounds.take_turn.Goals as goal
 

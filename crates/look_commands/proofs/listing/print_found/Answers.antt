@@ -1,4 +1,4 @@
--- The sink failed in the history or behind it, or took the whole block.
+-- The sink failed in the history or after it, or took the whole block.
 use Rattle.std.proofs.Common.{◌∙◌, List, length, ap, subst}
 use Rattle.std.proofs.lemmas.Result.{on_err_weaker, on_ok_weaker}
 use Rattle.outside_io.specs.Puts.{TookAll, TookSome, sink_told}

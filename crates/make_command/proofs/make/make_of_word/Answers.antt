@@ -6,7 +6,7 @@ use Rattle.cell_walks.specs.Outcomes.{done, early}
 use Rattle.cell_walks.specs.Walks.{refusal_of}
 use Rattle.cell_walks.specs.declared.early_end.EarlyEnd.TheVariants.{Refused, WantOfMemory}
 use Rattle.step_text.specs.Words.{number_of}
-use Rattle.make_command.specs.Numbers.{number}
+use Rattle.cell_texts.specs.Numbers.{number}
 use Rattle.make_command.specs.Summaries.{summary_lines}
 use Rattle.make_command.proofs.Making.{make_done, make_starved, make_unread}
 use Rattle.make_command.proofs.make.make_of_word.Goals as goal

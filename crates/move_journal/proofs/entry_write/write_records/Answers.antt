@@ -1,4 +1,4 @@
--- The write begins behind the closed gate, so no image counts its bytes.
+-- The write begins after the closed gate, so no image counts its bytes.
 use Rattle.std.proofs.Common.{◌-◌, List, ℕ, length, take, drop}
 use Rattle.std.proofs.lemmas.List.{take_rest}
 use Rattle.outside_io.specs.Moments.{widened}

@@ -1,8 +1,8 @@
 -- The row knows the places from the present one on.
 use Rattle.std.proofs.Common.{◌≡◌, length}
 use Rattle.cell_base.specs.declared.limits.TheConstants.{MAX_PLACES}
-use Rattle.plain_recount.specs.Leading.{KnowsBehind}
+use Rattle.plain_recount.specs.Leading.{KnowsAfter}
 use Rattle.plain_recount.proofs.sweep.sweep.Given as goal
 
 abbrev pub invariant-loop-place : goal.invariant-loop-place
-invariant-loop-place l = (length l.row ≡ MAX_PLACES) × KnowsBehind l.cell l.r.0 l.kind.0 l.place l.row
+invariant-loop-place l = (length l.row ≡ MAX_PLACES) × KnowsAfter l.cell l.r.0 l.kind.0 l.place l.row

@@ -1,5 +1,5 @@
 -- The law is proved as a lemma of that name.
-use Rattle.policy_laws.proofs.Numbering.{numbering_law as law}
+use Rattle.cell_base.proofs.Numbering.{numbering_law as law}
 use Rattle.policy_laws.proofs.laws.numbering_law.Goals as goal
 
 pub returns : goal.returns

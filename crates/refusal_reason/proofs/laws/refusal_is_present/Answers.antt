@@ -4,7 +4,8 @@ use Rattle.cell_base.specs.declared.cells.Cell.{Cell}
 use Rattle.cell_base.specs.declared.requests.Part.{Part}
 use Rattle.cell_base.specs.declared.requests.Request.{Request}
 use Rattle.cell_base.specs.declared.requests.Refusal.{Refusal}
-use Rattle.cell_base.specs.declared.requests.Refusal.TheVariants.{JobLoaded, NoSuchJob, NotProcessed, AtLast, NotLast, Idle, Saturated, NoBranch}
+use Rattle.cell_base.specs.declared.requests.Refusal.TheVariants.{JobLoaded, NoSuchJob, NotProcessed, AtLast}
+use Rattle.cell_base.specs.declared.requests.Refusal.TheVariants.{NotLast, Idle, Saturated, NoBranch}
 use Rattle.cell_base.specs.declared.requests.Reply.TheVariants.{Refused}
 use Rattle.cell_base.specs.Outcomes.{reply_to}
 use Rattle.cell_base.specs.Policy.{IsAdmitted}
@@ -15,7 +16,8 @@ use Rattle.refusal_reason.proofs.laws.refusal_is_present.Goals as goal
 
 present : (cell : Cell) → CellFits cell → (parts : List Part) → IsAdmitted cell parts → (request : Request) → RequestFits cell request
     → (why : Refusal) → reply_to cell parts request ≡ Refused why → IsPresent cell parts why
-present cell fits parts admitted request fit (Saturated at held units) e = saturation_law cell fits parts admitted request fit at held units e
+present cell fits parts admitted request fit (Saturated at held units) e =
+    saturation_law cell fits parts admitted request fit at held units e
 present cell fits parts admitted request fit JobLoaded e = tt
 present cell fits parts admitted request fit NoSuchJob e = tt
 present cell fits parts admitted request fit NotProcessed e = tt
@@ -26,5 +28,6 @@ present cell fits parts admitted request fit NoBranch e = tt
 
 pub returns : goal.returns
 returns c =
-    present c.args.core.now.cell c.cell-cell.ensures.fits c.args.core.now.parts c.cell-cell.ensures.admitted c.args.request.now c.requires.request
+    present c.args.core.now.cell c.cell-cell.ensures.fits c.args.core.now.parts c.cell-cell.ensures.admitted c.args.request.now
+    c.requires.request
     c.args.refusal.now c.requires.refused

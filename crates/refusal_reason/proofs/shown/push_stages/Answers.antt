@@ -13,6 +13,6 @@ loop-stage-preserved c =
     let line : StageNo → List ℕ = λ stage. stage_line table (stage_numbered table stage.0) in
     let here : StageNo = get_or c.args.stages.now c.loop-stage.stage-index none in
     c.in_ok-try_append.ensures.ok
-    ∙ ap (λ (bytes : List ℕ). c.loop-stage.text ++ bytes) (c.bytes.ensures.value ∙ c.stage_line.ensures)
+    ∙ ap (λ (bytes : List ℕ). c.loop-stage.text ++ bytes) (c.bytes.ensures.value ∙ c.write_stage.ensures)
     ∙ ap (λ (text : List ℕ). text ++ line here) c.loop-stage.invariant
     ∙ sym (concat_more line c.args.stages.now c.loop-stage.stage-index none c.args.text.now c.loop-stage-test.true)

@@ -8,4 +8,5 @@ use Rattle.refusal_reason.proofs.shown.push_stages.Given as goal
 
 abbrev pub invariant-loop-stage : goal.invariant-loop-stage
 invariant-loop-stage l =
-    l.text ≡ l.fn.text ++ concat (map (λ (stage : StageNo). stage_line l.table (stage_numbered l.table stage.0)) (take l.stage-index l.stages))
+    l.text ≡ l.fn.text ++ concat
+    (map (λ (stage : StageNo). stage_line l.table (stage_numbered l.table stage.0)) (take l.stage-index l.stages))

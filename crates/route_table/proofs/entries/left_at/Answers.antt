@@ -1,7 +1,7 @@
--- The steps at a stage are those at the stage behind it by branch 0, and its arrival and work there.
+-- The steps at a stage are those at the stage after it by branch 0, and its arrival and work there.
 use Rattle.std.proofs.Common.{sym, arith}
 use Rattle.cell_base.specs.Stages.{stage}
-use Rattle.policy_laws.proofs.Walks.{work_from-next, work_from-last, work_from-few, work_at-le}
+use Rattle.cell_base.proofs.Walks.{work_from-next, work_from-last, work_from-few, work_at-le}
 use Rattle.route_table.proofs.entries.left_at.Goals as goal
 
 pub overflow_add-result : goal.overflow_add-result

@@ -1,4 +1,4 @@
--- The steps so far are granted, and the parts are those behind them.
+-- The steps so far are granted, and the parts are those after them.
 use Rattle.std.proofs.Common.{◌≡◌, ℕ, ◌<◌, None, true, take}
 use Rattle.cell_base.specs.Histories.{after_requests, all_granted}
 use Rattle.shift_checker.specs.Judging.{judge_step}

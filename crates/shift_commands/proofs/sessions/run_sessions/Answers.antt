@@ -7,7 +7,7 @@ use Rattle.cell_base.specs.Histories.{entries_of}
 use Rattle.cell_base.specs.Scripts.{Progress, script_of}
 use Rattle.cell_lock.specs.Standing.{AreAll, Standing}
 use Rattle.cell_sessions.specs.Starting.{AreBegun}
-use Rattle.cell_sessions.specs.Underway.{IsWithinScript, progress_at}
+use Rattle.solo_rounds.specs.Underway.{IsWithinScript, progress_at}
 use Rattle.shift_commands.proofs.RunSessions.{all_new, begun_within, after_sessions}
 use Rattle.shift_commands.proofs.sessions.run_sessions.Goals as goal
 
@@ -22,7 +22,8 @@ run_shift-requires-clause-passes g c κs inside =
 
 pub run_shift-requires-clause-sessions : goal.run_shift-requires-clause-sessions
 run_shift-requires-clause-sessions g c κs inside = (
-  ap length c.as_mut_slice.ensures.value ∙ (all_new g.D.Disk.moment c.args.cell c.args.passes c.requires.passes.0).count ∙ c.requires.passes.1,
+  ap length c.as_mut_slice.ensures.value ∙ (all_new g.D.Disk.moment c.args.cell c.args.passes c.requires.passes.0).count
+      ∙ c.requires.passes.1,
   ap length c.as_slice.ensures ∙ c.requires.begun.count,
 )
 
@@ -45,7 +46,8 @@ pub returns-clause-after : goal.returns-clause-after
 returns-clause-after g c =
     let back = refilled c.args.passes c.run_shift.new.passes
     (c.run_shift.ensures.passes.count ∙ sym (all_new g.D.Disk.moment c.args.cell c.args.passes c.requires.passes.0).count) in
-    after_sessions g.D.Disk.moment c.args.shift.now c.args.cell c.as_slice.result.now c.as_mut_slice.result.now c.run_shift.new.passes c.close.result
+    after_sessions g.D.Disk.moment c.args.shift.now c.args.cell c.as_slice.result.now c.as_mut_slice.result.now c.run_shift.new.passes
+    c.close.result
     c.requires.limit c.requires.number (c.as_mut_slice.ensures.value ∙ c.requires.passes.0) c.requires.passes.1
     (subst (λ (progress : List Progress). AreBegun c.args.shift.now c.args.cell.opening.grants progress) (sym c.as_slice.ensures)
     c.requires.begun)

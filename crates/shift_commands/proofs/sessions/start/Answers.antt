@@ -1,7 +1,7 @@
 -- The sessions start, or some grants are another shift's.
 use Rattle.std.proofs.Common.{List, Result, sym, subst}
 use Rattle.cell_base.specs.declared.shifts.Grant.{Grant}
-use Rattle.cell_base.specs.Starts.{AreStarted, IsOtherShift}
+use Rattle.cell_base.specs.Starts.{AreFirstSteps, IsOtherShift}
 use Rattle.cell_walks.specs.DiskTold.{disk_told}
 use Rattle.cell_walks.specs.declared.early_end.EarlyEnd.{EarlyEnd}
 use Rattle.cell_texts.specs.declared.recorded.Recorded.{Recorded}
@@ -10,7 +10,7 @@ use Rattle.shift_commands.proofs.sessions.start.Goals as goal
 
 pub share-requires-clause-started : goal.share-requires-clause-started
 share-requires-clause-started g c κs inside =
-    subst (AreStarted c.args.shift.now) c.opening.ensures c.in-Ok.ensures.started
+    subst (AreFirstSteps c.args.shift.now) c.opening.ensures c.in-Ok.ensures.started
 
 pub returns-in-Err-OtherShift-clause-started : goal.returns-in-Err-OtherShift-clause-started
 returns-in-Err-OtherShift-clause-started g c =

@@ -1,6 +1,6 @@
 -- The cell is read, then the shift, and then the shift runs.
 use Rattle.cell_texts.specs.Tests.{known}
-use Rattle.shift_commands.proofs.Soloing.{solo_ran, solo_starved, solo_unread, solo_without_shift}
+use Rattle.shift_commands.proofs.Soloing.{run_fits, solo_ran, solo_starved, solo_unread, solo_without_shift}
 use Rattle.shift_commands.proofs.solo.solo_of_files.Goals as goal
 
 pub returns-clause-allowed : goal.returns-clause-allowed
@@ -25,3 +25,8 @@ pub returns-in-Ok-read_shift-clause-allowed : goal.returns-in-Ok-read_shift-clau
 returns-in-Ok-read_shift-clause-allowed g c =
     solo_starved g.F.Files.holds g.F.Files.is_sound g.F.Files.faults c.args.cell.now c.args.shift.now c.args.files.now
     c.read_cell.new.files c.read_shift.new.files (known c.in-Ok.held) c.in-Ok.ensures.read c.in-Ok.ensures.same
+
+pub returns-in-Ok-run_rounds-clause-fits : goal.returns-in-Ok-run_rounds-clause-fits
+returns-in-Ok-run_rounds-clause-fits g c =
+    run_fits c.in-Ok.held.cell c.in-Ok-read_shift.shift c.in-Ok-run_rounds.ran c.in-Ok-run_rounds.ensures.run c.in-Ok.ensures.fits
+    c.in-Ok-read_shift.ensures.fits

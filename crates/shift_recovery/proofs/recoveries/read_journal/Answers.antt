@@ -1,4 +1,4 @@
--- The first piece has the head, the text is compared behind it, and the gates behind that.
+-- The first piece has the head, the text is compared after it, and the gates after that.
 use Rattle.std.specs.Prelude.{Ok, Err, slice_index}
 use Rattle.std.proofs.Common.{◌≡◌, ◌+◌, ◌-◌, ◌<◌, ◌≤◌, ◌∙◌, ℕ, List, min, length, take, drop, ap, sym, subst, arith}
 use Rattle.move_journal.specs.declared.blank.BlankForm.TheVariants.{Short}
@@ -12,7 +12,8 @@ use Rattle.shift_recovery.specs.declared.recoveries.Reading.TheVariants as readi
 use Rattle.shift_recovery.specs.Opening.{IsReading}
 use Rattle.shift_recovery.specs.Windows.{IsTextEnd}
 use Rattle.shift_recovery.specs.Walked.{IsWalkFrom}
-use Rattle.shift_recovery.proofs.HeadReading.{head_file, short_head, form_is, open_fits, reads_by_head, other_text, same_text_then, no_difference, gate_behind}
+use Rattle.shift_recovery.proofs.HeadReading.{head_file, short_head, form_is, open_fits, reads_by_head}
+use Rattle.shift_recovery.proofs.HeadReading.{other_text, same_text_then, no_difference, gate_after}
 use Rattle.shift_recovery.proofs.OpenHeads.{journal_found, open_small}
 use Rattle.shift_recovery.specs.Readings.{head_of}
 use Rattle.shift_recovery.proofs.Ends.{walk_back}
@@ -106,7 +107,7 @@ returns-in-Closed-clause-exact g c =
     let walked_file = told _ _ file (c.in_ok-at.ensures.reads.same ∙ is_3) walked.1 in (
       reads_by_head file c.args.cell_text.now c.args.room (Open c.from-size.result) head
           ∙ same_text_then file c.args.cell_text.now c.args.room c.from-size.result (Ok c.in-Closed.grants) none walked_file,
-      gate_behind file c.args.cell_text.now c.from-size.result c.in-Closed.gate c.in-Closed.grants fits none walked.0,
+      gate_after file c.args.cell_text.now c.from-size.result c.in-Closed.gate c.in-Closed.grants fits none walked.0,
       journal_found file c.in_ok-kept.kept.items _ c.args.cell_text.now c.in_ok-len.len c.from-size.result c.in-Closed.grants
           (told _ _ file (c.len.ensures.same ∙ c.sync.ensures.same ∙ is) c.in_ok-kept.ensures.bytes)
           (omega (arith, c.in_ok-kept.ensures.longer, fits, told _ _ file (c.sync.ensures.same ∙ is) c.in_ok-len.ensures.len))

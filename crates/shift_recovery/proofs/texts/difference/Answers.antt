@@ -2,7 +2,8 @@
 use Rattle.std.proofs.Common.{◌+◌, ◌∙◌}
 use Rattle.shift_recovery.proofs.Differences.{ended, differs}
 use Rattle.shift_recovery.proofs.texts.difference.Goals as goal
-use Rattle.shift_recovery.proofs.texts.difference.Goals.{then-index-text-via-then-index-text, then-index-text-via-else-index-text+then-byte-text}
+use Rattle.shift_recovery.proofs.texts.difference.Goals.{then-index-text-via-then-index-text}
+use Rattle.shift_recovery.proofs.texts.difference.Goals.{then-index-text-via-else-index-text+then-byte-text}
 
 pub returns-then-index-text-clause-some : goal.returns-then-index-text-clause-some
 returns-then-index-text-clause-some c more =

@@ -45,7 +45,7 @@ returns-then-len-room-clause-walked g c =
     (gate_known file c.gates.kept.items c.deref.result.now c.gates.gate c.gates.at c.gates.used c.args.len _
     c.deref.ensures.value (told _ _ file is v.shows) c.in-Some-Ok-Some.ensures.found ∙ is_grant)))
 
--- the window holds the gate, the record and the gate behind it
+-- the window holds the gate, the record and the gate after it
 long_window : (kept seen : List ℕ) (used : ℕ) → seen ≡ kept → 18 ≤ length (take (length seen - used) (drop used seen))
     → used + 18 ≤ length kept
 long_window kept seen used is long =

@@ -1,4 +1,4 @@
--- So far grants were found, and what is found from the gate on comes behind them.
+-- So far grants were found, and what is found from the gate on comes after them.
 use Rattle.std.specs.Prelude.{IfSome}
 use Rattle.std.proofs.Common.{◌≡◌, ◌+◌, ◌-◌, ◌*◌, ◌≤◌, length, drop}
 use Rattle.shift_recovery.specs.Readings.{grants_from}

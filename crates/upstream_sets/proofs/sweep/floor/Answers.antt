@@ -12,7 +12,12 @@ pub loop-r-preserved : goal.loop-r-preserved
 loop-r-preserved c =
     let test = λ (q : ℕ). nat_le c.args.least (order_of c.args.table.now q) in
     let r = c.loop-r.r in
-    let fit : r < 64 = omega (arith, c.cell.ensures.fits.resource_count.1, c.len-r-end.ensures, ap (λ (cell : Cell). length cell.resources) c.cell.ensures.value) in
+    let fit : r < 64 = omega (
+      arith,
+      c.cell.ensures.fits.resource_count.1,
+      c.len-r-end.ensures,
+      ap (λ (cell : Cell). length cell.resources) c.cell.ensures.value,
+    ) in
     elim c.if-least-order_of.branch [
       | then-least-order_of w ↦
           let order : c.args.least ≤ order_of c.args.table.now r = omega arith in

@@ -20,5 +20,6 @@ returns c =
     c.from.ensures
     ∙ c.remaining.ensures
     ∙ ap (λ n. work_from cell (stage_numbered cell n) c.args.part.done) c.number-stage.ensures
-    ∙ ap (λ s. work_from cell s c.args.part.done) ((numbering_law cell).numbered s (subst (λ cell. IsStage cell s) (sym c.self.view_is) c.requires))
+    ∙ ap (λ s. work_from cell s c.args.part.done)
+    ((numbering_law cell).numbered s (subst (λ cell. IsStage cell s) (sym c.self.view_is) c.requires))
     ∙ ap (λ cell. work_of cell c.args.part) c.self.view_is

@@ -12,7 +12,7 @@ mask-requires c =
     omega (
       arith,
       c.number-stage.ensures,
-      ap length c.self.invariant,
+      ap length c.self.invariant.0,
       stage_has_mask cell s (subst (λ cell. IsStage cell s) (sym c.self.view_is) c.requires),
     )
 
@@ -21,7 +21,7 @@ returns c =
     let cell = c.self.inside.stages in
     let s = stage_of c.args.part in
     c.mask.ensures.mask
-    ∙ ap (λ (masks : List ℕ). get_or masks c.number-stage.result.0 0) c.self.invariant
+    ∙ ap (λ (masks : List ℕ). get_or masks c.number-stage.result.0 0) c.self.invariant.0
     ∙ ap (λ n. get_or (masks_of cell) n 0) c.number-stage.ensures
     ∙ mask_at_stage cell s (subst (λ cell. IsStage cell s) (sym c.self.view_is) c.requires)
     ∙ ap (λ cell. mask_of cell s) c.self.view_is

@@ -1,9 +1,12 @@
 -- What the pass knows is what the durable cell in its hand answered.
-use Rattle.std.proofs.Common.{◌∙◌, subst}
+use Rattle.std.proofs.Common.{◌≡◌, ℕ, ◌≤◌, ◌∙◌, ap, subst}
 use mathlib.Core.List.{IsPrefix}
 use Rattle.durable_cell.specs.DurableState.{DurableState}
-use Rattle.cell_lock.specs.Views.{held_of}
-use Rattle.cell_lock.specs.Standing.{Standing}
+use Rattle.cell_lock.specs.declared.board.Opening.{Opening}
+use Rattle.cell_lock.specs.Openings.{WhereTold}
+use Rattle.cell_lock.specs.Views.{held_of, moment_of}
+use Rattle.cell_lock.specs.Standing.{LockId, Standing}
+use Rattle.cell_lock.proofs.Acknowledging.{no_later}
 use Rattle.cell_lock.proofs.Asking.{asked_seen}
 use Rattle.cell_lock.proofs.shared_cell.SharedCell.ask.Goals as goal
 
@@ -25,3 +28,18 @@ give_turn-requires-clause-safe g c =
       c.ask_held-answer.ensures.taken ∙ safe.1,
       λ then count had. c.ask_held-answer.ensures.disk.still then count (safe.2 then count had),
     )
+
+pub returns-clause-moment : goal.returns-clause-moment
+returns-clause-moment g c =
+    let first : DurableState g.row.D.Denot = c.self.inside.table.shared.key.durable.value in
+    let me = c.ask_held-answer.new.seat.me in
+    let b : DurableState g.row.D.Denot = held_of first me in
+    let opening : me.0.opening ≡ c.args.self.now.opening =
+    c.ask_held-answer.ensures.same.opening ∙ c.take_turn.ensures.same.opening
+    ∙ ap (λ (s : Standing g.row.D.Denot). s.lock.opening) c.pass.view_is
+    ∙ ap (λ (l : LockId g.row.D.Denot). l.opening) c.requires.lock in
+    let stands = c.ask_held-answer.ensures.disk.still _ _ c.take_turn.ensures.stands in
+    let later = no_later g.D.Disk.reads_as g.D.Disk.moment g.D.Disk.left_since me.0.opening b _ _ _ c.ask_held-answer.ensures.holds.1.same
+    c.ask_held-answer.ensures.tells stands c.give_turn.ensures.moment in
+    subst (λ (z : Opening g.row.D.Denot × ℕ). WhereTold g.D.Disk.reads_as z.0 (z.1 ≤ moment_of c.give_turn.new.seat.me.0))
+    (λ i. (opening i, (c.pass.view_is i).moment)) later

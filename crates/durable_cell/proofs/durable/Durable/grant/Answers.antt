@@ -34,7 +34,8 @@ invariant_of-self g c =
     let core_is = c.apply.ensures
     ∙ ap (λ (k : CoreState). after k) v.2.state in
     let more = seen_more i.entry i.found old.entry old.found i.core c.apply.new.self i.text i.journal c.append.new.self i.opening
-    i.history.items c.push-in-Ok.new.self.items i.added.items c.push.new.self.items i.unsure i.unsure i.limit grant.shift e v.2.first v.2.second
+    i.history.items c.push-in-Ok.new.self.items i.added.items c.push.new.self.items i.unsure i.unsure i.limit grant.shift e
+    v.2.first v.2.second
     (ap (λ (k : CoreState). k.cell) c.apply.ensures)
     (c.push-in-Ok.ensures.items ∙ ap (λ (x : Entry). i.history.items ++ x ∷ []) c.entry.ensures) c.push.ensures.items goes.none in
     subst (λ (d : DurableState _). Keeps g.D.Disk.reads_as g.D.Disk.may_leave g.D.Disk.moment g.D.Disk.left_since g.D.Disk.faults d
@@ -92,7 +93,8 @@ returns-in-Ok-clause-answer g c =
     let e : Entry = entry grant.session grant.request (Answered Granted) in
     let goes = goes_before old c.args.self.now grant.request v.0 c.self.view_is c.requires.goes_on c.requires.granted in
     let more = seen_more i.entry i.found old.entry old.found i.core c.apply.new.self i.text i.journal c.append.new.self i.opening
-    i.history.items c.push-in-Ok.new.self.items i.added.items c.push.new.self.items i.unsure i.unsure i.limit grant.shift e v.2.first v.2.second
+    i.history.items c.push-in-Ok.new.self.items i.added.items c.push.new.self.items i.unsure i.unsure i.limit grant.shift e
+    v.2.first v.2.second
     (ap (λ (k : CoreState). k.cell) c.apply.ensures)
     (c.push-in-Ok.ensures.items ∙ ap (λ (x : Entry). i.history.items ++ x ∷ []) c.entry.ensures) c.push.ensures.items goes.none in
     let same = more ∙ ap (λ (d : DurableState _). with_entry d c.append.new.self.disk grant.shift e) c.self.view_is in

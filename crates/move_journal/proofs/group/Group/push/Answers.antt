@@ -1,4 +1,4 @@
--- The bytes but the last closed gate, and behind them the record between its gates.
+-- The bytes but the last closed gate, and after them the record between its gates.
 use Rattle.std.proofs.Common.{◌-◌, ◌<◌, [], ◌∷◌, length, sym, ◌∙◌, ap, subst, arith, length-append}
 use Rattle.entry_codec.specs.Decoding.{grant_of}
 use Rattle.move_journal.specs.Groups.{GroupState}

@@ -1,4 +1,4 @@
--- The disk rests at an open journal, which is the one that the file stands for; the record of the new grant goes behind its gate.
+-- The disk rests at an open journal, which is the one that the file stands for; the record of the new grant goes after its gate.
 use Rattle.std.proofs.Common.{inr, [], ◌∷◌, ◌∙◌, ap, subst, arith}
 use Rattle.outside_io.specs.Disk.{LeavesOnly}
 use Rattle.outside_io.specs.Moments.{widened}

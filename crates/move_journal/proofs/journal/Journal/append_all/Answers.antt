@@ -1,4 +1,4 @@
--- The disk rests at an open journal, which is the one that the file stands for; the records of the new grants go behind its gate.
+-- The disk rests at an open journal, which is the one that the file stands for; the records of the new grants go after its gate.
 use Rattle.std.proofs.Common.{inr, ◌+◌, ◌*◌, List, length, sym, ◌∙◌, ap, subst, arith}
 use Rattle.cell_base.specs.declared.shifts.Grant.{Grant}
 use Rattle.outside_io.specs.Disk.{LeavesOnly}

@@ -1,4 +1,4 @@
--- The part leaves its place in the order, and comes again behind all others.
+-- The part leaves its place in the order, and comes again after all others.
 use Rattle.std.proofs.Common.{◌≡◌, length, ap, sym, arith, ◌∙◌}
 use Rattle.part_table.specs.Standings.{advanced}
 use Rattle.part_table.specs.Logs.{staying}

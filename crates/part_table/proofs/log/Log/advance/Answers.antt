@@ -1,4 +1,4 @@
--- The entry at the place of the job is gone, and the one behind all others is found by the job and by its resource.
+-- The entry at the place of the job is gone, and the one after all others is found by the job and by its resource.
 use Rattle.std.proofs.Common.{◌≡◌, ◌<◌, cond, Some, length, arith, nat_eq, ap, sym, ◌∙◌, vec_capacity}
 use Rattle.std.specs.HashMap.{get}
 use Rattle.std.proofs.lemmas.Option.{slice_get_within}

@@ -1,4 +1,4 @@
--- The state behind a request that fits is admitted.
+-- The state after a request that fits is admitted.
 use Rattle.std.proofs.Common.{sym, subst}
 use Rattle.cell_base.specs.Fits.{RequestFits}
 use Rattle.plain_recount.specs.Standing.{Standing}

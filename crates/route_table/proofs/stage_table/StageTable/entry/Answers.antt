@@ -1,5 +1,5 @@
 -- The stage of a number is a stage.
-use Rattle.policy_laws.proofs.Numbering.{stage_at}
+use Rattle.cell_base.proofs.Numbering.{stage_at}
 use Rattle.route_table.proofs.stage_table.StageTable.entry.Goals as goal
 
 pub returns-clause-stage : goal.returns-clause-stage

@@ -6,7 +6,7 @@ use Rattle.cell_base.specs.Fits.{CellFits}
 use Rattle.cell_base.specs.Numbers.{first_number}
 use Rattle.route_table.specs.Entries.{entry_of, first_numbers}
 use Rattle.route_table.proofs.Made.{length-entries_before, entries_before-next, first_numbers-next}
-use Rattle.policy_laws.proofs.Limits.{few_before}
+use Rattle.cell_base.proofs.StageCounts.{few_before}
 use Rattle.route_table.proofs.stage_table.StageTable.new.Goals as goal
 
 pub overflow_cast-len : goal.overflow_cast-len

@@ -3,7 +3,7 @@ use Rattle.std.proofs.Common.{◌≡◌, Some, ap, ◌∙◌, subst, refl, arith
 use Rattle.cell_base.specs.Stages.{stage, IsStage, successor}
 use Rattle.route_table.specs.declared.entries.Entry.{Entry}
 use Rattle.cell_base.specs.Numbers.{number_of, stage_numbered}
-use Rattle.policy_laws.proofs.Numbering.{numbering_law, number_within, later_number}
+use Rattle.cell_base.proofs.Numbering.{numbering_law, number_within, later_number}
 use Rattle.route_table.proofs.stage_table.StageTable.next_of.Goals as goal
 
 -- the stage that is asked for

@@ -3,12 +3,12 @@ use Rattle.std.proofs.Common.{◌≡◌, length, ap, subst, ◌∙◌, arith}
 use Rattle.cell_base.specs.declared.cells.Cell.{Cell}
 use Rattle.cell_base.specs.Stages.{stage}
 use Rattle.cell_base.specs.Fits.{CellFits}
-use Rattle.policy_laws.proofs.Stages.{kind_within}
+use Rattle.cell_base.proofs.Stages.{kind_within}
 use Rattle.cell_base.specs.Numbers.{first_number}
 use Rattle.route_table.specs.Entries.{first_numbers}
-use Rattle.policy_laws.proofs.Growing.{length-made, made_at}
-use Rattle.policy_laws.proofs.Numbering.{number_within}
-use Rattle.policy_laws.proofs.Limits.{few_stages}
+use Rattle.cell_base.proofs.Growing.{length-made, made_at}
+use Rattle.cell_base.proofs.Numbering.{number_within}
+use Rattle.cell_base.proofs.StageCounts.{few_stages}
 use Rattle.route_table.proofs.stage_table.StageTable.number.Goals as goal
 
 pub get-requires : goal.get-requires

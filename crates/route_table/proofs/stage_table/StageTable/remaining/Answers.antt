@@ -2,7 +2,7 @@
 use Rattle.std.proofs.Common.{ap, arith}
 use Rattle.route_table.specs.declared.entries.Entry.{Entry}
 use Rattle.cell_base.specs.Numbers.{stage_numbered}
-use Rattle.policy_laws.proofs.Walks.{work_from-few}
+use Rattle.cell_base.proofs.Walks.{work_from-few}
 use Rattle.route_table.proofs.stage_table.StageTable.remaining.Goals as goal
 
 pub overflow_add-result : goal.overflow_add-result

@@ -3,7 +3,7 @@ use Rattle.std.proofs.Common.{length, ap, arith}
 use Rattle.std.proofs.lemmas.List.{length-map}
 use Rattle.cell_base.specs.Stages.{stages}
 use Rattle.route_table.specs.Entries.{entry_of}
-use Rattle.policy_laws.proofs.Limits.{few_stages}
+use Rattle.cell_base.proofs.StageCounts.{few_stages}
 use Rattle.route_table.proofs.stage_table.StageTable.stages.Goals as goal
 
 pub overflow_cast-result : goal.overflow_cast-result

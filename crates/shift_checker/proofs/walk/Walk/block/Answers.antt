@@ -4,7 +4,7 @@ use Rattle.cell_base.specs.declared.shifts.Entry.{Entry}
 use Rattle.cell_base.specs.Histories.{after}
 use Rattle.shift_checker.specs.Carrying.{Carried, Walked, settled}
 use Rattle.shift_checker.specs.Judging.{judge_entries, judge_tail, verdict_from}
-use Rattle.shift_checker.proofs.Onward.{block_wrong, block_behind}
+use Rattle.shift_checker.proofs.Onward.{block_wrong, block_after}
 use Rattle.shift_checker.proofs.walk.Walk.block.Goals as goal
 
 pub returns-in-No-clause-verdict : goal.returns-in-No-clause-verdict
@@ -37,4 +37,4 @@ returns-clause-verdict c =
     ∙ ap (λ (w : Walked). verdict_from line (judge_tail w.cell w.at.parts block.tail)) (c.entries-verdict.ensures.state c.in_default.is)
     ∙ ap (λ (w : Walked). verdict_from line (judge_tail w.cell (after w.cell w.at.parts c.as_slice.result.now) block.tail)) c.settle.ensures
     ∙ ap (λ (es : List Entry). verdict_from line (judge_tail cell (after cell begun.parts es) block.tail)) c.as_slice.ensures in
-    tail ∙ sym (block_behind cell begun.parts begun.count block n named (sym entries ∙ c.in_default.is))
+    tail ∙ sym (block_after cell begun.parts begun.count block n named (sym entries ∙ c.in_default.is))

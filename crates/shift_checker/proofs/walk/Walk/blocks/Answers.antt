@@ -7,7 +7,7 @@ use Rattle.record_text.specs.declared.blocks.Block.{Block}
 use Rattle.record_text.specs.Blocks.{line_count, BlockIsWellFormed}
 use Rattle.shift_checker.specs.Carrying.{Carried, Walked, IsBefore, carried_lines}
 use Rattle.shift_checker.specs.Judging.{verdict_from}
-use Rattle.shift_checker.proofs.Onward.{first_line_is, lines_behind, lines_fit, verdict_at, next_at, blocks_wrong, blocks_behind, before_next}
+use Rattle.shift_checker.proofs.Onward.{first_line_is, lines_after, lines_fit, verdict_at, next_at, blocks_wrong, blocks_after, before_next}
 use Rattle.shift_checker.proofs.walk.Walk.blocks.Goals as goal
 
 pub block-verdict-requires-clause-lines : goal.block-verdict-requires-clause-lines
@@ -63,7 +63,7 @@ loop-block-preserved c =
     ∙ ap (next_at cell loop.self.at) c.block-item.is in
     let formed = All-get_or (BlockIsWellFormed cell) blocks i item within c.requires.each in
     let lines : 1 + sum_by line_count (take (i + 1) blocks) ≡ 1 + sum_by line_count (take i blocks) + line_count block =
-    omega (arith, lines_behind cell blocks i item within c.requires.numbered) in
+    omega (arith, lines_after cell blocks i item within c.requires.numbered) in
     record {
       cell = ap (λ (walk : Walked). walk.cell) state ∙ loop.invariant.cell;
       before =
@@ -72,6 +72,6 @@ loop-block-preserved c =
           (before_next cell (1 + sum_by line_count (take i blocks)) loop.self.at block loop.invariant.before formed));
       rest =
           ap (λ at. verdict_from (1 + sum_by line_count (take (i + 1) blocks)) (carried_lines cell at (drop (i + 1) blocks))) next
-          ∙ blocks_behind cell blocks i item within c.requires.numbered loop.self.at (sym here ∙ c.in_default.is)
+          ∙ blocks_after cell blocks i item within c.requires.numbered loop.self.at (sym here ∙ c.in_default.is)
           ∙ loop.invariant.rest;
     }

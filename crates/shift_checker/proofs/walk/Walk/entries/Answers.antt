@@ -4,7 +4,8 @@ use Rattle.cell_base.specs.declared.shifts.Entry.{Entry}
 use Rattle.cell_base.specs.Histories.{after, state_after_entry}
 use Rattle.shift_checker.specs.Carrying.{Walked}
 use Rattle.shift_checker.specs.Judging.{is_told_rightly, judge_entry}
-use Rattle.shift_checker.proofs.Walking.{no_entry, moved, one_more, entry_right, entry_wrong, parts_behind, count_behind, entries_right, few_so_far}
+use Rattle.shift_checker.proofs.Walking.{no_entry, moved, one_more, entry_right, entry_wrong, parts_after_entry}
+use Rattle.shift_checker.proofs.Walking.{count_after, entries_right, few_so_far}
 use Rattle.shift_checker.proofs.walk.Walk.entries.Goals as goal
 
 pub is_told_rightly-requires-clause-few : goal.is_told_rightly-requires-clause-few
@@ -49,13 +50,13 @@ loop-i-preserved c =
       parts =
           moved (λ cell parts. state_after_entry cell parts entry.request entry.told) loop.self.cell cell loop.self.at.parts
           (after cell parts (take loop.i entries)) _ loop.invariant.cell loop.invariant.parts (ap (λ (walk : Walked). walk.at.parts) state)
-          ∙ sym (parts_behind cell parts entries loop.i no_entry within);
+          ∙ sym (parts_after_entry cell parts entries loop.i no_entry within);
       count =
           omega (
             arith,
             ap (λ (walk : Walked). walk.at.count) state,
             loop.invariant.count,
-            count_behind cell parts entries loop.i no_entry within,
+            count_after cell parts entries loop.i no_entry within,
           );
       halted = ap (λ (walk : Walked). walk.at.halted) state ∙ loop.invariant.halted;
       right =

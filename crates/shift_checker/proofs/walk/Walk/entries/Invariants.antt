@@ -1,4 +1,4 @@
--- The entries so far are right, and the state is that behind them.
+-- The entries so far are right, and the state is that after them.
 use Rattle.std.proofs.Common.{◌≡◌, ℕ, ◌+◌, ◌<◌, None, length, take}
 use Rattle.cell_base.specs.Histories.{after}
 use Rattle.shift_checker.specs.Judging.{granted_requests, judge_entry}

@@ -1,0 +1,166 @@
+"""A server over pipes, and sessions that ask it and count what they were granted, apart from the client in `examples/`."""
+import os
+import queue
+import subprocess
+import threading
+
+from journal_file import Numbers, entries_in, entry
+
+
+class Wrong:
+    """What went otherwise, and how many kills and cases there were."""
+
+    def __init__(self):
+        self.kills = self.cases = self.otherwise = 0
+
+    def tell(self, name, what):
+        """Something went otherwise."""
+        self.otherwise += 1
+        print(f"{name}: {what}", flush=True)
+
+    def see(self, name, found, wanted):
+        """A case, which goes otherwise where something else is found."""
+        self.cases += 1
+        if found != wanted:
+            self.tell(name, f"{str(found)[-400:]!r}, and not {str(wanted)[-400:]!r}")
+
+
+class CellFile:
+    """A cell file with its journals, as a program serves them."""
+
+    def __init__(self, program, path):
+        self.program, self.path, self.text = program, path, path.read_bytes()
+        self.numbers = Numbers(self.text)
+
+    def entries(self, file):
+        """The entries of a journal; none where there is no file."""
+        return entries_in(file.read_bytes() if file.exists() else b"", self.text)
+
+    def entry(self, session, step):
+        """The entry of a step that `serve` granted."""
+        return entry(self.numbers, step, session, 0)
+
+    def told(self, command, *words):
+        """What a command says of the cell: its status and its output."""
+        done = subprocess.run([self.program, command, self.path, *words], stdin=subprocess.DEVNULL, stdout=subprocess.PIPE, check=False)
+        return done.returncode, done.stdout.decode()
+
+    def served(self, file, lines=None, **outside):
+        """How `serve` ends on lines that are sent at once: its status and its output."""
+        done = subprocess.run([self.program, "serve", self.path, file], input=lines, check=False, **{"stdout": subprocess.PIPE, **outside})
+        return done.returncode, done.stdout and done.stdout.decode()
+
+
+class Server:
+    """`serve` as a child. Its lines are handed out by their first word, and all of them are kept."""
+
+    def __init__(self, cell, file, **outside):
+        self.child = subprocess.Popen([cell.program, "serve", cell.path, file], stdin=subprocess.PIPE, stdout=subprocess.PIPE,
+                                      env=dict(os.environ, **outside))
+        self.lines, self.heard, self.is_gone, self.lock = [], {}, False, threading.Lock()
+        self.reader = threading.Thread(target=self._read, daemon=True)
+        self.reader.start()
+        self.head = self.hear("shift").get()
+
+    def _read(self):
+        for line in self.child.stdout:
+            if line.endswith(b"\n"):
+                self.lines.append(line.decode().rstrip("\n"))
+                self.hear(self.lines[-1].split(" ")[0]).put(self.lines[-1])
+        with self.lock:
+            self.is_gone = True
+            for heard in self.heard.values():
+                heard.put(None)
+
+    def hear(self, word):
+        """Where the lines come that begin with a word; after them None, when the server is gone."""
+        with self.lock:
+            if word not in self.heard:
+                self.heard[word] = queue.SimpleQueue()
+                if self.is_gone:
+                    self.heard[word].put(None)
+            return self.heard[word]
+
+    def send(self, text):
+        """Sends bytes, or what of them a server takes that is killed meanwhile."""
+        try:
+            while text:
+                text = text[os.write(self.child.stdin.fileno(), text) :]
+        except BrokenPipeError:
+            pass
+
+    def asked(self, line):
+        """The reply to a line, or None."""
+        heard = self.hear(line.split(" ")[0])
+        self.send(f"{line}\n".encode())
+        return heard.get()
+
+    def kill(self):
+        """Kills the server, and waits for what it has said."""
+        self.child.kill()
+        self.reader.join()
+
+    def end(self):
+        """Ends the input, and waits for the last lines: the server's status. Nobody may be sending."""
+        self.child.stdin.close()
+        self.reader.join()
+        self.child.stdout.close()
+        return self.child.wait()
+
+
+class Session:
+    """A session that carries one part after the other through the cell, and works the machine at which its part stands."""
+
+    def __init__(self, number, routes, chance):
+        self.number, self.routes, self.chance = number, routes, chance
+        self.granted, self.asked, self.faults = [], None, []
+        self.job, self.kind, self.place, self.is_waiting = number * 10_000, None, None, False
+
+    def step(self):
+        """What it asks next, which may also be a step too early."""
+        if self.place is None:
+            self.kind = self.kind or self.chance.choice(list(self.routes))
+            return f"load {self.job} {self.kind}"
+        route = self.routes[self.kind]
+        if self.is_waiting:
+            return f"process {route[self.place].split(':')[0]}"
+        is_last = self.place == len(route) - 1
+        return f"{'unload' if is_last or self.chance.random() < 0.1 else 'move'} {self.job}"
+
+    def take(self, reply):
+        """Takes the reply to the step that was asked."""
+        step, self.asked = self.asked, None
+        self.is_waiting = reply.endswith(" refused not-processed")
+        if not reply.endswith(" granted"):
+            return
+        self.granted.append(step)
+        verb = step.split(" ")[0]
+        if verb == "unload":
+            self.job, self.kind, self.place = self.job + 1, None, None
+        elif verb != "process":
+            self.place = 0 if self.place is None else self.place + 1
+
+    def ask_on(self, server, stop):
+        """Asks one step after the other, and now and then how many were granted, until the server is gone or it is to stop."""
+        while not stop.is_set():
+            if self.chance.random() < 0.1 and not self.counts(server):
+                return
+            self.asked = self.step()
+            reply = server.asked(f"{self.number} {self.asked}")
+            if reply is None:
+                return
+            if not reply.startswith(f"{self.number} {self.asked} "):
+                self.faults.append(f"asked {self.asked}, and told {reply}")
+            self.take(reply)
+
+    def counts(self, server):
+        """Asks how many steps were granted; after a kill that may be the one that was asked last. Whether the server answered."""
+        reply = server.asked(f"{self.number} grants")
+        if reply is None:
+            return False
+        if self.asked and reply == f"{self.number} grants {len(self.granted) + 1}":
+            self.take(f"{self.number} {self.asked} granted")
+        elif reply != f"{self.number} grants {len(self.granted)}":
+            self.faults.append(f"{len(self.granted)} granted, {self.asked} asked, and told {reply}")
+        self.asked = None
+        return True

@@ -1,0 +1,383 @@
+"""Cases of `serve` over real pipes: strange input, clients that are slow, gone or stopped, each status, and the order of the calls."""
+import errno
+import os
+import pathlib
+import signal
+import socket
+import subprocess
+import sys
+import time
+
+from journal_file import granted, journal
+from served import Server
+
+HERE = pathlib.Path(__file__).resolve().parent
+# Lines with their replies on the cell of two machines, from the empty cell on.
+TALK = [
+    ("1 load 7 A", "granted"),
+    ("2 load 8 Z", "refused saturated M2 1 of 1"),
+    ("1 move 7", "refused not-processed"),
+    ("why process M1", "granted"),
+    ("65535 process M1", "granted"),
+    ("1 grants", "1"),
+    ("left", "1"),
+    ("1 move 7", "granted"),
+    ("why load 9 Z", "refused saturated M2 1 of 1"),
+    ("1 load 7 A", "refused job-loaded"),
+    ("1 move 7 1", "refused not-processed"),
+    ("3 process M2", "granted"),
+    ("1 move 7 1", "refused at-last"),
+    ("1 unload 7", "granted"),
+    ("4 unload 7", "refused no-such-job"),
+    ("left", "0"),
+    ("2 load 8 Z", "granted"),
+    ("2 process M1", "refused idle"),
+    ("2 unload 8", "refused not-processed"),
+    ("2 process M2", "granted"),
+    ("2 unload 8", "refused not-last"),
+    ("2 move 8 7", "refused no-branch"),
+    ("1 grants", "3"),
+    ("5 grants", "0"),
+]
+TAIL = ["left 1", "plan 3", "move 8", "process M1", "unload 8"]
+# The talk, and the cell is empty again.
+ROUND = [*TALK, ("2 move 8", "granted"), ("2 process M1", "granted"), ("2 unload 8", "granted")]
+# No request each.
+GARBAGE = [
+    b"", b" ", b"1", b"1 ", b"load 7 A", b"0 load 7 A", b"65536 load 7 A", b"01 load 7 A", b"-1 load 7 A", b"+1 load 7 A", b"1  load 7 A",
+    b" 1 load 7 A", b"1 load 7 A ", b"1 load 7 A\r", b"1\tload 7 A", b"1 load 07 A", b"1 load 4294967296 A", b"1 load 7 B", b"1 load 7",
+    b"1 load 7 A A", b"1 LOAD 7 A", b"1 process M3", b"1 process", b"1 move 7 0", b"1 move 7 8", b"1 move -7", b"1 unload",
+    b"1 unload 7 1", b"1 place 7 A 0 done", b"1 place 7 A 0 waiting", b"1 grants 0", b"1 grant", b"grants", b"0 grants", b"65536 grants",
+    b"1 left", b"left 0", b"Left", b"left ", b"why", b"why ", b"why left", b"why 1 load 7 A", b"why place 7 A 0 done", b"1 why load 7 A",
+    b"1 load 7 A granted", b"plan", b"plan 0", b"drain", b"exit", b"quit", b"help", b"\0", b"1 load 7 A\0", b"\xff\xfe",
+    b"1 load 7 \xc3\x84", b"\x1b[A", b"shift 0 after 0", b"line refused 1", b"1 load " + b"7" * 60 + b" A", b"x" * 64, b"x" * 65,
+    b"x" * 66, b"1 load 7 A" + b"A" * 4096, b"9" * 1_000_000, b"1 load 7 A" + b"\0" * 1_000_000,
+]
+
+
+def told(lines):
+    """The replies to lines of the talk."""
+    return [f"{line} {reply}" for line, reply in lines]
+
+
+def sent(lines):
+    """Lines of the talk as a client sends them."""
+    return "".join(f"{line}\n" for line, _ in lines).encode()
+
+
+def text_of(lines):
+    """Lines as a server prints them."""
+    return "".join(f"{line}\n" for line in lines)
+
+
+def without_plan(text):
+    """What was printed before the last lines."""
+    return text[: text.rindex("left ")]
+
+
+def talks(wrong, cell, folder):
+    """The talk at once, in pieces of some sizes, and line by line."""
+    whole = text_of(["shift 0 after 0", *told(TALK), *TAIL])
+    file = folder / "journal"
+    wrong.see("the talk at once", cell.served(file, sent(TALK)), (0, whole))
+    wrong.see("its journal", cell.entries(file), granted(cell.numbers, told(TALK), 0))
+    again = text_of(["shift 0 after 7", "1 grants 3", "2 grants 2", "65535 grants 1", "line refused 4", *TAIL])
+    wrong.see("on its journal", cell.served(file, b"1 grants\n2 grants\n65535 grants\n0 grants\n"), (0, again))
+    wrong.see("no line", cell.served(folder / "empty", b""), (0, text_of(["shift 0 after 0", "left 0", "plan 0"])))
+    wrong.see("its journal", (folder / "empty").read_bytes(), journal(cell.text, []))
+    for piece in (1, 2, 3, 7, 64, 65, 66):
+        file = folder / f"pieces of {piece}"
+        server = Server(cell, file)
+        for at in range(0, len(sent(TALK)), piece):
+            server.send(sent(TALK)[at : at + piece])
+            time.sleep(0.0002)
+        wrong.see(f"the talk in pieces of {piece}", (server.end(), text_of(server.lines)), (0, whole))
+        wrong.see(f"its journal, in pieces of {piece}", cell.entries(file), granted(cell.numbers, told(TALK), 0))
+    server = Server(cell, folder / "line by line")
+    wrong.see("the talk line by line", [server.asked(line) for line, _ in TALK], told(TALK))
+    server.end()
+
+
+def cuts(wrong, cell, folder):
+    """The talk is cut at each byte: a last line without its newline is not asked."""
+    file = folder / "journal"
+    for end in range(len(sent(TALK))):
+        file.unlink(missing_ok=True)
+        replies = told(TALK[: sent(TALK)[:end].count(b"\n")])
+        status, text = cell.served(file, sent(TALK)[:end])
+        found = status, without_plan(text), cell.entries(file)
+        wrong.see(f"cut after {end} bytes", found, (0, text_of(["shift 0 after 0", *replies]), granted(cell.numbers, replies, 0)))
+
+
+def garbage(wrong, cell, folder):
+    """Lines that are no requests are refused by their number, and change nothing."""
+    wanted, lines = ["shift 0 after 0"], []
+    for number, line in enumerate(GARBAGE):
+        at = number % len(TALK)
+        if number < len(TALK):
+            lines.append(f"{TALK[at][0]}\n".encode())
+            wanted.append(told(TALK)[at])
+        lines.append(line + b"\n")
+        wanted.append(f"line refused {len(lines)}")
+    found = cell.served(folder / "journal", b"".join(lines))
+    wrong.see("garbage between good lines", found, (0, text_of([*wanted, *TAIL])))
+    wrong.see("its journal", cell.entries(folder / "journal"), granted(cell.numbers, told(TALK), 0))
+
+
+def many(wrong, cell, folder):
+    """A thousand lines at once have the replies that they have one after the other."""
+    lines, server = [line for line, _ in ROUND] * 40, Server(cell, folder / "one after the other")
+    replies = [server.asked(line) for line in lines]
+    status, text = cell.served(folder / "at once", text_of(lines).encode())
+    wrong.see(f"{len(lines)} lines at once", (status, text), (server.end(), text_of(server.lines)))
+    wrong.see("their replies", server.lines[1 : len(lines) + 1], replies)
+    wrong.see("their journal", (folder / "at once").read_bytes(), (folder / "one after the other").read_bytes())
+
+
+def slow_clients(wrong, cell, folder):
+    """A client that doesn't read holds the server up, and loses nothing; one that is gone ends it with status 8."""
+    file = folder / "journal"
+    child = subprocess.Popen([cell.program, "serve", cell.path, file], stdin=subprocess.PIPE, stdout=subprocess.PIPE)
+    os.set_blocking(child.stdin.fileno(), False)
+    line, count, rest, quiet = b"why load 7 A\n", 0, b"", time.monotonic()
+    while time.monotonic() - quiet < 1 and count < 100_000:
+        try:
+            rest = rest or line * 100
+            taken = os.write(child.stdin.fileno(), rest)
+            count, rest, quiet = count + rest[:taken].count(b"\n"), rest[taken:], time.monotonic()
+        except BlockingIOError:
+            time.sleep(0.01)
+    wrong.see("both pipes are full, and the server waits", (child.poll(), count < 100_000), (None, True))
+    os.set_blocking(child.stdin.fileno(), True)
+    # What a write has left of a line goes on from another thread, while the replies are read.
+    text, _ = child.communicate(rest + line)
+    lines = text.decode().splitlines()
+    wrong.see("all replies after it", (child.returncode, set(lines[1:-2])), (0, {"why load 7 A granted"}))
+    wrong.see("how many", len(lines) - 3, count + (rest + line).count(b"\n"))
+
+    child = subprocess.Popen([cell.program, "serve", cell.path, file], stdin=subprocess.PIPE, stdout=subprocess.PIPE)
+    child.stdout.readline()
+    child.stdout.close()
+    child.stdin.write(sent(TALK[:1]))
+    child.stdin.flush()
+    wrong.see("a client that is gone", (child.wait(), cell.entries(file)), (8, granted(cell.numbers, told(TALK[:1]), 0)))
+    child.stdin.close()
+
+    server = Server(cell, file)
+    os.kill(server.child.pid, signal.SIGSTOP)
+    server.send(sent(TALK[1:]))
+    time.sleep(0.2)
+    wrong.see("a server that is stopped says nothing", server.lines, ["shift 0 after 1"])
+    os.kill(server.child.pid, signal.SIGCONT)
+    wrong.see("and goes on", (server.end(), server.lines), (0, ["shift 0 after 1", *told(TALK[1:]), *TAIL]))
+
+
+def beside(wrong, cell, folder):
+    """While a server has a journal nobody else opens it; and one after the other `run` and `serve` go on with one another's parts."""
+    file, shift, start = folder / "journal", folder / "shift.toml", folder / "start"
+    fault = 7, "device fault\n"
+    shift.write_text('version = 1\nnumber = 3\npatience = 1\n[[session]]\nsteps = ["process M1", "move 7"]\n')
+    start.write_text("place 7 A 0 waiting\n")
+    server = Server(cell, file)
+    wrong.see("a server is asked", server.asked("1 load 7 A"), "1 load 7 A granted")
+    wrong.see("a second server", cell.served(file, b"2 load 8 Z\n"), fault)
+    others = (("plan", file), ("drain", file), ("grants", file), ("parts", file), ("why", file, "move 7"), ("carry", file, cell.path),
+              ("run", shift, file), ("begin", start, file))
+    for command in others:
+        wrong.see(f"{command[0]} beside a server", cell.told(*command), fault)
+    wrong.see("the server goes on", server.asked("1 grants"), "1 grants 1")
+    wrong.see("and ends", server.end(), 0)
+    ran = text_of(["shift 3 after 1", "1 process M1 granted", "1 move 7 granted", "left 1", "plan 2", "process M2", "unload 7"])
+    wrong.see("run after it", cell.told("run", shift, file), (0, ran))
+    served = text_of(["shift 0 after 3", "1 grants 1", "1 process M2 granted", "1 unload 7 granted", "1 load 8 Z granted", "left 1",
+                      "plan 4", "process M2", "move 8", "process M1", "unload 8"])
+    wrong.see("serve after that", cell.served(file, b"1 grants\n1 process M2\n1 unload 7\n1 load 8 Z\n"), (0, served))
+    wrong.see("drain after that", cell.told("drain", file)[1].splitlines()[-2:], ["left 0", "plan 0"])
+    wrong.see("serve at the end", cell.served(file, b"1 grants\n"), (0, text_of(["shift 0 after 10", "1 grants 4", "left 0", "plan 0"])))
+
+
+def statuses(wrong, cell, folder):
+    """Each status but 0, 8 and 9, and what is printed then."""
+    file, line = folder / "journal", b"1 load 7 A\n"
+
+    def ended(*words, **streams):
+        streams = {"stdin": subprocess.DEVNULL, "stdout": subprocess.PIPE, "check": False, **streams}
+        done = subprocess.run([cell.program, *map(str, words)], **streams)
+        return done.returncode, done.stdout.decode()
+
+    for words in (["serve"], ["serve", cell.path], ["serve", cell.path, file, "1"]):
+        status, text = ended(*words)
+        wrong.see(f"{len(words)} words", (status, text.split(" ")[0], text.count("\n")), (2, "usage:", 1))
+    wrong.see("no cell", ended("serve", folder / "none", file), (3, "read fault\n"))
+    broken = folder / "broken.toml"
+    broken.write_bytes(cell.text.replace(b"capacity = 1", b"capacity = 0", 1))
+    wrong.see("a cell that is refused", ended("serve", broken, file), (4, "cell refused 5 resource 0 capacity\n"))
+    wrong.see("no journal is made", file.exists(), False)
+    other = folder / "other"
+    other.write_bytes(journal(cell.text.replace(b"order = 2", b"order = 3"), []))
+    at = cell.text.index(b"order = 2") + 8
+    wrong.see("the journal of another cell", ended("serve", cell.path, other), (6, f"journal refused 2 {at}\n"))
+    wrong.see("a folder as a journal", ended("serve", cell.path, folder), (7, "device fault\n"))
+    handle = os.open(folder, os.O_RDONLY)
+    wrong.see("a folder as input", ended("serve", cell.path, file, stdin=handle), (3, "shift 0 after 0\nread fault\n"))
+    os.close(handle)
+    reading, writing = os.pipe()
+    os.set_blocking(reading, False)
+    os.write(writing, line)
+    lost = text_of(["shift 0 after 0", "1 load 7 A granted", "read fault"])
+    wrong.see("input that doesn't wait", ended("serve", cell.path, file, stdin=reading), (3, lost))
+    wrong.see("its journal", cell.entries(file), granted(cell.numbers, ["1 load 7 A granted"], 0))
+    os.close(reading)
+    os.close(writing)
+    with open("/dev/full", "wb") as full:
+        status, _ = cell.served(file, b"1 process M1\n", stdout=full)
+    wrong.see("an output that is full", (status, len(cell.entries(file))), (8, 1))
+
+
+def full_journals(wrong, cell, folder):
+    """A journal takes so many grants that a drain has room after them."""
+    file, most = folder / "journal", 1_572_864
+    step = ["1 load 7 A", "2 process M1", "1 move 7", "2 process M2", "1 unload 7"]
+    turn = [cell.entry(int(one[0]), one[2:]) for one in step]
+    entries = (turn * (most // len(turn) + 1))[: most - 1]
+    file.write_bytes(journal(cell.text, entries))
+    server = Server(cell, file)
+    last, over = step[(most - 1) % 5], step[most % 5]
+    wrong.see("a journal with room for one grant", server.head, f"shift 0 after {most - 1}")
+    wrong.see("the last grant", server.asked(last), f"{last} granted")
+    wrong.see("a refusal after it", server.asked("1 unload 9"), "1 unload 9 refused no-such-job")
+    server.send(f"{over}\n".encode())
+    server.reader.join()
+    wrong.see("a grant too many", (server.end(), server.lines[-1]), (6, f"journal refused 4 {most + 1}"))
+    full = cell.served(file, f"why {over[2:]}\n1 unload 9\n{over}\n2 unload 9\n".encode())
+    wanted = [f"shift 0 after {most}", f"why {over[2:]} granted", "1 unload 9 refused no-such-job", f"journal refused 4 {most + 1}"]
+    wrong.see("a full journal", full, (6, text_of(wanted)))
+    wrong.see("drain after it", cell.told("drain", file)[1].splitlines()[-2:], ["left 0", "plan 0"])
+    wrong.see("a journal that is too long", cell.served(file, b""), (6, f"journal refused 4 {most + 1}\n"))
+
+
+def sockets(wrong, cell, folder):
+    """A supervisor may hand in one connection as input and output."""
+    ours, theirs = socket.socketpair()
+    child = subprocess.Popen([cell.program, "serve", cell.path, folder / "journal"], stdin=theirs, stdout=theirs)
+    theirs.close()
+    with ours, ours.makefile("r") as replies:
+        wrong.see("the head line over a socket", replies.readline(), "shift 0 after 0\n")
+        for line, reply in TALK:
+            ours.sendall(f"{line}\n".encode())
+            wrong.see(f"{line} over a socket", replies.readline(), f"{line} {reply}\n")
+        ours.shutdown(socket.SHUT_WR)
+        wrong.see("the end over a socket", (replies.read().splitlines(), child.wait()), (TAIL, 0))
+
+
+def dispatched(wrong, cell, folder):
+    """Two programs ask one server through the dispatcher of the examples."""
+    places, file = (folder / "socket", folder / "second"), folder / "journal"
+    words = [[sys.executable, HERE.parent / "examples/dispatcher.py", place, cell.program, cell.path, file] for place in places]
+    dispatcher = subprocess.Popen(words[0])
+    connections = [socket.socket(socket.AF_UNIX), socket.socket(socket.AF_UNIX)]
+    for one in connections:
+        wrong.see("a program connects", within(10, lambda: one.connect_ex(str(places[0])) == 0), True)
+    programs = [one.makefile("rw") for one in connections]
+    for number, (line, reply) in enumerate([*TALK, ("please", "")]):
+        program = programs[number % 2]
+        print(line, file=program, flush=True)
+        wrong.see(f"{line} through the dispatcher", program.readline(), f"{line} {reply}\n" if reply else "line refused\n")
+    second = subprocess.run(words[1], stderr=subprocess.PIPE, check=False)
+    wrong.see("a second dispatcher", (second.returncode, b"device fault" in second.stderr), (7, True))
+    dispatcher.terminate()
+    dispatcher.wait()
+    wrong.see("its server ends after it", within(10, lambda: cell.told("plan", file)[0] == 0), True)
+    wrong.see("its journal", cell.entries(file), granted(cell.numbers, told(TALK), 0))
+    for one in (*programs, *connections):
+        one.close()
+
+
+def within(seconds, is_so):
+    """Whether something is so within some seconds."""
+    end = time.monotonic() + seconds
+    while time.monotonic() < end:
+        if is_so():
+            return True
+        time.sleep(0.02)
+    return False
+
+
+def library_of(folder, name):
+    """A library of this folder, to be loaded before the C library."""
+    library = folder / f"{name}.so"
+    subprocess.run(["cc", "-O1", "-shared", "-fPIC", "-o", library, HERE / f"{name}.c", "-ldl"], check=True)
+    return str(library)
+
+
+def served_under(cell, file, lines, **outside):
+    """How `serve` ends on lines that are there at once, under a library: its status, its output, and what the library counted."""
+    count, given = file.with_suffix(".count"), file.with_suffix(".lines")
+    given.write_bytes(lines)
+    with open(given, "rb") as sending:
+        status, text = cell.served(file, stdin=sending, env=dict(os.environ, COUNT=str(count), **outside))
+    return status, text, int(count.read_text())
+
+
+def interrupted(wrong, cell, folder):
+    """Each call that a signal cuts short is made again."""
+    library, file = library_of(folder, "fail_nth"), folder / "journal"
+    for kind in ("open", "read", "pread", "pwrite", "fsync", "fdatasync", "flock", "write"):
+        file.unlink(missing_ok=True)
+        ample = served_under(cell, file, sent(TALK), LD_PRELOAD=library, KIND=kind)
+        entries = cell.entries(file)
+        for failing in range(1, ample[2] + 1):
+            file.unlink(missing_ok=True)
+            told = {"LD_PRELOAD": library, "KIND": kind, "FAIL": str(failing), "ERROR": str(errno.EINTR)}
+            status, text, _ = served_under(cell, file, sent(TALK), **told)
+            wrong.see(f"{kind} {failing} cut short", (status, text, cell.entries(file)), (*ample[:2], entries))
+
+
+def memory(wrong, cell, folder):
+    """A server asks for no memory after its head line: as often on many lines as on none."""
+    library = library_of(folder, "refuse_nth")
+    counts = [served_under(cell, folder / str(count), sent(ROUND) * count, LD_PRELOAD=library)[2] for count in (0, 1, 1000)]
+    wrong.see("how often memory is asked for", counts, [counts[0]] * 3)
+
+
+def order_of_writes(wrong, cell, folder):
+    """No line `granted` is written before the sync that makes its grant stable, and lines that wait together share their syncs."""
+    library, trace = library_of(folder, "fail_nth"), folder / "trace"
+    for name, count in (("a few lines", 1), ("many lines", 200)):
+        file, lines = folder / name, sent(ROUND) * count
+        status, text, _ = served_under(cell, file, lines, LD_PRELOAD=library, TRACE=str(trace), WRITES="1")
+        wrong.see(f"{name}: the status and the replies", (status, text.count("\n")), (0, 3 + len(ROUND) * count))
+        grants = len(cell.entries(file))
+        stable, syncs = stable_before_told(trace.read_text(), text, 13 + len(cell.text))
+        wrong.see(f"{name}: each grant is stable before it is told", stable, grants)
+        pieces = -(-len(lines) // 4096)
+        wrong.see(f"{name}: {grants} grants in {pieces} pieces share {syncs} syncs", syncs, 2 * pieces)
+
+
+def stable_before_told(trace, text, gate):
+    """Goes through the calls of a server on a new journal whose first gate stands there: how many grants are told, each of them stable
+    before; and how many syncs there were after the opening. At the first grant that is told too early the number is told as text."""
+    lines, rest, is_synced = text.splitlines(keepends=True), 0, True
+    pending = opened = stable = grants = syncs = 0
+    for words in (line.split(" ") for line in trace.splitlines()):
+        if words[0] == "pwrite" and int(words[1]) == gate + 1:
+            pending, is_synced = int(words[2]) // 17, False
+        elif words[0] == "pwrite" and (int(words[1]), int(words[2])) == (gate, 1):
+            if not is_synced:
+                return f"gate {gate} was opened before a sync", syncs
+            opened, gate, pending = opened + pending, gate + 17 * pending, 0
+        elif words[0] == "fdatasync":
+            syncs, stable, is_synced = syncs + (opened + pending > 0), opened, True
+        elif words[0] == "write":
+            rest += int(words[1])
+            while lines and rest >= len(lines[0]):
+                line = lines.pop(0)
+                rest -= len(line)
+                grants += line.endswith(" granted\n") and not line.startswith("why ")
+                if grants > stable:
+                    return f"told {grants}, stable {stable}", syncs
+    return grants, syncs
+
+
+CASES = [talks, cuts, garbage, many, slow_clients, beside, statuses, full_journals, sockets, dispatched, interrupted, memory,
+         order_of_writes]

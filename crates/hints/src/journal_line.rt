@@ -1,0 +1,123 @@
+//! The line of a refused journal: the offset, what stands there, and what may be done.
+use crate::asked::Asked;
+use crate::printed::refused;
+use crate::quoted::{Quoted, Shown};
+use crate::reading::bytes_of;
+use crate::texts::{OTHER_SHIFT, OTHER_START, journal_text};
+use cell_file::MAX_CELL_BYTES;
+use entry_codec::decode;
+use outside_io::Files;
+use shift_recovery::JournalFault;
+use std::alloc::Global;
+
+/// The bytes of a gate and the record after it.
+const GATED: u64 = 17;
+
+/// The offset that a head which ends early is refused at.
+const HEAD: u64 = 9;
+
+/// What is wrong with the journal of which `line` tells a number.
+pub fn journal_line<F: Files>(
+    alloc: Global,
+    files: &mut F,
+    asked: &Asked<'_>,
+    line: &str,
+) -> Option<String> {
+    let mut words = refused(line)?;
+    let number = words.number()?;
+    let count = words.number();
+    let file = Shown(asked.word("JOURNAL")?.as_bytes());
+    match (number, count) {
+        (5, Some(session)) => {
+            return format!(in alloc; "{file}, session {session}: {OTHER_SHIFT}").ok();
+        }
+        (6, Some(at)) => return format!(in alloc; "{file}, grant {at}: {OTHER_START}").ok(),
+        _ => {}
+    }
+    let fault = journal_fault(number, count)?;
+    let there = there(alloc, files, asked, &fault)?;
+    let text = journal_text(&fault);
+    format!(in alloc; "{file}, {there}: {text}").ok()
+}
+
+/// The fault that a number and a count or an offset tell.
+pub fn journal_fault(number: u64, count: Option<u64>) -> Option<JournalFault> {
+    Some(match (number, count) {
+        (1, None) => JournalFault::NotAJournal,
+        (2, Some(at)) => JournalFault::OtherCell { at },
+        (3, Some(at)) => JournalFault::Damaged { at },
+        (4, Some(len)) => JournalFault::Long { len },
+        _ => return None,
+    })
+}
+
+// Where the fault is, and what stands there.
+fn there<F: Files>(
+    alloc: Global,
+    files: &mut F,
+    asked: &Asked<'_>,
+    fault: &JournalFault,
+) -> Option<String> {
+    let name = asked.word("JOURNAL")?;
+    match *fault {
+        JournalFault::NotAJournal => match bytes_of(alloc, files, name, 8) {
+            Some(bytes) => {
+                let (_, found) = bytes.as_slice().split_first()?;
+                let found = Quoted(found);
+                format!(in alloc; "bytes 1 to 8, {found}").ok()
+            }
+            None => String::from_str(alloc, "bytes 1 to 8").ok(),
+        },
+        JournalFault::OtherCell { at } => {
+            let cell = asked.word("CELL").or(asked.word("CELL1"))?;
+            let line = line_of(alloc, files, cell, at)?;
+            let cell = Shown(cell.as_bytes());
+            format!(in alloc; "byte {at} of its cell text, line {line} of {cell}").ok()
+        }
+        JournalFault::Damaged { at } => {
+            let found = found_at(alloc, files, name, at);
+            format!(in alloc; "byte {at}, {found}").ok()
+        }
+        JournalFault::Long { len } => format!(in alloc; "{len} grants").ok(),
+    }
+}
+
+// The number of the line of a cell file in which an offset lies.
+fn line_of<F: Files>(alloc: Global, files: &mut F, cell: &str, at: u64) -> Option<u64> {
+    let bytes = bytes_of(alloc, files, cell, MAX_CELL_BYTES)?;
+    let before = bytes.iter().take(at as usize);
+    let ends = before.filter(|byte| **byte == b'\n').count() as u64;
+    Some(ends.saturating_add(1))
+}
+
+// What stands at the offset of a gate that no journal has.
+fn found_at<F: Files>(alloc: Global, files: &mut F, name: &str, at: u64) -> &'static str {
+    if at == HEAD {
+        return "where the head ends early";
+    }
+    let limit = u32::try_from(at.saturating_add(GATED)).unwrap_or(u32::MAX);
+    match bytes_of(alloc, files, name, limit) {
+        Some(bytes) => gate_text(bytes.as_slice().get(at as usize..)),
+        None => "a gate",
+    }
+}
+
+// What bytes are from a gate on.
+fn gate_text(bytes: Option<&[u8]>) -> &'static str {
+    let Some([_, rest @ ..]) = bytes else {
+        return "where the file ends and a gate is wanted";
+    };
+    match rest.get(..16) {
+        Some(record) if is_record(record) => "a grant that can't come after those before it",
+        Some(_) => "an open gate with 16 bytes after it that are no grant",
+        None => "an open gate with fewer than 16 bytes after it",
+    }
+}
+
+// Whether sixteen bytes are a grant.
+fn is_record(bytes: &[u8]) -> bool {
+    match <[u8; 16]>::try_from(bytes) {
+        Ok(record) => decode(&record).is_some(),
+        Err(_) => false,
+    }
+}

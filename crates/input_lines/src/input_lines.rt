@@ -1,0 +1,145 @@
+//! Whole lines out of pieces.
+ghost use Rattle.std.specs.Prelude.{◌≡◌, ◌↔◌, ◌+◌, ◌≤◌, ◌<◌, ◌++◌, ◌∷◌, [], ℕ, List, Ok, length, take, drop, true, false, position};
+ghost use Rattle.std.specs.Prelude.{IfOk, IsTrue, OnErr};
+ghost use Rattle.outside_io.specs.Causes.{HasCause};
+ghost use Rattle.input_lines.specs.Lines.{is_newline};
+ghost use Rattle.input_lines.specs.Reading.{Gives, IsReading, reading};
+
+use arrayvec::ArrayVec;
+use cell_base::NoMemory;
+use outside_io::{Failed, Source};
+use std::alloc::Global;
+use std::marker::Model;
+
+/// How many bytes of a line are kept.
+pub const LINE_KEPT: usize = 65;
+
+// How many bytes are asked for at a time: as many as a pipe gives at once.
+const PIECE_BYTES: usize = 4096;
+
+/// The line at hand, the bytes of the line that has begun, and the bytes after these that were read.
+#[derive(Drop)]
+pub struct InputLines {
+    piece: Vec<u8>,
+    at: usize,
+    end: usize,
+    begun: ArrayVec<u8, LINE_KEPT>,
+    line: ArrayVec<u8, LINE_KEPT>,
+    ghost within: { (at ≤ end) × (end ≤ length piece.items) × (0 < length piece.items) },
+}
+
+impl Model for InputLines {
+    ghost use Rattle.input_lines.specs.Reading.{LinesState, reading};
+
+    ghost Value = { LinesState };
+
+    ghost view = { λ s. reading s.piece.items s.at s.end s.begun.items s.line.items };
+}
+
+impl InputLines {
+    /// Nothing was read yet.
+    pub fn new(alloc: Global) -> Result<InputLines, NoMemory>
+        ensures { IfOk result (λ lines. lines ≡ record { begun = []; ahead = []; line = [] }) }
+    {
+        let piece = vec![in alloc; 0u8; PIECE_BYTES]?;
+        Ok(InputLines {
+            piece,
+            at: 0,
+            end: 0,
+            begun: ArrayVec::new(),
+            line: ArrayVec::new(),
+        })
+    }
+
+    /// Whether each byte that was read is in a line that was given, or in the begun one.
+    pub fn is_spent(&self) -> bool
+        ensures { IsTrue result ↔ self.now.ahead ≡ [] }
+    {
+        self.at == self.end
+    }
+
+    /// Reads the next piece, where all that was read is spent, and answers how many bytes it has. No bytes: the end of the input.
+    pub fn fill<S: Source>(&mut self, source: &mut S) -> Result<usize, Failed>
+        requires spent { self.old.ahead ≡ [] }
+        ensures goes_on { IfOk result (λ count. Gives (S.given source.old) (S.given source.new) self.old self.new count) }
+        ensures end { result ≡ Ok 0 → S.has_ended source.new }
+        ensures nothing { OnErr result ((S.given source.new ≡ S.given source.old) × (self.new ≡ self.old)) }
+        ensures cause { HasCause (S.faults source.old) (S.faults source.new) result }
+    {
+        match source.next_piece(self.piece.as_mut_slice()) {
+            Ok(count) => {
+                self.at = 0;
+                self.end = count;
+                Ok(count)
+            }
+            Err(failed) => {
+                self.at = 0;
+                self.end = 0;
+                Err(failed)
+            }
+        }
+    }
+
+    /// Takes the next whole line. Where there is none, all bytes that were read are in the line that has begun.
+    pub fn next_line(&mut self) -> bool
+        ensures whole { result ≡ true → (text : List ℕ) (given : List (List ℕ)) → IsReading text given self.old
+            → (line : List ℕ) × (self.new.line ≡ take LINE_KEPT line) × IsReading text (given ++ line ∷ []) self.new }
+        ensures none { result ≡ false → (self.new.ahead ≡ [])
+            × ((text : List ℕ) (given : List (List ℕ)) → IsReading text given self.old → IsReading text given self.new) }
+    {
+        match first_newline(&self.piece[self.at..self.end]) {
+            Some(count) => {
+                self.keep(count);
+                self.at += 1;
+                std::mem::swap(&mut self.line, &mut self.begun);
+                self.begun.clear();
+                true
+            }
+            None => {
+                self.keep(self.end - self.at);
+                false
+            }
+        }
+    }
+
+    /// The line at hand, without its newline: all of it, or its first `LINE_KEPT` bytes.
+    pub fn line(&self) -> &[u8]
+        ensures { result.now ≡ self.now.line }
+    {
+        self.line.as_slice()
+    }
+
+    // Moves so many bytes into the line that has begun, which keeps its first bytes.
+    fn keep(&mut self, count: usize)
+        requires { count ≤ length self.old.ahead }
+        ensures { self.new
+            ≡ record self.old { begun = take LINE_KEPT (self.old.begun ++ take count self.old.ahead); ahead = drop count self.old.ahead } }
+    {
+        keep_first(&mut self.begun, &self.piece[self.at..self.at + count]);
+        self.at += count;
+    }
+}
+
+// Appends as many bytes as are kept.
+fn keep_first(kept: &mut ArrayVec<u8, LINE_KEPT>, bytes: &[u8])
+    ensures { kept.new.items ≡ take LINE_KEPT (kept.old.items ++ bytes.now) }
+{
+    let room = LINE_KEPT - kept.len();
+    let count = bytes.len().min(room);
+    append(kept, &bytes[..count]);
+}
+
+// Appends bytes for which there is room.
+fn append(kept: &mut ArrayVec<u8, LINE_KEPT>, bytes: &[u8])
+    requires { length kept.old.items + length bytes.now ≤ LINE_KEPT }
+    ensures { kept.new.items ≡ kept.old.items ++ bytes.now }
+{
+    let _ = kept.try_extend_from_slice(bytes);
+}
+
+// Where the first newline stands.
+fn first_newline(bytes: &[u8]) -> Option<usize>
+    ensures { result ≡ position is_newline bytes.now }
+{
+    bytes.iter().position(|byte| *byte == b'\n')
+}

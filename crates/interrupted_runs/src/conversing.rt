@@ -1,0 +1,87 @@
+//! A conversation with a server, over objects in memory.
+
+use crate::call::{CallEnd, files_with};
+use anyhow::{Context, Result, bail};
+use cell_base::List;
+use cell_program::{Ended, serve_main};
+use outside_io::{CallKind, DiskCall, MemDisk, MemSink, MemSource, Sink};
+use std::alloc::Global;
+use std::sync::Wait;
+use torn_sinks::TornSink;
+
+/// A kind of call of the outside. Of a torn put the sink takes the first half of the piece.
+#[derive(Clone, Copy, Debug)]
+pub enum Outside {
+    Disk(CallKind),
+    Put,
+    TornPut,
+    Read,
+}
+
+/// The call of a kind that is to fail, numbered from 1.
+#[derive(Clone, Copy)]
+pub struct Failing {
+    pub kind: Outside,
+    pub nth: u64,
+}
+
+/// Lines that a server is asked, in pieces of at most so many bytes.
+#[derive(Clone, Copy)]
+pub struct Asked<'a> {
+    pub lines: &'a str,
+    pub piece: usize,
+}
+
+impl<'a> Asked<'a> {
+    /// Asks them after the journal of these bytes.
+    pub fn ask<R: Wait>(
+        &self,
+        rt: &R,
+        alloc: Global,
+        journal: &[u8],
+        failing: Option<Failing>,
+    ) -> Result<CallEnd> {
+        let (mut calls, mut puts) = (List::new(alloc), List::new(alloc));
+        let mut reads = List::new(alloc);
+        if let Some(Failing { kind, nth }) = failing {
+            match kind {
+                Outside::Disk(kind) => push(&mut calls, DiskCall { kind, nth })?,
+                Outside::Put => push(&mut puts, nth)?,
+                Outside::Read => push(&mut reads, nth)?,
+                Outside::TornPut => {
+                    let mut out = TornSink::new(alloc, nth.saturating_sub(1));
+                    let ended = self.ask_over(rt, alloc, journal, calls, reads, &mut out)?;
+                    return CallEnd::new(alloc, ended, out.bytes());
+                }
+            }
+        }
+        let mut out = MemSink::new(alloc, puts);
+        let ended = self.ask_over(rt, alloc, journal, calls, reads, &mut out)?;
+        CallEnd::new(alloc, ended, out.bytes())
+    }
+
+    // Asks them over this sink. The listed calls of the disk and reads of the input fail.
+    fn ask_over<R: Wait, K: Sink>(
+        &self,
+        rt: &R,
+        alloc: Global,
+        journal: &[u8],
+        calls: List<DiskCall>,
+        reads: List<u64>,
+        out: &mut K,
+    ) -> Result<Ended<MemDisk>> {
+        let disk = MemDisk::new(alloc, journal, calls);
+        let disk = disk.ok().context("no memory")?;
+        let mut files = files_with(alloc, b"")?;
+        let input = MemSource::new(alloc, self.lines.as_bytes(), self.piece, reads);
+        let mut input = input.ok().context("no memory")?;
+        Ok(serve_main(rt, alloc, &mut files, &mut input, out, "cell", disk))
+    }
+}
+
+fn push<T: Drop>(calls: &mut List<T>, call: T) -> Result<()> {
+    if calls.try_push(call).is_err() {
+        bail!("no memory");
+    }
+    Ok(())
+}

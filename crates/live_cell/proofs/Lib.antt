@@ -1,0 +1,4 @@
+-- Lemmas, grouped by subject.
+pub mod Acknowledging
+pub mod Committing
+pub mod Opened

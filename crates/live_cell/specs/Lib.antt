@@ -1,0 +1,5 @@
+-- What the contracts cite.
+pub mod Acknowledged
+pub mod LiveState
+pub mod Moments
+pub mod Openings

@@ -1,0 +1,5 @@
+//! Why a request is not decided.
+
+/// The request would be granted, and the grants on the disk and the pending ones use up the journal's room. Nothing changes.
+#[derive(Clone, Copy, Debug, PartialEq, Eq)]
+pub struct JournalFull;

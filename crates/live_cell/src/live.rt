@@ -1,0 +1,223 @@
+//! The live cell.
+ghost use Rattle.std.specs.Prelude.{◌≡◌, ◌+◌, ◌<◌, ◌≤◌, ℕ, List as Sequence, [], ◌++◌, length};
+ghost use Rattle.std.specs.Prelude.{Some, true, false, OnOk, OnErr, IfOk, IfSome, ⊤};
+ghost use Rattle.durable_cell.specs.Clauses.{CellFits, Grant, IsAdmitted, RequestFits, StandsFor, reply_to};
+ghost use Rattle.move_journal.specs.Disks.{Shows};
+ghost use Rattle.move_journal.specs.Journals.{IsBeforeOrAfterAll};
+ghost use Rattle.live_cell.specs.LiveState.{asked, committed};
+
+use crate::{JournalFull, LiveOpening, LiveParts};
+use admission_core::Core;
+use cell_base::{Cell, Grant, Reply, Request};
+use durable_cell::{MAX_ROOM, Restored, restore};
+use move_journal::{Group, Journal, MAX_CELL_TEXT, MAX_GROUP};
+use outside_io::{Disk, Failed};
+use std::alloc::Global;
+use std::marker::Model;
+
+/// A core with the journal of its grants, and a group of grants that are decided and not yet stable. Contracts see it as a
+/// `LiveState`. All memory is taken at the opening.
+#[derive(Drop)]
+pub struct LiveCell<D: Disk> {
+    core: Core,
+    journal: Journal<D>,
+    group: Group,
+    most: u64,
+    room: u64,
+}
+
+impl<D: Disk> Model for LiveCell<D> {
+    ghost use Rattle.live_cell.specs.LiveState.{LiveState, seen, HasRoom};
+
+    ghost Value = { LiveState D };
+
+    ghost view = { λ s. seen s.core s.journal s.group s.room };
+
+    ghost invariant = { λ s. HasRoom s.journal.len s.group s.most s.room };
+}
+
+impl<D: Disk> LiveCell<D> {
+    ghost use Rattle.outside_io.specs.Causes.{Rose};
+    ghost use Rattle.outside_io.specs.Disk.{Turns, LeavesOnly};
+    ghost use Rattle.durable_cell.specs.Clauses.{AreDue, Granted, opened_as};
+    ghost use Rattle.live_cell.specs.Openings.{IsNew, IsAnswer, IsFound, HasCause, Leaves};
+
+    /// The cell after the grants that stand on a disk with this cell text, which are handed out beside it, if there are at most
+    /// `room` of them; so many the journal may have in all. At most `most` grants may be pending. A disk that holds no journal gets
+    /// one of no grants, as the last step.
+    pub fn open(
+        alloc: Global,
+        cell: Cell,
+        cell_text: &[u8],
+        disk: D,
+        room: u64,
+        most: u64,
+    ) -> LiveOpening<D>
+        requires fits { CellFits cell }
+        requires text { length cell_text.now ≤ MAX_CELL_TEXT }
+        requires room { room ≤ MAX_ROOM }
+        requires group { most ≤ MAX_GROUP }
+        ensures new { IsNew cell room most result }
+        ensures exact { IfSome (D.reads_as disk) (λ file. IsAnswer result (opened_as cell file cell_text.now room)) }
+        ensures cause { HasCause D.faults disk result }
+        ensures leaves { Leaves D.reads_as D.may_leave D.moment D.left_since disk cell_text.now result }
+
+        // What a live or durable cell may leave is opened.
+        ensures stands { (file : Sequence ℕ) (grants : Sequence Grant) → D.reads_as disk ≡ Some file
+            → StandsFor file cell_text.now grants → AreDue cell grants → length grants ≤ room → IsFound grants result }
+    {
+        match restore(alloc, cell, cell_text, disk, room) {
+            Restored::Open {
+                core,
+                stored,
+                grants,
+            } => {
+                let Ok(group) = Group::with_room(alloc, most) else {
+                    return LiveOpening::Memory {
+                        disk: stored.into_disk(),
+                    };
+                };
+                match stored.into_journal(cell_text) {
+                    Ok(journal) => LiveOpening::Open {
+                        live: LiveCell {
+                            core,
+                            journal,
+                            group,
+                            most,
+                            room,
+                        },
+                        grants,
+                    },
+                    Err(disk) => LiveOpening::Device { disk },
+                }
+            }
+            Restored::Refused { disk, why } => LiveOpening::Refused { disk, why },
+            Restored::Device { disk } => LiveOpening::Device { disk },
+            Restored::Memory { disk } => LiveOpening::Memory { disk },
+        }
+    }
+
+    /// The reply that a request would get after all that were decided. Nothing changes.
+    pub fn decide(&self, request: &Request) -> Reply
+        requires { RequestFits self.now.cell request.now }
+        ensures { result ≡ reply_to self.now.cell self.now.parts request.now }
+    {
+        self.core.decide(request)
+    }
+
+    /// Decides a request of a session after all that were decided before it. A grant has shift 0, and is pending until the next
+    /// commit.
+    pub fn ask(&mut self, session: u16, request: &Request) -> Result<Reply, JournalFull>
+        requires fits { RequestFits self.old.cell request.now }
+        requires spare { 0 < self.old.spare }
+        requires runs { self.old.is_halted ≡ false }
+        ensures reply { IfOk result (λ reply. reply ≡ reply_to self.old.cell self.old.parts request.now) }
+        ensures state { OnOk result (self.new ≡ asked self.old session request.now) }
+        ensures had_room { IfOk result (λ reply. reply ≡ Granted → self.old.len + length self.old.pending < self.old.room) }
+
+        ensures full { OnErr result (self.old.len + length self.old.pending ≡ self.old.room) }
+        ensures granted { OnErr result (reply_to self.old.cell self.old.parts request.now ≡ Granted) }
+        ensures same { OnErr result (self.new ≡ self.old) }
+    {
+        match self.core.decide(request) {
+            Reply::Granted => {
+                if self.journal.len() + self.group.grants().len() as u64 >= self.room {
+                    return Err(JournalFull);
+                }
+                self.group.push(&Grant {
+                    shift: 0,
+                    session,
+                    request: *request,
+                });
+                self.core.apply(request);
+                Ok(Reply::Granted)
+            }
+            Reply::Refused(why) => Ok(Reply::Refused(why)),
+        }
+    }
+
+    /// Makes the pending grants stable, by as many calls of the device as one takes, and by none where there is none. At `Ok` each
+    /// crash from then on leaves a journal that has them all.
+    pub fn commit(&mut self) -> Result<(), Failed>
+        requires runs { self.old.is_halted ≡ false }
+        ensures ok { OnOk result (self.new ≡ committed self.old self.new.disk) }
+        ensures fed { OnOk result (D.faults self.new.disk ≡ D.faults self.old.disk) }
+        ensures untouched { self.old.pending ≡ [] → self.new ≡ self.old }
+
+        ensures halts { OnErr result (self.new ≡ record self.old { disk = self.new.disk; is_halted = true }) }
+        ensures device { OnErr result (Rose (D.faults self.old.disk) (D.faults self.new.disk)) }
+
+        // What the disk holds at the return, and at each moment since the entry, where it told its bytes.
+        ensures tells { Turns (D.reads_as self.old.disk) (D.reads_as self.new.disk) (λ _ _. ⊤) }
+        ensures stored { (text : Sequence ℕ) (grants : Sequence Grant)
+            → Shows D.reads_as D.may_leave self.old.disk (λ old. StandsFor old text grants)
+            → OnOk result (Shows D.reads_as D.may_leave self.new.disk (λ new. StandsFor new text (grants ++ self.old.pending))) }
+        ensures kept { (text : Sequence ℕ) (grants : Sequence Grant)
+            → Shows D.reads_as D.may_leave self.old.disk (λ old. StandsFor old text grants)
+            → Shows D.reads_as D.may_leave self.new.disk (IsBeforeOrAfterAll text grants self.old.pending) }
+        ensures any_moment { (text : Sequence ℕ) (grants : Sequence Grant)
+            → Shows D.reads_as D.may_leave self.old.disk (λ old. StandsFor old text grants)
+            → IfSome (D.reads_as self.old.disk) (λ _.
+            LeavesOnly D.moment D.left_since self.old.disk self.new.disk (IsBeforeOrAfterAll text grants self.old.pending)) }
+    {
+        if self.group.grants().is_empty() {
+            return Ok(());
+        }
+        match self.journal.append_all(&self.group) {
+            Ok(()) => {
+                self.group.clear();
+                Ok(())
+            }
+            Err(_) => Err(Failed),
+        }
+    }
+
+    /// How many more grants may be pending.
+    pub fn spare(&self) -> u64
+        ensures { result ≡ self.now.spare }
+    {
+        self.most - self.group.grants().len() as u64
+    }
+
+    /// The number of grants on the disk.
+    pub fn len(&self) -> u64
+        ensures { result ≡ self.now.len }
+    {
+        self.journal.len()
+    }
+
+    /// The core, after all that was decided.
+    pub fn core(&self) -> &Core
+        ensures core { result.now ≡ record { cell = self.now.cell; parts = self.now.parts } }
+        ensures fits { CellFits self.now.cell }
+        ensures admitted { IsAdmitted self.now.cell self.now.parts }
+    {
+        let _cell = self.core.cell();
+        &self.core
+    }
+
+    /// Takes the live cell apart.
+    pub fn finish(self) -> LiveParts<D>
+        ensures core { result.core ≡ record { cell = self.cell; parts = self.parts } }
+        ensures disk { result.disk ≡ self.disk }
+    {
+        let LiveCell {
+            core,
+            journal,
+            group: _,
+            most: _,
+            room: _,
+        } = self;
+        LiveParts {
+            core,
+            disk: journal.into_disk(),
+        }
+    }
+
+    /// The disk, taken out of the live cell.
+    pub fn into_disk(self) -> D
+        ensures { result ≡ self.disk }
+    {
+        self.journal.into_disk()
+    }
+}

@@ -1,0 +1,76 @@
+//! A sink that sees what goes through it.
+ghost use Rattle.std.specs.Prelude.{◌≡◌};
+
+use crate::progress::WIPE;
+use arrayvec::ArrayVec;
+use outside_io::{Failed, Sink};
+
+/// The most bytes of a line that is kept.
+const LINE_BYTES: usize = 256;
+
+/// What is done beside the puts.
+#[derive(Clone, Copy, Debug, PartialEq, Eq)]
+pub struct Seen {
+    /// The last line is kept.
+    pub keeps: bool,
+    /// Before the first put the line on standard error that tells how far the command is, is wiped.
+    pub wipes: bool,
+}
+
+/// A sink over another one, to which each put goes on as it comes.
+#[derive(Drop)]
+pub struct SeenSink<'a, K, R> {
+    inner: K,
+    rt: &'a R,
+    seen: Seen,
+    line: ArrayVec<u8, LINE_BYTES>,
+}
+
+impl<'a, K, R: Eprint> SeenSink<'a, K, R> {
+    /// A sink to which nothing was put yet.
+    pub fn new(rt: &'a R, inner: K, seen: Seen) -> SeenSink<'a, K, R> {
+        SeenSink {
+            inner,
+            rt,
+            seen,
+            line: ArrayVec::new(),
+        }
+    }
+
+    /// The sink below.
+    pub fn inner(&mut self) -> &mut K {
+        &mut self.inner
+    }
+
+    /// The last line that was put, where it is kept; an empty one where it is too long.
+    pub fn line(&self) -> &[u8] {
+        self.line.as_slice()
+    }
+
+    // What is done before a put.
+    fn see(&mut self, piece: &[u8])
+        ensures { self.new.inner ≡ self.old.inner }
+    {
+        if self.seen.wipes {
+            let _ = eprint!(self.rt; "{WIPE}");
+            self.seen.wipes = false;
+        }
+        if self.seen.keeps {
+            self.line.clear();
+            let _ = self.line.try_extend_from_slice(piece);
+        }
+    }
+}
+
+impl<K: Sink, R: Eprint> Sink for SeenSink<'_, K, R> {
+    ghost taken = { λ sink. K.taken sink.inner };
+
+    ghost was_put = { λ old piece new. K.was_put old.inner piece new.inner };
+
+    ghost faults = { λ sink. K.faults sink.inner };
+
+    fn put(&mut self, piece: &[u8]) -> Result<(), Failed> {
+        self.see(piece);
+        self.inner.put(piece)
+    }
+}

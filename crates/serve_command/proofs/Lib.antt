@@ -1,0 +1,11 @@
+pub mod Answering
+pub mod Asking
+pub mod Conversing
+pub mod Counting
+pub mod Delivering
+pub mod Ending
+pub mod Grouping
+pub mod Histories
+pub mod Rounding
+pub mod Standing
+pub mod Taking

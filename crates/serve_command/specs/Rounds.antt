@@ -1,0 +1,87 @@
+-- One round of a conversation.
+use Rattle.std.specs.Prelude.{◌≡◌, ℕ, ◌+◌, Bool, true, false, IfSome, List, [], ◌∷◌, ◌++◌, length, map, Option, Result, Ok, Err, ⊤}
+use Rattle.std.specs.List.{All}
+use Rattle.outside_io.specs.Disk.{LeavesOnly, Turns}
+use Rattle.outside_io.specs.Causes.{Rose}
+use Rattle.outside_io.specs.Puts.{SinkTold, TookAll}
+use Rattle.cell_base.specs.declared.cells.Cell.{Cell}
+use Rattle.cell_base.specs.declared.shifts.Grant.{Grant}
+use Rattle.input_lines.specs.Reading.{IsReading, LinesState}
+use Rattle.move_journal.specs.Disks.{Shows}
+use Rattle.move_journal.specs.Journals.{IsBeforeOrAfterAll, StandsFor}
+use Rattle.cell_walks.specs.Outcomes.{IsDelivered, Outcome}
+use Rattle.cell_walks.specs.declared.status.Status.{Status}
+use Rattle.serve_command.specs.Answers.{answers, since}
+use Rattle.serve_command.specs.Asks.{ask_of}
+pub use Rattle.serve_command.specs.Serve.{Stops, full_line}
+pub use Rattle.serve_command.specs.Serving.{IsJournalFull, IsGroup, IsReady, StandsAt}
+use Rattle.serve_command.specs.declared.asks.Ask.{Ask}
+pub use Rattle.serve_command.specs.declared.replies.TheConstants.{GROUP_LINES}
+use Rattle.serve_command.specs.declared.server.Server.{Server}
+
+-- the cell, the disk and the room stay, and so many grants more may be pending as are not
+pub record Stays {D : Type 0} (old new : Server D) : Type 0 where
+  pub cell : new.live.cell ≡ old.live.cell
+  pub disk : new.live.disk ≡ old.live.disk
+  pub len : new.live.len ≡ old.live.len
+  pub room : new.live.room ≡ old.live.room
+  pub runs : new.live.is_halted ≡ old.live.is_halted
+  pub spare : new.live.spare + length new.live.pending ≡ old.live.spare + length old.live.pending
+
+-- which lines were taken: those of the group, and the one that found the journal full
+abbrev pub AreTaken : Cell → List Grant → List ℕ → List (List ℕ) → List (List ℕ) → LinesState → Bool → Type 0
+AreTaken cell grants text given group lines false = IsReading text (given ++ group) lines
+AreTaken cell grants text given group lines true =
+    (line : List ℕ) × IsReading text (given ++ group ++ line ∷ []) lines
+    × IsJournalFull cell (grants ++ since cell grants (map (ask_of cell) group)) (ask_of cell line)
+
+-- lines were answered as a group
+abbrev pub IsTaken : {D : Type 0} → Cell → List Grant → ℕ → List ℕ → List (List ℕ) → Server D → LinesState → Bool → Type 0
+IsTaken cell grants number text given server lines full =
+    (group : List (List ℕ)) × IsGroup cell grants number (map (ask_of cell) group) server × AreTaken cell grants text given group lines full
+
+-- The server stands after these grants, and so does its disk, with this cell text.
+pub record StandsAfter {D : Type 0} (reads_as : D → Option (List ℕ)) (may_leave : D → List ℕ → Type 0) (cell_text : List ℕ)
+    (grants : List Grant) (server : Server D) : Type 0 where
+  pub at : StandsAt grants server
+  pub disk : Shows reads_as may_leave server.live.disk (λ file. StandsFor file cell_text grants)
+
+-- The disk tells where it told, and at each moment each image stood for the grants, or for these and all of the others.
+pub record Moves {D : Type 0} (reads_as : D → Option (List ℕ)) (moment : D → ℕ) (left_since : D → ℕ → List ℕ → Type 0)
+    (cell_text : List ℕ) (grants more : List Grant) (old new : D) : Type 0 where
+  pub tells : Turns (reads_as old) (reads_as new) (λ _ _. ⊤)
+  pub any_moment : IfSome (reads_as old) (λ _. LeavesOnly moment left_since old new (IsBeforeOrAfterAll cell_text grants more))
+
+module _ {D : Type 0} (reads_as : D → Option (List ℕ)) (may_leave : D → List ℕ → Type 0) (moment : D → ℕ)
+    (left_since : D → ℕ → List ℕ → Type 0) (faults : D → ℕ) (cell : Cell) (sink : SinkTold) (cell_text : List ℕ) (grants : List Grant)
+    (text : List ℕ) (given : List (List ℕ)) (old new : Server D) (lines : LinesState) where
+  -- These lines were answered, and their grants are on the disk.
+  pub record IsRound (group : List (List ℕ)) : Type 0 where
+    pub cell_is : new.live.cell ≡ cell
+    pub stands_after : let more = since cell grants (map (ask_of cell) group) in
+        StandsAfter reads_as may_leave cell_text (grants ++ more) new
+    pub moves : let more = since cell grants (map (ask_of cell) group) in
+        Moves reads_as moment left_since cell_text grants more old.live.disk new.live.disk
+    pub asked : new.asked ≡ old.asked + length group
+    pub reads : IsReading text (given ++ group) lines
+    pub took : TookAll sink (answers cell grants (old.asked + 1) (map (ask_of cell) group))
+
+  -- The conversation stops: of what these lines ask, the first asks were answered, and the others were not.
+  pub record IsLastRound (status : Status) : Type 0 where
+    pub taken : List (List ℕ)
+    pub group : List Ask
+    pub others : List Ask
+    pub parted : map (ask_of cell) taken ≡ group ++ others
+    pub reads : IsReading text (given ++ taken) lines
+    pub outcome : Outcome
+    pub stops : Stops cell (grants ++ since cell grants group) (answers cell grants (old.asked + 1) group) (since cell grants group)
+        others outcome
+    pub delivered : IsDelivered sink outcome status
+    pub disk : Shows reads_as may_leave new.live.disk (λ file. IsBeforeOrAfterAll cell_text (grants ++ outcome.added) outcome.unsure file)
+    pub moves : Moves reads_as moment left_since cell_text grants (outcome.added ++ outcome.unsure) old.live.disk new.live.disk
+    pub cause : All (λ grant. Rose (faults old.live.disk) (faults new.live.disk)) outcome.unsure
+
+  -- one of the two
+  abbrev pub Rounds : Result ⊤ Status → Type 0
+  Rounds (Ok _) = (group : List (List ℕ)) × IsRound group
+  Rounds (Err status) = IsLastRound status

@@ -1,0 +1,87 @@
+-- `serve CELL JOURNAL`: the lines of the input, each answered after the grants of the journal and of the lines before it.
+use Rattle.std.specs.Prelude.{◌≡◌, ◌<◌, ℕ, ◌+◌, List, [], ◌∷◌, ◌++◌, length, take}
+use Rattle.std.specs.Io.KnownBytes.{Appends}
+use Rattle.outside_io.specs.Causes.{Rose}
+use Rattle.cell_base.specs.declared.cells.Cell.{Cell}
+use Rattle.cell_base.specs.declared.shifts.Grant.{Grant}
+use Rattle.cell_base.specs.Histories.{replay}
+use Rattle.cell_base.specs.Plans.{Drains, plan_of}
+use Rattle.record_text.specs.Lines.{head_words, line_of}
+use Rattle.shift_recovery.specs.declared.faults.JournalFault.TheVariants.{Long}
+use Rattle.outside_io.specs.Source.{SourceTold}
+use Rattle.cell_walks.specs.Outcomes.{Outcome}
+use Rattle.cell_walks.specs.Statuses.{early_line}
+use Rattle.cell_walks.specs.Walks.{Walk, Tests, Opens, Answers}
+use Rattle.cell_walks.specs.declared.early_end.EarlyEnd.TheVariants.{NotRead}
+use Rattle.cell_walks.specs.declared.status.Status.TheVariants.{Done, DeviceFault, JournalRefused, ReadFault, SinkFault}
+use Rattle.cell_texts.specs.Blocks.{Lines, left_lines}
+use Rattle.cell_texts.specs.Tests.{cell_file, journal_line, to_add}
+use Rattle.serve_command.specs.Answers.{added_by, answers, halted_line, since}
+use Rattle.serve_command.specs.Serving.{IsJournalFull}
+use Rattle.serve_command.specs.Asks.{asks_of}
+use Rattle.serve_command.specs.declared.asks.Ask.{Ask}
+use Rattle.serve_command.specs.declared.command.TheConstants.{MAX_SERVED}
+
+-- the head, and the answers to these asks
+abbrev pub answered_lines : Cell → List Grant → List Ask → Lines
+answered_lines cell opening asked = line_of (head_words 0 (length opening)) ∷ answers cell opening 1 asked
+
+-- the line of a journal that has no room for one grant more
+abbrev pub full_line : List ℕ
+full_line = journal_line (Long (MAX_SERVED + 1))
+
+-- How a conversation stops after these grants, with the next asks not answered: these lines were put, and these grants were added.
+pub data Stops (cell : Cell) (grants : List Grant) (put : Lines) (added : List Grant) (others : List Ask) (outcome : Outcome) : Type 0 where
+  -- The next ask would be granted, and the journal has as many grants as it may have.
+  FullJournal : (next : Ask) (rest : List Ask) → others ≡ next ∷ rest → IsJournalFull cell grants next
+      → outcome ≡ record { status = JournalRefused; pieces = put ++ full_line ∷ []; added = added; unsure = [] }
+      → Stops cell grants put added others outcome
+  -- The device failed at the grant of the next ask, which is told to have halted, and at those of the asks after it that were decided
+  -- with it.
+  FailedDevice : (next : Ask) (rest : List Ask) (count : ℕ) → others ≡ next ∷ rest → 0 < length (added_by cell grants next)
+      → outcome ≡ record {
+        status = DeviceFault;
+        pieces = put ++ halted_line cell next ∷ [];
+        added = added;
+        unsure = since cell grants (next ∷ take count rest);
+      }
+      → Stops cell grants put added others outcome
+  -- The sink failed at an answer.
+  FailedSink : outcome ≡ record { status = SinkFault; pieces = put; added = added; unsure = [] }
+      → Stops cell grants put added others outcome
+
+-- how it ends
+pub data EndsServing (cell : Cell) (grants : List Grant) (input : SourceTold) (put : Lines) (added : List Grant) (others : List Ask)
+    (outcome : Outcome) : Type 0 where
+  -- The input has ended: the parts that are left are told, and the plan that drains them.
+  InputEnded : others ≡ [] → input.ended → (let left = replay cell grants in Drains cell left (plan_of cell left))
+      → (let left = replay cell grants in outcome ≡ record {
+        status = Done;
+        pieces = put ++ left_lines cell (length left) (plan_of cell left);
+        added = added;
+        unsure = [];
+      })
+      → EndsServing cell grants input put added others outcome
+  -- It could not be read.
+  InputLost : others ≡ [] → Rose input.faults input.faults_after
+      → outcome ≡ record { status = ReadFault; pieces = put ++ early_line NotRead ∷ []; added = added; unsure = [] }
+      → EndsServing cell grants input put added others outcome
+  -- It stops before.
+  Stopped : Stops cell grants put added others outcome → EndsServing cell grants input put added others outcome
+
+-- The source gave this text. What its whole lines ask was answered in turn, up to the end of the conversation.
+pub record IsServed (cell : Cell) (opening : List Grant) (input : SourceTold) (outcome : Outcome) : Type 0 where
+  pub text : List ℕ
+  pub came : Appends input.given input.given_after text
+  pub asked : List Ask
+  pub others : List Ask
+  pub split : asks_of cell text ≡ asked ++ others
+  pub ends : EndsServing cell (opening ++ since cell opening asked) input (answered_lines cell opening asked) (since cell opening asked)
+      others outcome
+
+-- the walk of `serve`
+abbrev pub serve : List ℕ → Walk
+serve cell =
+    Tests (cell_file cell) λ held.
+    Opens (to_add held MAX_SERVED) λ opening.
+    Answers λ input outcome. IsServed held.cell opening input outcome

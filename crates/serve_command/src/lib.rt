@@ -1,0 +1,29 @@
+//! `serve CELL JOURNAL`: one step at a time, durably, for software that asks while it runs.
+//!
+//! The command reads lines and answers each by one line, in turn. A step that is granted is on the disk before its answer is put. The lines
+//! that are there when it reads are answered as one group, up to 512 of them: they are decided in turn, their grants are made stable by one
+//! pair of syncs, and then the answers are put. All memory is taken before the first line is put, and none after:
+//!
+//! ```text
+//! shift 0 after 12          // ready, after twelve grants
+//! 7 load 3 A                // in
+//! 7 load 3 A granted        // out
+//! 7 grants                  // in
+//! 7 grants 1                // out
+//! ```
+#![tactic(auto)]
+
+mod asks;
+mod command;
+mod counts;
+pub mod laws;
+mod replies;
+mod rounds;
+mod server;
+mod serving;
+
+pub use asks::{Ask, MAX_ASK_BYTES, MAX_SESSION, read_ask};
+pub use command::{MAX_SERVED, run_serve};
+
+#[cfg(test)]
+mod tests;

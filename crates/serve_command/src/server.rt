@@ -1,0 +1,191 @@
+//! A live cell that answers asks, in groups.
+ghost use Rattle.std.specs.Prelude.{◌≡◌, ◌<◌, ◌+◌, ◌^◌, ◌-◌, ◌++◌, ◌∷◌, false, [], List, length, codes, OnOk, OnErr};
+ghost use Rattle.std.specs.Fmt.{decimal};
+ghost use Rattle.cell_base.specs.declared.shifts.Grant.{Grant};
+ghost use Rattle.record_text.specs.Fitting.{EntryFits};
+ghost use Rattle.record_text.specs.Lines.{line_of, told_words};
+ghost use Rattle.step_text.specs.Steps.{request_words};
+ghost use Rattle.serve_command.specs.Clauses.{Answered, AskFits, Counted, GROUP_LINES, GoesOn, IsAnswered, IsJournalFull};
+ghost use Rattle.serve_command.specs.Clauses.{IsStep, MAX_SERVED, StandsAt, Step, entry_of, reply_to, step_words};
+
+use crate::asks::Ask;
+use crate::counts::SessionCounts;
+use crate::replies::Replies;
+use cell_base::{Cell, Entry, Grant, Reply, Request, Told};
+use live_cell::{JournalFull, LiveCell};
+use outside_io::Disk;
+use policy_laws::refusal_law;
+use record_text::{Line, left_line, line_of, why_line};
+
+/// Where the answer to the first grant of a group stands among the answers, and the line that says that it halted.
+#[derive(Drop)]
+pub struct FirstGrant {
+    pub at: usize,
+    pub line: Line,
+}
+
+/// A live cell, the number of each session's grants, and how many lines were asked. Of the group that is under way, the answers, which are
+/// put once its grants are stable, and its first grant.
+#[derive(Drop)]
+pub struct Server<D: Disk> {
+    pub live: LiveCell<D>,
+    pub counts: SessionCounts,
+    pub asked: u64,
+    pub replies: Replies,
+    pub first: Option<FirstGrant>,
+}
+
+impl<D: Disk> Server<D> {
+    /// Answers an ask after all that were asked before it. Where it would be granted and the journal has no room, nothing changes.
+    pub fn answer(&mut self, ask: &Ask) -> Result<(), JournalFull>
+        requires fits { AskFits self.old.live.cell ask.now }
+        requires runs { self.old.live.is_halted ≡ false }
+        requires room { self.old.live.room ≡ MAX_SERVED }
+        requires spare { 0 < self.old.live.spare }
+        requires short { length self.old.replies < GROUP_LINES }
+        requires few { self.old.asked < 2 ^ 64 - 1 }
+        ensures answered { (grants : List Grant) → StandsAt grants self.old
+            → OnOk result (IsAnswered self.old.live.cell grants self.old ask.now self.new) }
+        ensures goes_on { OnOk result (GoesOn self.old self.new) }
+        ensures full { (grants : List Grant) → StandsAt grants self.old → OnErr result (IsJournalFull self.old.live.cell grants ask.now) }
+        ensures same { OnErr result (self.new ≡ self.old) }
+    {
+        match ask {
+            Ask::Step { session, request } => return self.answer_step(*session, request),
+            Ask::Count { session } => {
+                let line = count_line(*session, self.counts.of(*session));
+                self.keep(line);
+            }
+            Ask::Why { request } => {
+                let line = self.look(request);
+                self.keep(line);
+            }
+            Ask::Left => {
+                let line = left_line(self.live.core().parts_left());
+                self.keep(line);
+            }
+            Ask::Nothing => {
+                let line = refused_line(self.asked + 1);
+                self.keep(line);
+            }
+        }
+        Ok(())
+    }
+
+    // Answers a step of a session.
+    fn answer_step(&mut self, session: u16, request: &Request) -> Result<(), JournalFull>
+        requires fits { IsStep self.old.live.cell request.now }
+        requires runs { self.old.live.is_halted ≡ false }
+        requires room { self.old.live.room ≡ MAX_SERVED }
+        requires spare { 0 < self.old.live.spare }
+        requires short { length self.old.replies < GROUP_LINES }
+        requires few { self.old.asked < 2 ^ 64 - 1 }
+        ensures answered { (grants : List Grant) → StandsAt grants self.old
+            → OnOk result (IsAnswered self.old.live.cell grants self.old (Step session request.now) self.new) }
+        ensures goes_on { OnOk result (GoesOn self.old self.new) }
+        ensures full { (grants : List Grant) → StandsAt grants self.old
+            → OnErr result (IsJournalFull self.old.live.cell grants (Step session request.now)) }
+        ensures same { OnErr result (self.new ≡ self.old) }
+    {
+        let core = self.live.core();
+        refusal_law(core.cell());
+        let reply = match self.live.ask(session, request) {
+            Ok(reply) => reply,
+            Err(full) => return Err(full),
+        };
+        let line = told_line(
+            self.live.core().cell(),
+            session,
+            request,
+            Told::Answered(reply),
+        );
+        match reply {
+            Reply::Granted => {
+                self.count_grant(session, request);
+                self.keep(line);
+                Ok(())
+            }
+            Reply::Refused(_) => {
+                self.keep(line);
+                Ok(())
+            }
+        }
+    }
+
+    // Counts a grant, and keeps its halted line where it is the first of the group.
+    fn count_grant(&mut self, session: u16, request: &Request)
+        requires { IsStep self.old.live.cell request.now }
+        ensures counted { Counted self.old session request.now self.new }
+    {
+        self.counts.add(&Grant {
+            shift: 0,
+            session,
+            request: *request,
+        });
+        if self.first.is_none() {
+            let line = told_line(self.live.core().cell(), session, request, Told::Halted);
+            self.first = Some(FirstGrant {
+                at: self.replies.len(),
+                line,
+            });
+        }
+    }
+
+    // The line of what a step would be told. Nothing changes.
+    fn look(&self, request: &Request) -> Line
+        requires { IsStep self.now.live.cell request.now }
+        ensures { let reply = reply_to self.now.live.cell self.now.live.parts request.now in
+            result ≡ line_of (codes "why" ∷ request_words self.now.live.cell request.now
+            ++ told_words self.now.live.cell (Answered reply)) }
+    {
+        let core = self.live.core();
+        let reply = core.decide(request);
+        why_line(core.cell(), request, &reply)
+    }
+
+    // Keeps an answer.
+    fn keep(&mut self, line: Line)
+        requires short { length self.old.replies < GROUP_LINES }
+        requires few { self.old.asked < 2 ^ 64 - 1 }
+        ensures { self.new ≡ record self.old { replies = self.old.replies ++ line ∷ []; asked = self.old.asked + 1 } }
+    {
+        self.replies.push(line);
+        self.asked += 1;
+    }
+}
+
+// The line of a step of a session.
+fn told_line(cell: &Cell, session: u16, request: &Request, told: Told) -> Line
+    requires { EntryFits cell.now (entry_of session request.now told) }
+    ensures { result ≡ line_of (step_words cell.now session request.now told) }
+{
+    line_of(
+        cell,
+        &Entry {
+            session,
+            request: *request,
+            told,
+        },
+    )
+}
+
+// How many grants a session has.
+fn count_line(session: u16, count: u32) -> Line
+    ensures { result ≡ line_of (decimal session ∷ codes "grants" ∷ decimal count ∷ []) }
+{
+    let mut line = Line::new();
+    line.begin_number(session);
+    line.word(b"grants");
+    line.number(count);
+    line.end()
+}
+
+// The line of this number asks nothing.
+fn refused_line(number: u64) -> Line
+    ensures { result ≡ line_of (codes "line" ∷ codes "refused" ∷ decimal number ∷ []) }
+{
+    let mut line = Line::of_word(b"line");
+    line.word(b"refused");
+    line.number(number);
+    line.end()
+}

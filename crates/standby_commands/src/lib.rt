@@ -1,0 +1,22 @@
+//! The commands of a standby: `feed` puts the grants of a journal as frames, and `follow` takes frames into a journal.
+//!
+//! Each is a walk in `specs/`, and a function that goes it: its clause `Ends` says that what was put, and done to the disk, is an outcome
+//! that the walk allows. `laws` says that frames of one list of grants, lost, repeated or in another order, are all taken.
+//!
+//! ```text
+//! let CommandEnd { status, disk } = run_follow(alloc, &mut files, &mut out, "cell.toml", "frames", disk);
+//! ```
+#![tactic(auto)]
+
+mod feed;
+mod follow;
+mod following;
+mod frames;
+mod printing;
+mod refusals;
+
+pub use feed::run_feed;
+pub use follow::run_follow;
+
+#[cfg(test)]
+mod tests;

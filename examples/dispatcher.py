@@ -1,0 +1,61 @@
+#!/usr/bin/env python3
+"""Lets several programs ask one server: examples/dispatcher.py SOCKET PROGRAM CELL JOURNAL
+
+SOCKET is where the programs connect (a Unix socket), and PROGRAM the controller, which serves CELL on JOURNAL as a child of this script.
+Each line of a connection is a line to the server, and gets its reply there. The connections are served side by side, so what they ask
+at the same time shares its syncs. Where a reply can't be had, since the server was killed, the connection ends: connect again, and ask
+`K grants` first. The script ends when the server does for another cause, with its status.
+"""
+import os
+import pathlib
+import socketserver
+import sys
+import threading
+
+from client import Cell, Stopped
+
+
+class Connection(socketserver.StreamRequestHandler):
+    """A program that is connected: its lines go to the server, one at a time."""
+
+    def handle(self):
+        for line in self.rfile:
+            if not line.endswith(b"\n"):
+                return  # it was cut off
+            words = line.decode("ascii", "replace").rstrip("\n")
+            try:
+                reply = self.server.cell.say(words)
+            except ValueError:
+                self.wfile.write(b"line refused\n")
+                continue
+            except Stopped as stopped:
+                self.server.stopped = stopped
+                threading.Thread(target=self.server.shutdown).start()
+                return
+            if reply is None:
+                return
+            self.wfile.write(f"{words} {reply}\n".encode())
+
+
+class Dispatcher(socketserver.ThreadingUnixStreamServer):
+    """The socket to which the programs connect."""
+
+    daemon_threads = True
+    stopped = None
+
+
+def main():
+    place, program, cell, journal = sys.argv[1:]
+    pathlib.Path(place).unlink(missing_ok=True)
+    try:
+        with Cell(program, "serve", cell, journal) as served, Dispatcher(place, Connection) as dispatcher:
+            dispatcher.cell = served
+            dispatcher.serve_forever()
+            raise dispatcher.stopped
+    except Stopped as stopped:
+        print(f"the server has ended with status {stopped.args[0]}: {stopped.args[1]}", file=sys.stderr)
+        os._exit(stopped.args[0])
+
+
+if __name__ == "__main__":
+    main()
