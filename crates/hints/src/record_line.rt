@@ -87,6 +87,11 @@ fn owed_words(alloc: Global, cell: Cell, bytes: &[u8], number: u32) -> Option<St
         return None;
     };
     let mut replay = Replay::new(core);
+    owed_in(alloc, &mut replay, bytes, number)
+}
+
+// The same, by a replay that has not begun.
+fn owed_in(alloc: Global, replay: &mut Replay, bytes: &[u8], number: u32) -> Option<String> {
     let Ok(blocks) = read_record(alloc, replay.cell(), bytes) else {
         return None;
     };
