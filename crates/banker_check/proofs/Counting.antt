@@ -13,12 +13,12 @@ use Rattle.policy_laws.proofs.Lists.{filter_all, All-from_Contains}
 use Rattle.policy_laws.proofs.Parts.{distinct-without, distinct-push, without-others}
 use Rattle.banker_check.specs.declared.held.Held.{Held}
 use Rattle.banker_check.specs.Ways.{stands_on, held}
-use Rattle.banker_check.specs.Counts.{AreHeld, counts_on}
+use Rattle.banker_check.specs.Counts.{AreUnitsHeld, counts_on}
 use Rattle.banker_check.proofs.Within.{length-filter_most}
 use Rattle.banker_check.proofs.Ordered.{held-push}
 
 -- no part stands on a resource where there is none
-pub AreHeld-none : (cell : Cell) → AreHeld cell [] (record { on = replicate MAX_RESOURCES 0; parts = 0 })
+pub AreHeld-none : (cell : Cell) → AreUnitsHeld cell [] (record { on = replicate MAX_RESOURCES 0; parts = 0 })
 AreHeld-none cell = record {
   complete = length-replicate {A = ℕ} MAX_RESOURCES 0;
   each = λ r. zeros MAX_RESOURCES r;
@@ -32,8 +32,8 @@ AreHeld-none cell = record {
 
 -- one part more
 pub AreHeld-push : (cell : Cell) (parts : List Part) (part : Part) (counts : Held) → resource_of_part cell part < MAX_RESOURCES
-    → AreHeld cell parts counts
-    → AreHeld cell (parts ++ part ∷ [])
+    → AreUnitsHeld cell parts counts
+    → AreUnitsHeld cell (parts ++ part ∷ [])
     (record { on = set counts.on (resource_of_part cell part) (get_or counts.on (resource_of_part cell part) 0 + 1); parts = counts.parts + 1 })
 AreHeld-push cell parts part counts within are = record {
   complete = length-set _ _ _ ∙ are.complete;

@@ -18,10 +18,10 @@ use Rattle.policy_laws.proofs.Masks.{bit_at-mask_of}
 use Rattle.policy_laws.proofs.Parts.{part_of-found}
 use Rattle.policy_laws.proofs.States.{count_push, count-without}
 use Rattle.policy_laws.proofs.Lists.{filter_all, find_none, All-find_none, All-from_Contains, list_any-Contains}
-use Rattle.banker_check.specs.Tallies.{AreCounts, mask_of_job}
+use Rattle.banker_check.specs.Tallies.{AreCountsOfParts, mask_of_job}
 use Rattle.banker_check.proofs.Within.{length-filter_most}
 
-pub counts-none : (cell : Cell) → AreCounts cell [] (replicate 64 0)
+pub counts-none : (cell : Cell) → AreCountsOfParts cell [] (replicate 64 0)
 counts-none cell r = zeros 64 r
   where
     zeros : (n r : ℕ) → ◌≡◌ {A = ℕ} (get_or (replicate n 0) r 0) 0
@@ -67,7 +67,7 @@ module _ (cell : Cell) (fits : CellFits cell) (parts : List Part) (distinct : Ha
   count-next part r =
       omega (arith, count_push cell (without parts part.job) part r, bit_at-mask_of cell fits (stage_of part) r, count-gone part.job r)
 
-  module _ (counts : List ℕ) (are : AreCounts cell parts counts) where
+  module _ (counts : List ℕ) (are : AreCountsOfParts cell parts counts) where
     -- what the running counts allow to take away, and how large they are
     pub counts-held : (job : JobId) (r : ℕ) → bit_at (mask_of_job cell parts job) r ≤ get_or counts r 0
     counts-held job r = omega (arith, count-gone job r, are r)
