@@ -1,5 +1,6 @@
 -- Rounds: each leaves out the parts that those of the round before do not hold up. What is left in the end is the largest stuck set.
-use Rattle.std.proofs.Common.{◌≡◌, ℕ, ◌+◌, ◌≤◌, Bool, true, false, cond, List, [], ◌∷◌, length, Contains, filter, get_or, ap, refl, sym, arith, ◌∙◌}
+use Rattle.std.proofs.Common.{◌≡◌, ℕ, ◌+◌, ◌≤◌, Bool, true, false, cond, List, [], ◌∷◌, length, Contains, filter, get_or, ap, refl, sym}
+use Rattle.std.proofs.Common.{arith, ◌∙◌}
 use Rattle.std.proofs.lemmas.Bool.{leb-true, le-leb, both_ways}
 use Rattle.std.proofs.lemmas.List.Elements.{All-contains}
 use Rattle.std.proofs.lemmas.List.Sums.{length-filter}
@@ -8,7 +9,8 @@ use Rattle.cell_base.specs.declared.requests.Part.{Part}
 use Rattle.cell_base.specs.Stages.{capacity_of}
 use Rattle.cell_base.specs.Policy.{HaveDistinctJobs}
 use Rattle.cell_base.specs.Outcomes.{without}
-use Rattle.policy_laws.proofs.Lists.{Contains-head, Contains-tail, list_any-found, list_any-Contains, list_all-Contains, list_all-from_Contains}
+use Rattle.policy_laws.proofs.Lists.{Contains-head, Contains-tail, list_any-found, list_any-Contains, list_all-Contains}
+use Rattle.policy_laws.proofs.Lists.{list_all-from_Contains}
 use Rattle.policy_laws.proofs.Parts.{sum_by-without}
 use Rattle.banker_check.specs.declared.held.Held.{Held}
 use Rattle.banker_check.specs.Ways.{way, stands_on, held, is_full, is_held_up}

@@ -1,5 +1,6 @@
 -- The counts of the neighborhoods after each change.
-use Rattle.std.proofs.Common.{◌≡◌, ℕ, ◌+◌, ◌≤◌, true, false, not, Option, Some, None, List, [], ◌∷◌, ◌++◌, length, get_or, replicate, zero, suc, refl, ap, arith}
+use Rattle.std.proofs.Common.{◌≡◌, ℕ, ◌+◌, ◌≤◌, true, false, not, Option, Some, None, List, [], ◌∷◌, ◌++◌, length, get_or, replicate}
+use Rattle.std.proofs.Common.{zero, suc, refl, ap, arith}
 use Rattle.std.specs.Int.{bit_at}
 use Rattle.std.specs.Option.{option_map_or}
 use Rattle.std.proofs.lemmas.Bool.{not_from_false, false_from_ne_true, both_ways}
@@ -48,7 +49,8 @@ module _ (cell : Cell) (fits : CellFits cell) (parts : List Part) (distinct : Ha
             arith,
             bit_at-zero r,
             ap (λ ps. count cell ps r) (filter_all (λ other. not (is_of_job job other)) parts
-                (All-weaker (λ other. is_of_job job other ≡ false) (λ other. not (is_of_job job other) ≡ true) (λ other f. not_from_false _ f) parts
+                (All-weaker (λ other. is_of_job job other ≡ false) (λ other. not (is_of_job job other) ≡ true)
+                    (λ other f. not_from_false _ f) parts
                 (All-find_none (is_of_job job) parts e))),
           )
       at (Some part) e =

@@ -17,4 +17,5 @@ returns c parts are =
           (get_or counts.on r 0 + 1);
       parts = counts.parts + 1;
     }))
-    (sym c.resource_at-r.ensures.value) (AreHeld-push cell parts c.args.part counts (omega (arith, within, c.cell-cell.ensures.fits.resource_count.1)) are)
+    (sym c.resource_at-r.ensures.value) (AreHeld-push cell parts c.args.part counts
+        (omega (arith, within, c.cell-cell.ensures.fits.resource_count.1)) are)
