@@ -36,8 +36,11 @@ AreHeld-none cell = record {
 pub AreHeld-push : (cell : Cell) (parts : List Part) (part : Part) (counts : Held) → resource_of_part cell part < MAX_RESOURCES
     → AreUnitsHeld cell parts counts
     → AreUnitsHeld cell (parts ++ part ∷ [])
-    (record { on = set counts.on (resource_of_part cell part) (get_or counts.on
-        (resource_of_part cell part) 0 + 1); parts = counts.parts + 1 })
+    (record {
+      on = set counts.on (resource_of_part cell part) (get_or counts.on
+          (resource_of_part cell part) 0 + 1);
+      parts = counts.parts + 1;
+    })
 AreHeld-push cell parts part counts within are = record {
   complete = length-set _ _ _ ∙ are.complete;
   each = λ r. at r (cases_eq r (resource_of_part cell part));
@@ -46,7 +49,7 @@ AreHeld-push cell parts part counts within are = record {
   where
     at : (r : ℕ) → (r ≡ resource_of_part cell part) ⊎ (r ≢ resource_of_part cell part)
         → get_or (set counts.on (resource_of_part cell part) (get_or counts.on (resource_of_part cell part) 0 + 1)) r 0
-            ≡ held cell (parts ++ part ∷ []) r
+        ≡ held cell (parts ++ part ∷ []) r
     at r cases =
         ⊎_elim
         (λ (here : r ≡ resource_of_part cell part).
@@ -55,12 +58,18 @@ AreHeld-push cell parts part counts within are = record {
         rw here (get_or-set_same counts.on (resource_of_part cell part) (get_or counts.on (resource_of_part cell part) 0 + 1) 0
         (omega (arith, within, are.complete))) in
         let was : get_or counts.on (resource_of_part cell part) 0 ≡ held cell parts r = ap (λ q. get_or counts.on q 0) (sym here)
-            ∙ are.each r in
-        omega (arith, more, was, held-push cell parts part r, ap (λ b. cond {A = ℕ} b 1 0)
-            (eq-eqb (resource_of_part cell part) r (sym here))))
+        ∙ are.each r in
+        omega (
+          arith,
+          more,
+          was,
+          held-push cell parts part r,
+          ap (λ b. cond {A = ℕ} b 1 0)
+              (eq-eqb (resource_of_part cell part) r (sym here)),
+        ))
         (λ (other : r ≢ resource_of_part cell part).
         let same : get_or (set counts.on (resource_of_part cell part) (get_or counts.on (resource_of_part cell part) 0 + 1)) r 0
-            ≡ get_or counts.on r 0 =
+        ≡ get_or counts.on r 0 =
         get_or-set_other counts.on (resource_of_part cell part) r _ 0 other in
         omega (
           arith,

@@ -30,7 +30,7 @@ filter-whole test (first ∷ parts) e = at (test first) refl e (filter-whole tes
   where
     at : (b : Bool) → test first ≡ b → length (cond b (first ∷ filter test parts) (filter test parts)) ≡ length (first ∷ parts)
         → (length (filter test parts) ≡ length parts → All (λ part. test part ≡ true) parts)
-            → All (λ part. test part ≡ true) (first ∷ parts)
+        → All (λ part. test part ≡ true) (first ∷ parts)
     at true f h later = All-cons (λ part. test part ≡ true) first parts f (later (omega (arith, h)))
     at false f h later = absurd (omega (arith, h, length-filter_most test parts))
 
@@ -152,7 +152,7 @@ module _ (cell : Cell) where
               (out.onward (first ++ rest) (order-front left out.distinct rest order));
           loose = λ loose set c stuck.
               out.loose loose set (All-contains (Contains (sublists left)) (sublists (filter others left)) set
-                  (sublists-filter others left) c)
+              (sublists-filter others left) c)
               stuck;
           distinct = distinct-filter others left out.distinct;
           standing = All-filter _ (λ part. IsStage cell (stage_of part)) left out.standing;
@@ -174,5 +174,5 @@ module _ (cell : Cell) where
         some (none_left left (out.loose (order-loose parts list distinct order))
         (find_none (goes_first cell left) left
         (All-weaker (λ part. not (goes_first cell left part) ≡ true) (λ part. goes_first cell left part ≡ false)
-            (λ part f. not-true _ f) left
+        (λ part f. not-true _ f) left
         (filter-whole (λ part. not (goes_first cell left part)) left e))))

@@ -50,7 +50,7 @@ module _ (cell : Cell) (fits : CellFits cell) (parts : List Part) (distinct : Ha
             bit_at-zero r,
             ap (λ ps. count cell ps r) (filter_all (λ other. not (is_of_job job other)) parts
                 (All-weaker (λ other. is_of_job job other ≡ false) (λ other. not (is_of_job job other) ≡ true)
-                    (λ other f. not_from_false _ f) parts
+                (λ other f. not_from_false _ f) parts
                 (All-find_none (is_of_job job) parts e))),
           )
       at (Some part) e =

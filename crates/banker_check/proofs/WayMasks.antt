@@ -75,7 +75,7 @@ either units count =
     (λ (less : count < units). ap (λ b. nat_le (units + 0) count || b) (lt-leb (units + 1) count (omega (arith, less)))
     ∙ ap (λ b. b || false) (lt-leb (units + 0) count (omega (arith, less))) ∙ sym (lt-leb (units + 0) count (omega (arith, less))))
     (λ (full : units ≤ count). or_left _ _ (le-leb (units + 0) count (omega (arith, full)))
-        ∙ sym (le-leb (units + 0) count (omega (arith, full))))
+    ∙ sym (le-leb (units + 0) count (omega (arith, full))))
     (cases_lt count units)
 
 -- the test of a part by masks

@@ -18,4 +18,4 @@ returns c parts are =
       parts = counts.parts + 1;
     }))
     (sym c.resource_at-r.ensures.value) (AreHeld-push cell parts c.args.part counts
-        (omega (arith, within, c.cell-cell.ensures.fits.resource_count.1)) are)
+    (omega (arith, within, c.cell-cell.ensures.fits.resource_count.1)) are)
