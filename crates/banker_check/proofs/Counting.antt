@@ -1,5 +1,7 @@
 -- Counts of the parts on each resource.
-use Rattle.std.proofs.Common.{◌≡◌, ◌≢◌, ℕ, zero, suc, ◌+◌, ◌<◌, ◌≤◌, Bool, true, false, cond, not, ◌&&◌, ◌⊎◌, List, [], ◌∷◌, ◌++◌, length, get_or, set, get_or-set_same, get_or-set_other, length-set, replicate, filter, take, ap, refl, sym, ⊎_elim, arith, ◌∙◌}
+use Rattle.std.proofs.Common.{◌≡◌, ◌≢◌, ℕ, zero, suc, ◌+◌, ◌<◌, ◌≤◌, Bool, true, false, cond, not, ◌&&◌, ◌⊎◌, List, [], ◌∷◌, ◌++◌}
+use Rattle.std.proofs.Common.{length, get_or, set, get_or-set_same, get_or-set_other, length-set, replicate, filter, take, ap, refl}
+use Rattle.std.proofs.Common.{sym, ⊎_elim, arith, ◌∙◌}
 use Rattle.std.proofs.lemmas.Bool.{eq-eqb, ne_eqb, cases_eq}
 use Rattle.std.proofs.lemmas.List.{length_push, length-replicate, length-take, append-nil}
 use Rattle.std.proofs.lemmas.List.Elements.{filter_more, filter-append}
@@ -13,12 +15,12 @@ use Rattle.policy_laws.proofs.Lists.{filter_all, All-from_Contains}
 use Rattle.policy_laws.proofs.Parts.{distinct-without, distinct-push, without-others}
 use Rattle.banker_check.specs.declared.held.Held.{Held}
 use Rattle.banker_check.specs.Ways.{stands_on, held}
-use Rattle.banker_check.specs.Counts.{AreHeld, counts_on}
+use Rattle.banker_check.specs.Counts.{AreUnitsHeld, counts_on}
 use Rattle.banker_check.proofs.Within.{length-filter_most}
 use Rattle.banker_check.proofs.Ordered.{held-push}
 
 -- no part stands on a resource where there is none
-pub AreHeld-none : (cell : Cell) → AreHeld cell [] (record { on = replicate MAX_RESOURCES 0; parts = 0 })
+pub AreHeld-none : (cell : Cell) → AreUnitsHeld cell [] (record { on = replicate MAX_RESOURCES 0; parts = 0 })
 AreHeld-none cell = record {
   complete = length-replicate {A = ℕ} MAX_RESOURCES 0;
   each = λ r. zeros MAX_RESOURCES r;
@@ -32,9 +34,13 @@ AreHeld-none cell = record {
 
 -- one part more
 pub AreHeld-push : (cell : Cell) (parts : List Part) (part : Part) (counts : Held) → resource_of_part cell part < MAX_RESOURCES
-    → AreHeld cell parts counts
-    → AreHeld cell (parts ++ part ∷ [])
-    (record { on = set counts.on (resource_of_part cell part) (get_or counts.on (resource_of_part cell part) 0 + 1); parts = counts.parts + 1 })
+    → AreUnitsHeld cell parts counts
+    → AreUnitsHeld cell (parts ++ part ∷ [])
+    (record {
+      on = set counts.on (resource_of_part cell part) (get_or counts.on
+          (resource_of_part cell part) 0 + 1);
+      parts = counts.parts + 1;
+    })
 AreHeld-push cell parts part counts within are = record {
   complete = length-set _ _ _ ∙ are.complete;
   each = λ r. at r (cases_eq r (resource_of_part cell part));
@@ -42,7 +48,8 @@ AreHeld-push cell parts part counts within are = record {
 }
   where
     at : (r : ℕ) → (r ≡ resource_of_part cell part) ⊎ (r ≢ resource_of_part cell part)
-        → get_or (set counts.on (resource_of_part cell part) (get_or counts.on (resource_of_part cell part) 0 + 1)) r 0 ≡ held cell (parts ++ part ∷ []) r
+        → get_or (set counts.on (resource_of_part cell part) (get_or counts.on (resource_of_part cell part) 0 + 1)) r 0
+        ≡ held cell (parts ++ part ∷ []) r
     at r cases =
         ⊎_elim
         (λ (here : r ≡ resource_of_part cell part).
@@ -50,10 +57,19 @@ AreHeld-push cell parts part counts within are = record {
         ≡ get_or counts.on (resource_of_part cell part) 0 + 1 =
         rw here (get_or-set_same counts.on (resource_of_part cell part) (get_or counts.on (resource_of_part cell part) 0 + 1) 0
         (omega (arith, within, are.complete))) in
-        let was : get_or counts.on (resource_of_part cell part) 0 ≡ held cell parts r = ap (λ q. get_or counts.on q 0) (sym here) ∙ are.each r in
-        omega (arith, more, was, held-push cell parts part r, ap (λ b. cond {A = ℕ} b 1 0) (eq-eqb (resource_of_part cell part) r (sym here))))
+        let was : get_or counts.on (resource_of_part cell part) 0 ≡ held cell parts r = ap (λ q. get_or counts.on q 0) (sym here)
+        ∙ are.each r in
+        omega (
+          arith,
+          more,
+          was,
+          held-push cell parts part r,
+          ap (λ b. cond {A = ℕ} b 1 0)
+              (eq-eqb (resource_of_part cell part) r (sym here)),
+        ))
         (λ (other : r ≢ resource_of_part cell part).
-        let same : get_or (set counts.on (resource_of_part cell part) (get_or counts.on (resource_of_part cell part) 0 + 1)) r 0 ≡ get_or counts.on r 0 =
+        let same : get_or (set counts.on (resource_of_part cell part) (get_or counts.on (resource_of_part cell part) 0 + 1)) r 0
+        ≡ get_or counts.on r 0 =
         get_or-set_other counts.on (resource_of_part cell part) r _ 0 other in
         omega (
           arith,

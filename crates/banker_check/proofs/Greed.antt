@@ -1,5 +1,6 @@
 -- Greed loses nothing: a part that could be first holds up no other one, so the order in which such parts are taken out does not matter.
-use Rattle.std.proofs.Common.{◌≡◌, ◌≢◌, ℕ, zero, suc, ◌<◌, ◌≤◌, Bool, true, false, not, List, [], ◌∷◌, length, Contains, ap, refl, sym, subst, ⊎_elim, arith}
+use Rattle.std.proofs.Common.{◌≡◌, ◌≢◌, ℕ, zero, suc, ◌<◌, ◌≤◌, Bool, true, false, not, List, [], ◌∷◌, length, Contains, ap, refl, sym}
+use Rattle.std.proofs.Common.{subst, ⊎_elim, arith}
 use Rattle.std.specs.List.{list_all}
 use Rattle.std.proofs.lemmas.Bool.{leb-true, leb-false, false_from_ne_true, both_ways, not-true, not_from_false, and_cases}
 use Rattle.std.proofs.lemmas.List.Elements.{All-contains}
@@ -10,7 +11,8 @@ use Rattle.cell_base.specs.declared.requests.Part.{Part}
 use Rattle.cell_base.specs.Stages.{capacity_of}
 use Rattle.cell_base.specs.Policy.{is_of_job, HaveDistinctJobs}
 use Rattle.cell_base.specs.Outcomes.{without}
-use Rattle.policy_laws.proofs.Lists.{Contains-head, Contains-tail, Contains-cases, list_any-found, list_any-Contains, list_all-Contains, All-from_Contains}
+use Rattle.policy_laws.proofs.Lists.{Contains-head, Contains-tail, Contains-cases, list_any-found, list_any-Contains, list_all-Contains}
+use Rattle.policy_laws.proofs.Lists.{All-from_Contains}
 use Rattle.policy_laws.proofs.Parts.{is_of_job-same, IsOther, distinct_after, distinct-without, without-others}
 use Rattle.policy_laws.proofs.States.{IsState-without}
 use Rattle.banker_check.specs.Ways.{way, held, is_full, is_held_up, CanRun}
@@ -18,7 +20,8 @@ use Rattle.banker_check.specs.StuckSets.{is_stuck, sublists, stuck}
 use Rattle.banker_check.specs.Orders.{RunInTurn, IsOrder, IsOrdered}
 use Rattle.banker_check.specs.HybridPlans.{goes_first}
 use Rattle.banker_check.specs.Laws.{TakesOut, GreedLaw, FirstLaw}
-use Rattle.banker_check.proofs.Within.{Within, Within-filter, Within-length, without-kept, without-keeps, without-fewer, without-first, one_of_job, held-within, held_up-within, free-within}
+use Rattle.banker_check.proofs.Within.{Within, Within-filter, Within-length, without-kept, without-keeps, without-fewer, without-first}
+use Rattle.banker_check.proofs.Within.{one_of_job, held-within, held_up-within, free-within}
 use Rattle.banker_check.proofs.Sublists.{IsPartOf, sublists-parts, sublists-all, sublists-filter, stuck-over, stuck-most}
 
 -- some element fails

@@ -1,5 +1,6 @@
 -- Endings: the ways in which a request ends by the policy and by the hybrid.
-use Rattle.std.proofs.Common.{◌≡◌, ◌≢◌, ◌<◌, ℕ, nat_lt, length, Bool, true, false, not, cond, if◌then◌else◌, List, [], ◌∷◌, ◌++◌, Contains, Option, Some, None, ap, refl, sym, subst, inl, inr, ⊎_elim, arith, ◌∙◌}
+use Rattle.std.proofs.Common.{◌≡◌, ◌≢◌, ◌<◌, ℕ, nat_lt, length, Bool, true, false, not, cond, if◌then◌else◌, List, [], ◌∷◌, ◌++◌}
+use Rattle.std.proofs.Common.{Contains, Option, Some, None, ap, refl, sym, subst, inl, inr, ⊎_elim, arith, ◌∙◌}
 use Rattle.std.specs.List.{list_any}
 use Rattle.std.specs.Option.{option_map_or}
 use Rattle.std.proofs.lemmas.Bool.{cond_both, false≢true, ltb-true}
@@ -9,7 +10,8 @@ use Rattle.cell_base.specs.declared.requests.Part.{Part}
 use Rattle.cell_base.specs.declared.requests.Request.{Request}
 use Rattle.cell_base.specs.declared.requests.Request.TheVariants.{Load, Process, Move, Unload, Place}
 use Rattle.cell_base.specs.declared.requests.Refusal.{Refusal}
-use Rattle.cell_base.specs.declared.requests.Refusal.TheVariants.{NoSuchJob, JobLoaded, NotProcessed, AtLast, NotLast, Idle, NoBranch, Saturated}
+use Rattle.cell_base.specs.declared.requests.Refusal.TheVariants.{NoSuchJob, JobLoaded, NotProcessed, AtLast, NotLast, Idle, NoBranch}
+use Rattle.cell_base.specs.declared.requests.Refusal.TheVariants.{Saturated}
 use Rattle.cell_base.specs.declared.requests.Reply.{Reply}
 use Rattle.cell_base.specs.declared.requests.Reply.TheVariants.{Granted as Permitted}
 use Rattle.banker_check.specs.declared.replies.HybridReply.{HybridReply}
@@ -17,17 +19,20 @@ use Rattle.banker_check.specs.declared.replies.HybridReply.TheVariants.{Granted,
 use Rattle.cell_base.specs.Stages.{Stage, IsStage, stage_of, is_last, successors, successor, capacity_of, resource_numbers}
 use Rattle.cell_base.specs.Neighborhoods.{count}
 use Rattle.cell_base.specs.Policy.{IsState, is_loaded, first_over}
-use Rattle.cell_base.specs.Outcomes.{part_of, without, arrival, is_waiting_on, finish_first, refuse, admit, outcome, outcome_of_entry, outcome_of_process, outcome_of_step, outcome_of_move, outcome_of_unload}
+use Rattle.cell_base.specs.Outcomes.{part_of, without, arrival, is_waiting_on, finish_first, refuse, admit, outcome, outcome_of_entry}
+use Rattle.cell_base.specs.Outcomes.{outcome_of_process, outcome_of_step, outcome_of_move, outcome_of_unload}
 use Rattle.cell_base.specs.Fits.{CellFits, RequestFits}
 use Rattle.cell_base.proofs.Admission.{all_numbers, others_from_not_loaded}
 use Rattle.policy_laws.proofs.Lists.{All-found, Contains-slice_get, find_passes}
 use Rattle.policy_laws.proofs.Stages.{arrival_stage, successor_stage, first_stage}
 use Rattle.policy_laws.proofs.Parts.{part_of-found, without-others}
-use Rattle.policy_laws.proofs.States.{count-without, count-finish_first, IsState-push, IsState-without, IsState-finish_first, first_over-none, within-first_over}
+use Rattle.policy_laws.proofs.States.{count-without, count-finish_first, IsState-push, IsState-without, IsState-finish_first}
+use Rattle.policy_laws.proofs.States.{first_over-none, within-first_over}
 use Rattle.policy_laws.proofs.Requests.{moved}
 use Rattle.policy_laws.specs.Decisions.{is_saturation}
 use Rattle.banker_check.specs.Orders.{IsOrdered, is_ordered}
-use Rattle.banker_check.specs.Hybrid.{IsHybrid, told, refuse_h, block, admit_h, outcome_h, outcome_h_of_entry, outcome_h_of_step, outcome_h_of_move}
+use Rattle.banker_check.specs.Hybrid.{IsHybrid, told, refuse_h, block, admit_h, outcome_h, outcome_h_of_entry, outcome_h_of_step}
+use Rattle.banker_check.specs.Hybrid.{outcome_h_of_move}
 use Rattle.banker_check.specs.Laws.{BlockLaw, BlockedLaw, GrantLaw, HybridLaw, IsOverfilled, UnsaturatedLaw}
 use Rattle.banker_check.proofs.Greed.{ordered-without}
 use Rattle.banker_check.proofs.Ordered.{ordered_law, ordered-finish_first}

@@ -1,5 +1,6 @@
 -- Plans: from each hybrid state the plan's steps are granted in turn until no part is left.
-use Rattle.std.proofs.Common.{◌≡◌, ℕ, zero, suc, ◌+◌, Bool, true, false, not, if◌then◌else◌, cond, List, [], ◌∷◌, length, Contains, Option, Some, None, find, ap, refl, sym, subst, inl, inr, ⊎_elim, arith, ◌∙◌, lit<}
+use Rattle.std.proofs.Common.{◌≡◌, ℕ, zero, suc, ◌+◌, Bool, true, false, not, if◌then◌else◌, cond, List, [], ◌∷◌, length, Contains}
+use Rattle.std.proofs.Common.{Option, Some, None, find, ap, refl, sym, subst, inl, inr, ⊎_elim, arith, ◌∙◌, lit<}
 use Rattle.std.specs.Option.{option_map, option_map_or}
 use Rattle.std.proofs.lemmas.Bool.{and_parts, and_from, not-true, not-false, not_from_false, eq-eqb, eqb-false, cond_both, both_ways}
 use Rattle.std.proofs.lemmas.List.Elements.{All-contains}

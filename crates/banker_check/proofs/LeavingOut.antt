@@ -1,5 +1,6 @@
 -- Rounds: each leaves out the parts that those of the round before do not hold up. What is left in the end is the largest stuck set.
-use Rattle.std.proofs.Common.{◌≡◌, ℕ, ◌+◌, ◌≤◌, Bool, true, false, cond, List, [], ◌∷◌, length, Contains, filter, get_or, ap, refl, sym, arith, ◌∙◌}
+use Rattle.std.proofs.Common.{◌≡◌, ℕ, ◌+◌, ◌≤◌, Bool, true, false, cond, List, [], ◌∷◌, length, Contains, filter, get_or, ap, refl, sym}
+use Rattle.std.proofs.Common.{arith, ◌∙◌}
 use Rattle.std.proofs.lemmas.Bool.{leb-true, le-leb, both_ways}
 use Rattle.std.proofs.lemmas.List.Elements.{All-contains}
 use Rattle.std.proofs.lemmas.List.Sums.{length-filter}
@@ -8,12 +9,13 @@ use Rattle.cell_base.specs.declared.requests.Part.{Part}
 use Rattle.cell_base.specs.Stages.{capacity_of}
 use Rattle.cell_base.specs.Policy.{HaveDistinctJobs}
 use Rattle.cell_base.specs.Outcomes.{without}
-use Rattle.policy_laws.proofs.Lists.{Contains-head, Contains-tail, list_any-found, list_any-Contains, list_all-Contains, list_all-from_Contains}
+use Rattle.policy_laws.proofs.Lists.{Contains-head, Contains-tail, list_any-found, list_any-Contains, list_all-Contains}
+use Rattle.policy_laws.proofs.Lists.{list_all-from_Contains}
 use Rattle.policy_laws.proofs.Parts.{sum_by-without}
 use Rattle.banker_check.specs.declared.held.Held.{Held}
 use Rattle.banker_check.specs.Ways.{way, stands_on, held, is_full, is_held_up}
 use Rattle.banker_check.specs.StuckSets.{is_stuck, sublists, stuck}
-use Rattle.banker_check.specs.Counts.{AreHeld, is_full_beside, is_held_up_by, counts_on}
+use Rattle.banker_check.specs.Counts.{AreUnitsHeld, is_full_beside, is_held_up_by, counts_on}
 use Rattle.banker_check.proofs.Within.{Within, Within-length, filter-kept, filter-keeps, distinct-filter, held-within}
 use Rattle.banker_check.proofs.Sublists.{IsPartOf, sublists-parts, sublists-all, sublists-filter, stuck-over, stuck-most}
 
@@ -102,12 +104,13 @@ module _ (cell : Cell) where
 
   -- the parts of a round: their counts, of whom they hold up none is left out, and no stuck set is
   pub record IsRound (parts : List Part) (test : Part → Bool) (counts : Held) : Type 0 where
-    pub are : AreHeld cell (filter test parts) counts
+    pub are : AreUnitsHeld cell (filter test parts) counts
     pub closed : (part : Part) → Contains parts part → is_held_up_by cell counts.on part ≡ true → test part ≡ true
     pub keeps : (set : List Part) → HaveDistinctJobs set → is_stuck cell set ≡ true → Within set parts → Within set (filter test parts)
 
   -- the first round has all parts
-  pub round-first : (parts : List Part) (before : List ℕ) (counts : Held) → AreHeld cell (filter (counts_on cell before true) parts) counts
+  pub round-first : (parts : List Part) (before : List ℕ) (counts : Held)
+      → AreUnitsHeld cell (filter (counts_on cell before true) parts) counts
       → IsRound parts (counts_on cell before true) counts
   round-first parts before counts are = record {
     are = are;
@@ -117,7 +120,7 @@ module _ (cell : Cell) where
 
   module _ (parts : List Part) (distinct : HaveDistinctJobs parts) (test : Part → Bool) (counts next : Held)
       (round : IsRound parts test counts)
-      (are : AreHeld cell (filter (counts_on cell counts.on false) parts) next) where
+      (are : AreUnitsHeld cell (filter (counts_on cell counts.on false) parts) next) where
     -- the test of the next round
     abbrev stays : Part → Bool
     stays = counts_on cell counts.on false

@@ -1,5 +1,6 @@
 -- The plan's next part, found by one look at each part.
-use Rattle.std.proofs.Common.{◌≡◌, ◌==◌, Bool, true, false, cond, List, [], ◌∷◌, ◌++◌, Contains, Option, Some, None, find, ap, refl, sym, subst, ⊎_elim, ◌∙◌}
+use Rattle.std.proofs.Common.{◌≡◌, ◌==◌, Bool, true, false, cond, List, [], ◌∷◌, ◌++◌, Contains, Option, Some, None, find, ap, refl}
+use Rattle.std.proofs.Common.{sym, subst, ⊎_elim, ◌∙◌}
 use Rattle.std.specs.List.{list_all}
 use Rattle.std.specs.Option.{option_or}
 use Rattle.std.proofs.lemmas.Bool.{cases_Bool, eqb-true, eq-eqb, false_from_ne_true, both_ways, cond-true}
@@ -8,7 +9,8 @@ use Rattle.std.proofs.lemmas.List.Folds.{find-append}
 use Rattle.cell_base.specs.declared.cells.Cell.{Cell}
 use Rattle.cell_base.specs.declared.requests.Part.{Part}
 use Rattle.cell_base.specs.Plans.{comes_first, resource_of_part, next_part}
-use Rattle.policy_laws.proofs.Lists.{Contains-none, find-Contains, find_none, find_agree, same_from_both, All-from_Contains, list_all-from_Contains, list_all-Contains}
+use Rattle.policy_laws.proofs.Lists.{Contains-none, find-Contains, find_none, find_agree, same_from_both, All-from_Contains}
+use Rattle.policy_laws.proofs.Lists.{list_all-from_Contains, list_all-Contains}
 use Rattle.policy_laws.proofs.Picks.{comes_first-total, comes_first-transitive, comes_first-both}
 use Rattle.banker_check.specs.HybridPlans.{earlier}
 
@@ -31,7 +33,8 @@ module _ (cell : Cell) where
   AreFirst parts (Some part) = IsFirst parts part
 
   itself : (part : Part) → before part part ≡ true
-  itself part = ⊎_elim (λ e. e) (comes_first-total cell (resource_of_part cell part) (resource_of_part cell part)) (cases_Bool (before part part))
+  itself part = ⊎_elim (λ e. e) (comes_first-total cell (resource_of_part cell part) (resource_of_part cell part))
+      (cases_Bool (before part part))
 
   -- one part more
   pub first-more : (parts : List Part) (first : Option Part) (part : Part) → AreFirst parts first
@@ -46,7 +49,8 @@ module _ (cell : Cell) where
     where
       at : (b : Bool) → before best part ≡ b → IsFirst (parts ++ part ∷ []) (cond b best part)
       at true e = record {
-        least = λ other c. ⊎_elim (is.least other) (λ same. subst (λ other. before best other ≡ true) same e) (Contains-push_cases parts part other c);
+        least = λ other c. ⊎_elim (is.least other) (λ same. subst (λ other. before best other ≡ true) same e)
+            (Contains-push_cases parts part other c);
         found = find-append (beside best) parts (part ∷ []) ∙ ap (λ o. option_or o (find (beside best) (part ∷ []))) is.found;
       }
       at false e =

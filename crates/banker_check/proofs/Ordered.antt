@@ -1,12 +1,14 @@
 -- Ordered states: the test finds them, and what keeps them ordered.
-use Rattle.std.proofs.Common.{◌≡◌, ℕ, ◌+◌, ◌<◌, ◌≤◌, Bool, true, false, not, ◌&&◌, ◌==◌, cond, nat_le, Some, List, [], ◌∷◌, ◌++◌, length, map, drop, Contains, All, filter, ap, refl, sym, subst, arith, ◌∙◌}
+use Rattle.std.proofs.Common.{◌≡◌, ℕ, ◌+◌, ◌<◌, ◌≤◌, Bool, true, false, not, ◌&&◌, ◌==◌, cond, nat_le, Some, List, [], ◌∷◌, ◌++◌}
+use Rattle.std.proofs.Common.{length, map, drop, Contains, All, filter, ap, refl, sym, subst, arith, ◌∙◌}
 use Rattle.std.specs.List.{list_all}
 use Rattle.std.proofs.lemmas.Bool.{and_parts, and_from, leb-true, le-leb, eqb-true, eq-eqb, not_from_true}
 use Rattle.std.proofs.lemmas.List.Elements.{All-weaker, All-contains, All-head, All-tail, Contains-push}
 use Rattle.std.proofs.lemmas.List.Sums.{AllPass-from_list_all, list_all-from_AllPass, length-filter, sum_by_push}
 use Rattle.cell_base.specs.declared.cells.Cell.{Cell}
 use Rattle.cell_base.specs.declared.requests.Part.{Part}
-use Rattle.cell_base.specs.Stages.{Stage, IsStage, stage_of, successors, successor, resource_at, resource_numbers, capacity_of, first_branch_path}
+use Rattle.cell_base.specs.Stages.{Stage, IsStage, stage_of, successors, successor, resource_at, resource_numbers, capacity_of}
+use Rattle.cell_base.specs.Stages.{first_branch_path}
 use Rattle.cell_base.specs.Policy.{is_of_job, IsState, is_state}
 use Rattle.cell_base.specs.Outcomes.{without, arrival, finish_first}
 use Rattle.cell_base.specs.Plans.{resource_of_part}
@@ -22,7 +24,8 @@ use Rattle.banker_check.specs.Ways.{way, stands_on, held, is_held_up, CanRun}
 use Rattle.banker_check.specs.StuckSets.{stuck}
 use Rattle.banker_check.specs.Orders.{IsWithinUnits, IsOrder, IsOrdered, is_ordered}
 use Rattle.banker_check.specs.Laws.{OrderedLaw}
-use Rattle.banker_check.proofs.Greed.{free-runs, runs-free, loose-order, ordered-loose, loose-stuck, stuck-loose, ordered-without, order-cons}
+use Rattle.banker_check.proofs.Greed.{free-runs, runs-free, loose-order, ordered-loose, loose-stuck, stuck-loose, ordered-without}
+use Rattle.banker_check.proofs.Greed.{order-cons}
 use Rattle.banker_check.proofs.Finishing.{held-finish_first, stuck-finish_first}
 
 -- the test finds whether there is an order

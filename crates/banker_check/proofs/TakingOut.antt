@@ -1,8 +1,10 @@
 -- Parts that are taken out round by round, all that could be first at a time: what is left, and the orders of both.
-use Rattle.std.proofs.Common.{◌≡◌, ◌≢◌, Bool, true, false, cond, not, List, [], ◌∷◌, ◌++◌, length, map, All, Contains, filter, find, None, refl, ap, sym, subst, ⊎_elim, arith, ◌∙◌}
+use Rattle.std.proofs.Common.{◌≡◌, ◌≢◌, Bool, true, false, cond, not, List, [], ◌∷◌, ◌++◌, length, map, All, Contains, filter, find}
+use Rattle.std.proofs.Common.{None, refl, ap, sym, subst, ⊎_elim, arith, ◌∙◌}
 use Rattle.std.proofs.lemmas.Bool.{not-true, not_from_false, both_ways}
 use Rattle.std.proofs.lemmas.List.{append_assoc, append-nil, map-append}
-use Rattle.std.proofs.lemmas.List.Elements.{All-nil, All-cons, All-contains, All-filter, All-weaker, Contains-append_left, Contains-append_right, Contains-append_cases}
+use Rattle.std.proofs.lemmas.List.Elements.{All-nil, All-cons, All-contains, All-filter, All-weaker, Contains-append_left}
+use Rattle.std.proofs.lemmas.List.Elements.{Contains-append_right, Contains-append_cases}
 use Rattle.std.proofs.lemmas.List.Kept.{AllPairs-cons}
 use Rattle.std.proofs.lemmas.Option.{none-some}
 use Rattle.cell_base.specs.declared.cells.Cell.{Cell}
@@ -16,7 +18,8 @@ use Rattle.policy_laws.proofs.Parts.{is_of_job-same, is_of_job-other, IsOther, o
 use Rattle.banker_check.specs.StuckSets.{sublists}
 use Rattle.banker_check.specs.Orders.{RunInTurn, IsOrder, IsJobOrder}
 use Rattle.banker_check.specs.HybridPlans.{goes_first}
-use Rattle.banker_check.proofs.Within.{Within, filter-kept, filter-keeps, length-filter_most, distinct-filter, without-keeps, one_of_job, free-within}
+use Rattle.banker_check.proofs.Within.{Within, filter-kept, filter-keeps, length-filter_most, distinct-filter, without-keeps}
+use Rattle.banker_check.proofs.Within.{one_of_job, free-within}
 use Rattle.banker_check.proofs.Sublists.{IsPartOf, sublists-parts, sublists-filter}
 use Rattle.banker_check.proofs.Greed.{IsLoose, free-runs, turns-loose, loose-first}
 
@@ -26,7 +29,8 @@ filter-whole test [] e = All-nil (λ part. test part ≡ true)
 filter-whole test (first ∷ parts) e = at (test first) refl e (filter-whole test parts)
   where
     at : (b : Bool) → test first ≡ b → length (cond b (first ∷ filter test parts) (filter test parts)) ≡ length (first ∷ parts)
-        → (length (filter test parts) ≡ length parts → All (λ part. test part ≡ true) parts) → All (λ part. test part ≡ true) (first ∷ parts)
+        → (length (filter test parts) ≡ length parts → All (λ part. test part ≡ true) parts)
+        → All (λ part. test part ≡ true) (first ∷ parts)
     at true f h later = All-cons (λ part. test part ≡ true) first parts f (later (omega (arith, h)))
     at false f h later = absurd (omega (arith, h, length-filter_most test parts))
 
@@ -147,7 +151,8 @@ module _ (cell : Cell) where
               subst (IsOrder cell parts) (sym (append_assoc out.taken first rest))
               (out.onward (first ++ rest) (order-front left out.distinct rest order));
           loose = λ loose set c stuck.
-              out.loose loose set (All-contains (Contains (sublists left)) (sublists (filter others left)) set (sublists-filter others left) c)
+              out.loose loose set (All-contains (Contains (sublists left)) (sublists (filter others left)) set
+              (sublists-filter others left) c)
               stuck;
           distinct = distinct-filter others left out.distinct;
           standing = All-filter _ (λ part. IsStage cell (stage_of part)) left out.standing;
@@ -162,10 +167,12 @@ module _ (cell : Cell) where
     )
 
     -- where some are left of which none could be first, there is no order
-    pub none_orders : HaveDistinctJobs parts → length (filter (λ part. not (goes_first cell left part)) left) ≡ length left → (left ≡ [] → ⊥)
+    pub none_orders : HaveDistinctJobs parts → length (filter (λ part. not (goes_first cell left part)) left) ≡ length left
+        → (left ≡ [] → ⊥)
         → (list : List Part) → IsOrder cell parts list → ⊥
     none_orders distinct e some list order =
         some (none_left left (out.loose (order-loose parts list distinct order))
         (find_none (goes_first cell left) left
-        (All-weaker (λ part. not (goes_first cell left part) ≡ true) (λ part. goes_first cell left part ≡ false) (λ part f. not-true _ f) left
+        (All-weaker (λ part. not (goes_first cell left part) ≡ true) (λ part. goes_first cell left part ≡ false)
+        (λ part f. not-true _ f) left
         (filter-whole (λ part. not (goes_first cell left part)) left e))))

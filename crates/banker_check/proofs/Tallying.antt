@@ -1,5 +1,6 @@
 -- The counts of the neighborhoods after each change.
-use Rattle.std.proofs.Common.{◌≡◌, ℕ, ◌+◌, ◌≤◌, true, false, not, Option, Some, None, List, [], ◌∷◌, ◌++◌, length, get_or, replicate, zero, suc, refl, ap, arith}
+use Rattle.std.proofs.Common.{◌≡◌, ℕ, ◌+◌, ◌≤◌, true, false, not, Option, Some, None, List, [], ◌∷◌, ◌++◌, length, get_or, replicate}
+use Rattle.std.proofs.Common.{zero, suc, refl, ap, arith}
 use Rattle.std.specs.Int.{bit_at}
 use Rattle.std.specs.Option.{option_map_or}
 use Rattle.std.proofs.lemmas.Bool.{not_from_false, false_from_ne_true, both_ways}
@@ -18,10 +19,10 @@ use Rattle.policy_laws.proofs.Masks.{bit_at-mask_of}
 use Rattle.policy_laws.proofs.Parts.{part_of-found}
 use Rattle.policy_laws.proofs.States.{count_push, count-without}
 use Rattle.policy_laws.proofs.Lists.{filter_all, find_none, All-find_none, All-from_Contains, list_any-Contains}
-use Rattle.banker_check.specs.Tallies.{AreCounts, mask_of_job}
+use Rattle.banker_check.specs.Tallies.{AreCountsOfParts, mask_of_job}
 use Rattle.banker_check.proofs.Within.{length-filter_most}
 
-pub counts-none : (cell : Cell) → AreCounts cell [] (replicate 64 0)
+pub counts-none : (cell : Cell) → AreCountsOfParts cell [] (replicate 64 0)
 counts-none cell r = zeros 64 r
   where
     zeros : (n r : ℕ) → ◌≡◌ {A = ℕ} (get_or (replicate n 0) r 0) 0
@@ -48,7 +49,8 @@ module _ (cell : Cell) (fits : CellFits cell) (parts : List Part) (distinct : Ha
             arith,
             bit_at-zero r,
             ap (λ ps. count cell ps r) (filter_all (λ other. not (is_of_job job other)) parts
-                (All-weaker (λ other. is_of_job job other ≡ false) (λ other. not (is_of_job job other) ≡ true) (λ other f. not_from_false _ f) parts
+                (All-weaker (λ other. is_of_job job other ≡ false) (λ other. not (is_of_job job other) ≡ true)
+                (λ other f. not_from_false _ f) parts
                 (All-find_none (is_of_job job) parts e))),
           )
       at (Some part) e =
@@ -67,7 +69,7 @@ module _ (cell : Cell) (fits : CellFits cell) (parts : List Part) (distinct : Ha
   count-next part r =
       omega (arith, count_push cell (without parts part.job) part r, bit_at-mask_of cell fits (stage_of part) r, count-gone part.job r)
 
-  module _ (counts : List ℕ) (are : AreCounts cell parts counts) where
+  module _ (counts : List ℕ) (are : AreCountsOfParts cell parts counts) where
     -- what the running counts allow to take away, and how large they are
     pub counts-held : (job : JobId) (r : ℕ) → bit_at (mask_of_job cell parts job) r ≤ get_or counts r 0
     counts-held job r = omega (arith, count-gone job r, are r)

@@ -1,5 +1,6 @@
 -- Units: a hybrid state has no more parts than the cell has units, since each part stands on its own resource.
-use Rattle.std.proofs.Common.{◌≡◌, ℕ, zero, suc, ◌+◌, ◌<◌, ◌≤◌, Option, Some, List, [], ◌∷◌, length, take, All, filter, slice_get, get_or, add-one, refl, ap, ⊎_elim, arith}
+use Rattle.std.proofs.Common.{◌≡◌, ℕ, zero, suc, ◌+◌, ◌<◌, ◌≤◌, Option, Some, List, [], ◌∷◌, length, take, All, filter, slice_get}
+use Rattle.std.proofs.Common.{get_or, add-one, refl, ap, ⊎_elim, arith}
 use Rattle.std.specs.Option.{option_map_or}
 use Rattle.std.proofs.lemmas.Bool.{cond_both, cases_order, eq-eqb}
 use Rattle.std.proofs.lemmas.List.{take_all}
@@ -65,7 +66,8 @@ module _ (cell : Cell) where
         omega (
           arith,
           length-le-held parts (All-tail (λ other. IsStage cell (stage_of other)) part parts standing),
-          total-lt (held cell parts) (held cell (part ∷ parts)) (length cell.resources) (resource_of_part cell part) (λ q h. held-cons part parts q)
+          total-lt (held cell parts) (held cell (part ∷ parts)) (length cell.resources) (resource_of_part cell part)
+              (λ q h. held-cons part parts q)
               (resource_within cell fits (stage_of part) at) (held-cons_own part parts),
         )
 

@@ -1,17 +1,22 @@
 -- Ways step by step, as lists and as masks, and the test of a way against the resources that are full.
-use Rattle.std.proofs.Common.{◌≡◌, ℕ, suc, zero, ◌+◌, ◌*◌, ◌^◌, ◌%◌, ◌<◌, ◌≤◌, ◌==◌, Bool, true, false, not, ◌||◌, ◌&&◌, nat_lt, nat_le, cond, List, [], ◌∷◌, length, map, drop, All, Option, Some, None, get_or, bit_and, bit_or, w64, ap, refl, sym, subst, ⊎_elim, arith, ◌∙◌}
+use Rattle.std.proofs.Common.{◌≡◌, ℕ, suc, zero, ◌+◌, ◌*◌, ◌^◌, ◌%◌, ◌<◌, ◌≤◌, ◌==◌, Bool, true, false, not, ◌||◌, ◌&&◌, nat_lt, nat_le}
+use Rattle.std.proofs.Common.{cond, List, [], ◌∷◌, length, map, drop, All, Option, Some, None, get_or, bit_and, bit_or, w64, ap, refl}
+use Rattle.std.proofs.Common.{sym, subst, ⊎_elim, arith, ◌∙◌}
 use Rattle.std.specs.Int.{bit_not, trailing_zeros}
 use Rattle.std.specs.List.{list_any}
-use Rattle.std.proofs.lemmas.Bool.{eqb-true, eq-eqb, ne_eqb, lt-ltb, ltb-true, le-leb, lt-leb, leb-true, leb-false, cases_eq, cases_lt, or_left, and_parts, and_from, both_ways}
+use Rattle.std.proofs.lemmas.Bool.{eqb-true, eq-eqb, ne_eqb, lt-ltb, ltb-true, le-leb, lt-leb, leb-true, leb-false, cases_eq, cases_lt}
+use Rattle.std.proofs.lemmas.Bool.{or_left, and_parts, and_from, both_ways}
 use Rattle.std.proofs.lemmas.List.Elements.{All-nil, All-cons, All-contains}
 use Rattle.std.proofs.lemmas.Nat.Bits.{bit_at-trailing_zeros}
 use Rattle.cell_base.specs.declared.cells.Cell.{Cell}
 use Rattle.cell_base.specs.declared.requests.Part.{Part}
 use Rattle.cell_base.specs.Masks.{has_bit}
-use Rattle.cell_base.specs.Stages.{Stage, IsStage, stage_of, places_left, successors, successor, resource_at, capacity_of, first_branch_path}
+use Rattle.cell_base.specs.Stages.{Stage, IsStage, stage_of, places_left, successors, successor, resource_at, capacity_of}
+use Rattle.cell_base.specs.Stages.{first_branch_path}
 use Rattle.cell_base.specs.Plans.{resource_of_part}
 use Rattle.cell_base.specs.Fits.{CellFits}
-use Rattle.cell_base.proofs.Bits.{has_bit-and, has_bit-or, has_bit-zero, has_bit-of_one, has_bit_set_same, has_bit_set_other, has_bit_clear_same, has_bit_clear_other}
+use Rattle.cell_base.proofs.Bits.{has_bit-and, has_bit-or, has_bit-zero, has_bit-of_one, has_bit_set_same, has_bit_set_other}
+use Rattle.cell_base.proofs.Bits.{has_bit_clear_same, has_bit_clear_other}
 use Rattle.policy_laws.proofs.Lists.{Contains-slice_get, list_any-found, list_any-Contains, same_from_both}
 use Rattle.policy_laws.proofs.Stages.{successor_stage, places_left_fall, resource_within}
 use Rattle.policy_laws.proofs.Work.{first_branch_path-next}
@@ -69,7 +74,8 @@ either units count =
     ⊎_elim
     (λ (less : count < units). ap (λ b. nat_le (units + 0) count || b) (lt-leb (units + 1) count (omega (arith, less)))
     ∙ ap (λ b. b || false) (lt-leb (units + 0) count (omega (arith, less))) ∙ sym (lt-leb (units + 0) count (omega (arith, less))))
-    (λ (full : units ≤ count). or_left _ _ (le-leb (units + 0) count (omega (arith, full))) ∙ sym (le-leb (units + 0) count (omega (arith, full))))
+    (λ (full : units ≤ count). or_left _ _ (le-leb (units + 0) count (omega (arith, full)))
+    ∙ sym (le-leb (units + 0) count (omega (arith, full))))
     (cases_lt count units)
 
 -- the test of a part by masks

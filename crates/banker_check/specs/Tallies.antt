@@ -12,13 +12,13 @@ use Rattle.banker_check.specs.declared.counts.Arrival.{Arrival}
 use Rattle.banker_check.specs.declared.tally.Tally.{Tally}
 
 -- the numbers are those of the parts in the neighborhoods
-abbrev pub AreCounts : Cell → List Part → List ℕ → Type 0
-AreCounts cell parts counts = (r : ℕ) → slice_index_or counts r 0 ≡ count cell parts r
+abbrev pub AreCountsOfParts : Cell → List Part → List ℕ → Type 0
+AreCountsOfParts cell parts counts = (r : ℕ) → slice_index_or counts r 0 ≡ count cell parts r
 
 -- the parts are a state, and the running numbers are theirs
 pub record IsTallied (cell : Cell) (tally : Tally) : Type 0 where
   pub state : IsState cell tally.parts.items
-  pub counts : AreCounts cell tally.parts.items tally.counts
+  pub counts : AreCountsOfParts cell tally.parts.items tally.counts
 
 -- the neighborhoods of a job's part, and none where the job has no part
 abbrev pub mask_of_job : Cell → List Part → JobId → ℕ

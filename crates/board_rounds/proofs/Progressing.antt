@@ -107,7 +107,8 @@ module _ (shift : Shift) (history : List BoardEntry) (e : BoardEntry) (reply : R
       ≤ sum_to (left_in shift history) (length shift.scripts)
   left-falls =
       let s : ℕ = e.session in
-      let fewer = script_asks_left-falls (script_of shift s) shift.patience (progress_in history s) (progress_in (history ++ e ∷ []) s) reply
+      let fewer = script_asks_left-falls (script_of shift s) shift.patience (progress_in history s)
+      (progress_in (history ++ e ∷ []) s) reply
       has.step has.patience goes in
       let one = sum-one (left_in shift history) (left_in shift (history ++ e ∷ [])) s (λ k other.
       ap (script_asks_left shift.patience (script_of shift k))

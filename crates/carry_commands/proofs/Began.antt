@@ -21,7 +21,7 @@ use Rattle.cell_texts.specs.Recorded.{recorded_or_early}
 use Rattle.cell_texts.specs.Tests.{KnownCell, cell_file, cell_reads, to_add}
 use Rattle.cell_texts.specs.declared.recorded.Recorded.{Recorded}
 use Rattle.carry_commands.specs.Begin.{begin, goes_on}
-use Rattle.carry_commands.specs.Beginning.{EndsAtStart, HasBegun, IsBegunOnJournal, IsGrantedStart, StartRefused, StartStarved}
+use Rattle.carry_commands.specs.Beginning.{EndsBeforeJournal, HasBegun, IsBegunOnJournal, IsGrantedStart, StartRefused, StartStarved}
 use Rattle.carry_commands.specs.Refusals.{other_start, start_refused}
 use Rattle.carry_commands.specs.Starts.{begun, grants_start, start_file}
 
@@ -54,7 +54,7 @@ module _ (seen : Observed) (held : KnownCell) (requests : List Request) where
   from_journal made (NotOpened end ended is) = NotOpened end ended (ap recorded_or_early is)
   from_journal made (JournalOpened opening opened has) = JournalOpened opening opened (from_grants opening made has)
 
-  at_start : (end : EarlyEnd) → EndsAtStart held.cell requests end → IsEndedAt seen.files (grants_start held.cell requests) end
+  at_start : (end : EarlyEnd) → EndsBeforeJournal held.cell requests end → IsEndedAt seen.files (grants_start held.cell requests) end
   at_start end (StartRefused fault is ends) = ByRefusal fault is (start_refused held.cell fault) refl ends
   at_start end (StartStarved is) = ByMemory is
 
@@ -97,7 +97,7 @@ module _ {F : Type 0} (holds : F → Option Names) (is_sound : F → Type 0) (fa
             start_shows
 
         -- a request of it is not granted
-        pub begin_refused : (end : EarlyEnd) → IsUntouched disk → EndsAtStart held.cell requests end
+        pub begin_refused : (end : EarlyEnd) → IsUntouched disk → EndsBeforeJournal held.cell requests end
             → IsAllowed seen (begin cell start) (early end)
         begin_refused end still ended =
             Passed held shows

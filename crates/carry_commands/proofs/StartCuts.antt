@@ -8,7 +8,7 @@ use Rattle.cell_base.specs.declared.requests.Request.{Request}
 use Rattle.cell_base.specs.Fits.{CellFits}
 use Rattle.record_text.specs.declared.record.RecordFault.{RecordFault}
 use Rattle.record_text.specs.declared.record.RecordFault.TheVariants.{Bad, Memory}
-use Rattle.start_file.specs.StartFiles.{IsStartOf, RefusedAt, start_reads}
+use Rattle.start_file.specs.StartFiles.{IsStartOf, StartRefusedAt, start_reads}
 use Rattle.start_file.specs.declared.reading.TheConstants.{MAX_START_BYTES}
 use Rattle.cell_walks.specs.Allowed.{ByMemory, IsEndedAt}
 use Rattle.cell_walks.specs.Observed.{FilesTold, ShowsFile}
@@ -29,9 +29,9 @@ uncut bytes short = elim (cases_lt MAX_START_BYTES (length bytes)) [
   | inr fits ↦ take_all (MAX_START_BYTES + 1) bytes (omega (arith, fits))
 ]
 
-bad_uncut : (cell : Cell) (line : ℕ) (bytes : List ℕ) → RefusedAt cell (cut bytes) (Bad line) → RefusedAt cell bytes (Bad line)
+bad_uncut : (cell : Cell) (line : ℕ) (bytes : List ℕ) → StartRefusedAt cell (cut bytes) (Bad line) → StartRefusedAt cell bytes (Bad line)
 bad_uncut cell line bytes (inl long) = inl (omega (arith, long.0, length-take (MAX_START_BYTES + 1) bytes), long.1)
-bad_uncut cell line bytes (inr bad) = subst (λ (read : List ℕ). RefusedAt cell read (Bad line)) (uncut bytes bad.0) (inr bad)
+bad_uncut cell line bytes (inr bad) = subst (λ (read : List ℕ). StartRefusedAt cell read (Bad line)) (uncut bytes bad.0) (inr bad)
 
 module _ (files : FilesTold) (name read : List ℕ) (cell : Cell) (fits : CellFits cell)
     (is : IsReadOf files.names name MAX_START_BYTES read) where
@@ -44,7 +44,7 @@ module _ (files : FilesTold) (name read : List ℕ) (cell : Cell) (fits : CellFi
       (fits, start)
 
   -- or a line of them is bad
-  pub requests_refused : (fault : RecordFault) → RefusedAt cell read fault
+  pub requests_refused : (fault : RecordFault) → StartRefusedAt cell read fault
       → IsEndedAt files (start_file cell name) (end_with Input (record_line fault))
   requests_refused Memory refused = ByMemory refl
   requests_refused (Bad line) refused =

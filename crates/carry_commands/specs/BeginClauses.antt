@@ -7,6 +7,6 @@ pub use Rattle.start_file.specs.StartFiles.{IsPlacing, start_reads}
 pub use Rattle.start_file.specs.declared.reading.TheConstants.{MAX_START_LINES}
 pub use Rattle.cell_walks.specs.Allowed.{StandsForAdded}
 pub use Rattle.carry_commands.specs.Begin.{begin}
-pub use Rattle.carry_commands.specs.Beginning.{EndsAtStart, HasBegun, IsBegunOnJournal, IsGrantedStart, IsRefusedStart}
+pub use Rattle.carry_commands.specs.Beginning.{EndsBeforeJournal, HasBegun, IsBegunOnJournal, IsGrantedStart, IsRefusedStart}
 pub use Rattle.carry_commands.specs.Starts.{ArePrefix, IsOtherStart, granted_start, start_file}
 pub use Rattle.cell_texts.specs.AskedSteps.{AreAsked, IsAskedIn, step_grant}

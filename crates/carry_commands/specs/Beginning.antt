@@ -31,10 +31,10 @@ pub record IsRefusedStart (cell : Cell) (requests : List Request) (fault : Start
   pub fits : RefusalFits cell fault.why
 
 -- an end at the start: a request of it is refused, or memory is wanting
-pub data EndsAtStart (cell : Cell) (requests : List Request) (end : EarlyEnd) : Type 0 where
+pub data EndsBeforeJournal (cell : Cell) (requests : List Request) (end : EarlyEnd) : Type 0 where
   StartRefused : (fault : StartFault) → granted_start cell requests ≡ Err fault
-      → end ≡ Refused (refusal_of (grants_start cell requests) (start_refused cell fault)) → EndsAtStart cell requests end
-  StartStarved : end ≡ WantOfMemory → EndsAtStart cell requests end
+      → end ≡ Refused (refusal_of (grants_start cell requests) (start_refused cell fault)) → EndsBeforeJournal cell requests end
+  StartStarved : end ≡ WantOfMemory → EndsBeforeJournal cell requests end
 
 -- the grants of the journal are a prefix of the start and the others were asked, or the command ended there and nothing was added
 abbrev pub HasBegun : DiskTold → Cell → List ℕ → List Request → List Grant → Result Recorded EarlyEnd → Type 0

@@ -15,7 +15,7 @@ use Rattle.cell_texts.specs.OneWay.{once, reads_by}
 use Rattle.cell_texts.specs.Tests.{KnownCell, cell_file, to_read}
 use Rattle.carry_commands.specs.Carried.{carried}
 use Rattle.carry_commands.specs.Refusals.{carry_refused}
-use Rattle.carry_commands.specs.Starts.{IsTaken}
+use Rattle.carry_commands.specs.Starts.{IsTakenOnBlank}
 use Rattle.carry_commands.specs.declared.refusals.CarryFault.{CarryFault}
 
 -- each part can be carried to the other cell, status 10
@@ -33,7 +33,7 @@ carries old new parts = record {
 -- The line of each request is printed, and the text is a start that `begin` of the second cell takes whole.
 pub record IsCarried (new : Cell) (requests : List Request) (outcome : Outcome) : Type 0 where
   pub is : outcome ≡ done (map (place_line new) requests)
-  pub taken : IsTaken new (concat outcome.pieces) requests
+  pub taken : IsTakenOnBlank new (concat outcome.pieces) requests
 
 -- what is answered after the grants of a journal
 abbrev pub carried_over : KnownCell → KnownCell → List Grant → Walk

@@ -144,7 +144,7 @@ begun requests opening = record {
 
 -- No test of `begin` refuses these bytes as a start, where the journal is blank: they are read as these requests, each is granted in its
 -- turn, and none is held yet.
-pub record IsTaken (cell : Cell) (bytes : List ℕ) (requests : List Request) : Type 0 where
+pub record IsTakenOnBlank (cell : Cell) (bytes : List ℕ) (requests : List Request) : Type 0 where
   pub read : start_reads cell bytes (Ok requests)
   pub granted : granted_start cell requests ≡ Ok tt
   pub first : ArePrefix requests []

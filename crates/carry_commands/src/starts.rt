@@ -3,7 +3,7 @@ ghost use Rattle.std.specs.Prelude.{◌≡◌, ◌↔◌, ◌≤◌, true, [], l
 ghost use Rattle.std.specs.List.{All};
 ghost use Rattle.cell_walks.specs.Clauses.{IsEndedAt, ShowsFile, files_told};
 ghost use Rattle.cell_texts.specs.Clauses.{CellFits};
-ghost use Rattle.carry_commands.specs.BeginClauses.{ArePrefix, EndsAtStart, IsGrantedStart, IsOtherStart, IsPlacing, IsRefusedStart};
+ghost use Rattle.carry_commands.specs.BeginClauses.{ArePrefix, EndsBeforeJournal, IsGrantedStart, IsOtherStart, IsPlacing, IsRefusedStart};
 ghost use Rattle.carry_commands.specs.BeginClauses.{MAX_START_LINES, start_file, start_reads, step_grant};
 
 use crate::refusals::{StartFault, at_file_fault, at_start_fault};
@@ -47,7 +47,7 @@ pub fn check_start(alloc: Global, cell: &Cell, requests: &[Request]) -> Result<(
     requires placing { All (IsPlacing cell.now) requests.now }
     requires few { length requests.now ≤ MAX_START_LINES }
     ensures granted { OnOk result (IsGrantedStart cell.now requests.now) }
-    ensures ended { IfErr result (EndsAtStart cell.now requests.now) }
+    ensures ended { IfErr result (EndsBeforeJournal cell.now requests.now) }
 {
     let Ok(copy) = cell.copied(alloc) else {
         return Err(EarlyEnd::WantOfMemory);

@@ -20,7 +20,7 @@ use Rattle.durable_cell.specs.Asked.{Answers, GoesOn, with_entry, entry, halted_
 use Rattle.durable_cell.specs.DurableState.{DurableState, first_parts}
 use Rattle.cell_lock.specs.declared.board.Opening.{Opening}
 use Rattle.cell_lock.specs.Openings.{Fits, opening_of}
-use Rattle.cell_lock.specs.Standing.{Standing, Adds, Asked}
+use Rattle.cell_lock.specs.Standing.{Standing, AddsEntry, Asked}
 use Rattle.cell_lock.proofs.Histories.{prefix_more, entries-own}
 
 -- an entry more keeps what was seen a beginning
@@ -42,7 +42,7 @@ record Sees {D : Type 0} (p q : Standing D) (a b : DurableState D) : Type 0 wher
   own : q.mine ≡ entries_of p.number b.history
 
 added : {D : Type 0} (p q : Standing D) (shift : ℕ) (a b : DurableState D) (e : Entry) → e.session ≡ p.number → Sees p q a b
-    → b ≡ with_entry a b.disk shift e → Adds p q e
+    → b ≡ with_entry a b.disk shift e → AddsEntry p q e
 added {D} p q shift a b e by sees is = record {
   before = a.history;
   began = sees.began;

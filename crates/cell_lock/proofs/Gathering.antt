@@ -10,7 +10,7 @@ use Rattle.durable_cell.specs.DurableState.{DurableState}
 use Rattle.cell_lock.specs.declared.board.Opening.{Opening}
 use Rattle.cell_lock.specs.Law.{AllBegin, AllStand}
 use Rattle.cell_lock.specs.Views.{mines_of, passing, gathered}
-use Rattle.cell_lock.specs.Standing.{LockId, Standing, answers_of, all_answers, new_pass, new_passes, AreNumbered}
+use Rattle.cell_lock.specs.Standing.{LockId, Standing, answers_of, all_answers, new_pass, new_passes, ArePassesNumbered}
 use Rattle.cell_lock.specs.Steps.{gathering}
 use Rattle.cell_lock.proofs.Histories.{begin_after}
 
@@ -24,7 +24,7 @@ passes_more {D} moment lock first (suc n) =
     ∙ ap (λ (k : ℕ). new_passes moment lock (first + 1) n ++ new_pass moment lock k ∷ []) (omega arith))
 
 pub numbered_at : {D : Type 0} (lock : LockId D) (first : ℕ) (xs ys : List (Standing D)) (p : Standing D)
-    → AreNumbered lock first (xs ++ p ∷ ys) → (p.lock ≡ lock) × (p.number ≡ first + length xs)
+    → ArePassesNumbered lock first (xs ++ p ∷ ys) → (p.lock ≡ lock) × (p.number ≡ first + length xs)
 numbered_at lock first [] ys p h = (h.0, h.1 ∙ omega arith)
 numbered_at lock first (x ∷ xs) ys p h = let t = numbered_at lock (first + 1) xs ys p h.2 in (t.0, t.1 ∙ omega arith)
 
@@ -72,7 +72,7 @@ rest_of : List (List Entry) → List (List Entry)
 rest_of [] = []
 rest_of (x ∷ xs) = xs
 
-pub all_mine : {D : Type 0} (lock : LockId D) (first : ℕ) (ps : List (Standing D)) (log : List Entry) → AreNumbered lock first ps
+pub all_mine : {D : Type 0} (lock : LockId D) (first : ℕ) (ps : List (Standing D)) (log : List Entry) → ArePassesNumbered lock first ps
     → map (λ (p : Standing D). p.mine) ps ≡ mines_of first (length ps) log → All (λ (p : Standing D). entries_of p.number log ≡ p.mine) ps
 unfolding rest_of
 all_mine {D} lock first [] log h e = All-nil (λ (p : Standing D). entries_of p.number log ≡ p.mine)

@@ -1,8 +1,8 @@
 -- For callers: which passes a lock was opened with, and that they stay so.
 use Rattle.std.proofs.Common.{◌≡◌, ℕ, zero, suc, ◌+◌, ◌<◌, List, [], ◌∷◌, length, slice_index_or, refl, ◌∙◌, arith}
-use Rattle.cell_lock.specs.Standing.{LockId, Standing, KeepsName, new_passes, AreNumbered, AreAll}
+use Rattle.cell_lock.specs.Standing.{LockId, Standing, KeepsName, new_passes, ArePassesNumbered, AreAll}
 
-numbered_new : {D : Type 0} (moment : D → ℕ) (lock : LockId D) (first n : ℕ) → AreNumbered lock first (new_passes moment lock first n)
+numbered_new : {D : Type 0} (moment : D → ℕ) (lock : LockId D) (first n : ℕ) → ArePassesNumbered lock first (new_passes moment lock first n)
 numbered_new moment lock first zero = tt
 numbered_new moment lock first (suc n) = (refl, refl, numbered_new moment lock (first + 1) n)
 
@@ -17,7 +17,7 @@ all_new moment lock n same = record { numbered = numbered_new moment lock 1 n; c
 
 numbered_kept : {D : Type 0} (lock : LockId D) (first : ℕ) (old new : List (Standing D)) → length new ≡ length old
     → ((i : ℕ) (d : Standing D) → i < length old → KeepsName (slice_index_or old i d) (slice_index_or new i d))
-    → AreNumbered lock first old → AreNumbered lock first new
+    → ArePassesNumbered lock first old → ArePassesNumbered lock first new
 numbered_kept lock first [] [] len keep h = tt
 numbered_kept lock first [] (q ∷ qs) len keep h = absurd (omega arith)
 numbered_kept lock first (p ∷ ps) [] len keep h = absurd (omega arith)

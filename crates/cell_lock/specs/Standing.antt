@@ -48,13 +48,13 @@ new_passes moment lock first zero = []
 new_passes moment lock first (suc count) = new_pass moment lock first ∷ new_passes moment lock (first + 1) count
 
 -- the passes are of this lock and are numbered from `first` on
-abbrev pub AreNumbered : {D : Type 0} → LockId D → ℕ → List (Standing D) → Type 0
-AreNumbered lock first [] = ⊤
-AreNumbered lock first (pass ∷ passes) = (pass.lock ≡ lock) × (pass.number ≡ first) × AreNumbered lock (first + 1) passes
+abbrev pub ArePassesNumbered : {D : Type 0} → LockId D → ℕ → List (Standing D) → Type 0
+ArePassesNumbered lock first [] = ⊤
+ArePassesNumbered lock first (pass ∷ passes) = (pass.lock ≡ lock) × (pass.number ≡ first) × ArePassesNumbered lock (first + 1) passes
 
 -- they are the passes with which the lock was opened
 pub record AreAll {D : Type 0} (lock : LockId D) (passes : List (Standing D)) : Type 0 where
-  pub numbered : AreNumbered lock 1 passes
+  pub numbered : ArePassesNumbered lock 1 passes
   pub count : length passes ≡ lock.opening.passes
 
 -- the pass has one answer more, and keeps the earlier ones
@@ -67,7 +67,7 @@ pub record KeepsName {D : Type 0} (old new : Standing D) : Type 0 where
   pub number : new.number ≡ old.number
 
 -- the history that is now seen ends with this entry, after all that was seen before, and the pass's own entries grew by it
-pub record Adds {D : Type 0} (old new : Standing D) (e : Entry) : Type 0 where
+pub record AddsEntry {D : Type 0} (old new : Standing D) (e : Entry) : Type 0 where
   pub before : List Entry
   pub began : IsPrefix old.seen before
   pub ends : new.seen ≡ before ++ e ∷ []
@@ -76,8 +76,8 @@ pub record Adds {D : Type 0} (old new : Standing D) (e : Entry) : Type 0 where
 -- What a pass knows after it asked: its entry with the reply, or as the halt; or where the history that it sees halts, or that it is
 -- full.
 abbrev pub Asked : {D : Type 0} → Standing D → Request → Result Reply AskFault → Standing D → Type 0
-Asked old request (Ok reply) new = Adds old new (entry old.number request (Answered reply))
+Asked old request (Ok reply) new = AddsEntry old new (entry old.number request (Answered reply))
 Asked old request (Err (Halted at)) new = (halted_at new.seen ≡ Some at) × (new.mine ≡ old.mine)
 Asked old request (Err (Full len)) new =
     (halted_at new.seen ≡ None) × (len ≡ length new.seen) × (len ≡ old.lock.opening.limit) × (new.mine ≡ old.mine)
-Asked old request (Err (Device at)) new = Adds old new (entry old.number request told.Halted) × (at + 1 ≡ length new.seen)
+Asked old request (Err (Device at)) new = AddsEntry old new (entry old.number request told.Halted) × (at + 1 ≡ length new.seen)

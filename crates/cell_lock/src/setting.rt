@@ -2,7 +2,7 @@
 ghost use Rattle.std.specs.Prelude.{◌≡◌, ◌+◌, ◌-◌, ◌<◌, ◌≤◌, false, [], ◌∷◌, length, IfOk, IfErr};
 ghost use Rattle.cell_lock.specs.Openings.{opening_of};
 ghost use Rattle.cell_lock.specs.Views.{stock, passing, gathered, IsStock};
-ghost use Rattle.cell_lock.specs.Standing.{new_pass, new_passes, AreNumbered};
+ghost use Rattle.cell_lock.specs.Standing.{new_pass, new_passes, ArePassesNumbered};
 ghost use Rattle.cell_lock.specs.Steps.{IsWide, lock_of, gathering};
 
 use crate::board::{Board, Key, Place, Top};
@@ -124,7 +124,7 @@ pub(crate) fn gather<D: Disk>(
 ) -> Place<D>
     requires table { (host.table_id ≡ top.now.table_id) × IsWide top.now.table_id }
     requires host { host.me ≡ (gathering host.me.0.opening (length passes + 1) [], []) }
-    requires passes { AreNumbered (lock_of host) 1 passes }
+    requires passes { ArePassesNumbered (lock_of host) 1 passes }
     ensures table { result.table_id ≡ host.table_id }
     ensures view { result.me ≡ (gathering host.me.0.opening 1 passes, []) }
 {

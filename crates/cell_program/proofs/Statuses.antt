@@ -19,7 +19,7 @@ use Rattle.cell_walks.specs.declared.early_end.Subject.TheVariants.{Words, Cell,
 use Rattle.cell_walks.specs.declared.status.Status.{Status}
 use Rattle.cell_walks.specs.declared.status.Status.TheVariants.{CommandRefused, Done, Denied, DeviceFault, NoMemory, ReadFault, SinkFault}
 use Rattle.cell_commands.specs.Check.{verdict_status}
-use Rattle.standby_commands.specs.Follow.{Follows, Followed, HaltedAt, RefusedAt}
+use Rattle.standby_commands.specs.Follow.{EndsFollowing, Followed, HaltedAt, RefusedAt}
 use Rattle.cell_base.specs.declared.cells.Cell.{Cell as OfCell}
 use Rattle.cell_program.specs.Words.{Task, Solo, Run, Plan, Drain, Why, Check, Show, Make, Carry, Begin}
 use Rattle.cell_program.specs.Words.{Hybrid, Queue, Advise, Arrange, Grants, Parts, Feed, Follow, walk_of}
@@ -63,7 +63,7 @@ so task outcome this is that = subst (λ (o : Outcome). IsAnswers task o.status)
 
 -- a `follow` was taken whole, refused, or halted
 follow_so : (task : Task) → MayAnswer task Command → (cell : OfCell) (opening : List Grant) (frames : List (List ℕ)) (outcome : Outcome)
-    → Follows cell opening frames outcome → IsAnswers task outcome.status
+    → EndsFollowing cell opening frames outcome → IsAnswers task outcome.status
 follow_so task may cell opening frames outcome (Followed is) = subst (IsAnswers task) (sym is.status) tt
 follow_so task may cell opening frames outcome (RefusedAt is) = subst (IsAnswers task) (sym is.status) may
 follow_so task may cell opening frames outcome (HaltedAt is) = subst (IsAnswers task) (sym is.status) tt

@@ -16,7 +16,7 @@ use Rattle.cell_base.specs.Scripts.{Progress, progress_after, progress_through, 
 use Rattle.durable_cell.specs.declared.fault.AskFault.{AskFault}
 use Rattle.durable_cell.specs.declared.fault.AskFault.TheVariants.{Halted, Full, Device}
 use Rattle.durable_cell.specs.Asked.{entry, is_halt}
-use Rattle.cell_lock.specs.Standing.{LockId, Standing, KeepsName, Adds, AreNumbered, Asked}
+use Rattle.cell_lock.specs.Standing.{LockId, Standing, KeepsName, AddsEntry, ArePassesNumbered, Asked}
 use Rattle.cell_sessions.specs.Sessions.{HasAsked, HasRun}
 use Rattle.solo_rounds.specs.Underway.{script_asks_left}
 use Rattle.cell_base.proofs.Histories.{progress_through-push}
@@ -89,7 +89,7 @@ module _ {D : Type 0} (script : List Request) (patience : ℕ) (start : Progress
     now_seen : IsPrefix p.seen r.seen
     now_seen = prefix_on p.seen q.seen r.seen asks.asked.seen asks.seen
 
-    now_mine : (told : Told) → Adds q r (entry q.number request told)
+    now_mine : (told : Told) → AddsEntry q r (entry q.number request told)
         → r.mine ≡ p.mine ++ (asks.asked.entries ++ entry q.number request told ∷ [])
     now_mine told adds =
         adds.own ∙ (ap (λ (l : List Entry). l ++ entry q.number request told ∷ []) asks.asked.mine
@@ -142,7 +142,7 @@ module _ {D : Type 0} (script : List Request) (patience : ℕ) (start : Progress
         unchanged going said.3
         (inr (sym said.1 ∙ (said.2 ∙ ap (λ (lock : LockId D). lock.opening.limit) asks.asked.name.lock)))
     faulted (Device n) going said =
-        let adds : Adds q r (entry q.number request told.Halted) = said.0 in
+        let adds : AddsEntry q r (entry q.number request told.Halted) = said.0 in
         record {
           name = now_name;
           seen = now_seen;
@@ -176,7 +176,7 @@ asks-le steps all patience few =
     omega (arith, whole)
 
 -- passes that are numbered are of the lock
-pub of_lock : {D : Type 0} (lock : LockId D) (first : ℕ) (passes : List (Standing D)) → AreNumbered lock first passes
+pub of_lock : {D : Type 0} (lock : LockId D) (first : ℕ) (passes : List (Standing D)) → ArePassesNumbered lock first passes
     → All (λ (p : Standing D). p.lock ≡ lock) passes
 of_lock {D} lock first [] numbered = All-nil (λ (p : Standing D). p.lock ≡ lock)
 of_lock {D} lock first (p ∷ ps) numbered =

@@ -12,7 +12,7 @@ use Rattle.cell_walks.specs.DiskTold.{IsOnlyRead, StoodFor}
 use Rattle.cell_walks.specs.Observed.{Observed}
 use Rattle.cell_walks.specs.Outcomes.{Outcome, early}
 use Rattle.cell_walks.specs.Promises.{HoldsRefused, ReachesJournal, AnswersFrom, AnswersNow, OpensLast}
-use Rattle.cell_walks.specs.Promises.{KeepsGrants, OnlyReads, OpensNone, OpensOnce, StandsWith}
+use Rattle.cell_walks.specs.Promises.{KeepsGrants, OnlyReadsJournal, OpensNone, OpensOnce, StandsWith}
 use Rattle.cell_walks.specs.Walks.{Journal, Purpose, ToRead, ToAdd, Walk, Tests, Opens, Answers}
 use Rattle.cell_walks.specs.declared.early_end.EarlyEnd.TheVariants.{DeviceFailed}
 use Rattle.cell_walks.proofs.Laws.{one_of, opened_one}
@@ -41,7 +41,7 @@ module _ (seen : Observed) (outcome : Outcome) where
   unopened_read ToRead text is left = left
   unopened_read ToAdd text is left = absurd (cc)
 
-  pub read_so : (reached : Reached) → IsRead reached → (walk : Walk) → OnlyReads walk → AllowsFrom seen outcome reached walk
+  pub read_so : (reached : Reached) → IsRead reached → (walk : Walk) → OnlyReadsJournal walk → AllowsFrom seen outcome reached walk
       → IsOnlyRead seen.disk
   read_so reached read (Tests test next) only (Stopped end ended is) = read is.1
   read_so reached read (Tests test next) only (Passed value shows follows) = read_so reached read (next value) (only value) follows

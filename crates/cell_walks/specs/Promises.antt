@@ -94,10 +94,10 @@ OpensLast (Opens journal next) = (grants : List Grant) → AnswersNow (next gran
 OpensLast (Answers allows) = ⊤
 
 -- it only reads its journal
-abbrev pub OnlyReads : Walk → Type 0
-OnlyReads (Tests test next) = (value : test.Value) → OnlyReads (next value)
-OnlyReads (Opens journal next) = (journal.purpose ≡ ToRead) × ((grants : List Grant) → OnlyReads (next grants))
-OnlyReads (Answers allows) = ⊤
+abbrev pub OnlyReadsJournal : Walk → Type 0
+OnlyReadsJournal (Tests test next) = (value : test.Value) → OnlyReadsJournal (next value)
+OnlyReadsJournal (Opens journal next) = (journal.purpose ≡ ToRead) × ((grants : List Grant) → OnlyReadsJournal (next grants))
+OnlyReadsJournal (Answers allows) = ⊤
 
 -- ---- the disk
 
@@ -221,5 +221,5 @@ pub record Promises (seen : Observed) (sink : SinkTold) (walk : Walk) (status : 
   -- A crash at any moment.
   pub keeps : OpensOnce walk → KeepsGrants seen outcome walk
   pub early_reads : OpensLast walk → IsOnlyRead seen.disk ⊎ ((outcome ≡ early DeviceFailed) ⊎ IsAnswered seen walk outcome)
-  pub only_reads : OnlyReads walk → IsOnlyRead seen.disk
+  pub only_reads : OnlyReadsJournal walk → IsOnlyRead seen.disk
   pub untouched : OpensNone walk → IsUntouched seen.disk

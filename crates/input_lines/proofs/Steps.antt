@@ -9,7 +9,7 @@ use Rattle.std.proofs.Math.Seq.{take-append-add, take-append_seam}
 use Rattle.std.proofs.lemmas.List.Quantifiers.{position-Some}
 use Rattle.std.proofs.lemmas.List.Sums.{fails_before_first}
 use Rattle.input_lines.specs.Lines.{is_newline, lines_after, whole_lines}
-use Rattle.input_lines.specs.Reading.{IsReading, LinesState}
+use Rattle.input_lines.specs.Reading.{AreLinesSoFar, LinesState}
 
 -- ---- newlines
 
@@ -121,11 +121,11 @@ take_front zero front rest = refl
 take_front (suc n) [] rest = refl
 take_front (suc n) (x ∷ front) rest = ap (λ (xs : List ℕ). x ∷ xs) (take_front n front rest)
 
-module _ (text : List ℕ) (given : List (List ℕ)) (old new : LinesState) (reading : IsReading text given old) where
+module _ (text : List ℕ) (given : List (List ℕ)) (old new : LinesState) (reading : AreLinesSoFar text given old) where
   -- a line is given
   pub reads_line : (count : ℕ) → Some count ≡ position is_newline old.ahead → new.ahead ≡ drop (suc count) old.ahead
       → new.begun ≡ [] → new.line ≡ take 65 (old.begun ++ take count old.ahead)
-      → (line : List ℕ) × (new.line ≡ take 65 line) × IsReading text (given ++ line ∷ []) new
+      → (line : List ℕ) × (new.line ≡ take 65 line) × AreLinesSoFar text (given ++ line ∷ []) new
   reads_line count at ahead begun line = (
     reading.begun ++ take count old.ahead,
     line ∙ ap (λ (o : List ℕ). take 65 (o ++ take count old.ahead)) reading.kept ∙ take_front 65 reading.begun (take count old.ahead),
@@ -141,7 +141,7 @@ module _ (text : List ℕ) (given : List (List ℕ)) (old new : LinesState) (rea
 
   -- there is none
   pub reads_none : None ≡ position is_newline old.ahead → new.ahead ≡ [] → new.begun ≡ take 65 (old.begun ++ old.ahead)
-      → IsReading text given new
+      → AreLinesSoFar text given new
   reads_none none ahead begun = record {
     begun = reading.begun ++ old.ahead;
     kept = begun ∙ ap (λ (o : List ℕ). take 65 (o ++ old.ahead)) reading.kept ∙ take_front 65 reading.begun old.ahead;
@@ -151,7 +151,7 @@ module _ (text : List ℕ) (given : List (List ℕ)) (old new : LinesState) (rea
   }
 
   -- a piece comes
-  pub reads_piece : (piece : List ℕ) → old.ahead ≡ [] → new.ahead ≡ piece → new.begun ≡ old.begun → IsReading (text ++ piece) given new
+  pub reads_piece : (piece : List ℕ) → old.ahead ≡ [] → new.ahead ≡ piece → new.begun ≡ old.begun → AreLinesSoFar (text ++ piece) given new
   reads_piece piece spent ahead begun = record {
     begun = reading.begun;
     kept = begun ∙ reading.kept;

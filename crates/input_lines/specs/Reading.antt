@@ -14,15 +14,15 @@ abbrev pub reading : List ℕ → ℕ → ℕ → List ℕ → List ℕ → Line
 reading piece at end begun line = record { begun = begun; ahead = slice_range piece at end; line = line }
 
 -- Of this text these lines were given: whatever comes after it, its other whole lines are those of what was read and of that.
-pub record IsReading (text : List ℕ) (given : List (List ℕ)) (lines : LinesState) : Type 0 where
+pub record AreLinesSoFar (text : List ℕ) (given : List (List ℕ)) (lines : LinesState) : Type 0 where
   pub begun : List ℕ
   pub kept : lines.begun ≡ take 65 begun
   pub goes_on : (more : List ℕ) → whole_lines (text ++ more) ≡ given ++ lines_after begun (lines.ahead ++ more)
 
 -- The source gave a piece of so many bytes: it is ahead, and comes after the text that was read.
-pub record Gives (before after : Option (List ℕ)) (old new : LinesState) (count : ℕ) : Type 0 where
+pub record GivesPiece (before after : Option (List ℕ)) (old new : LinesState) (count : ℕ) : Type 0 where
   pub piece : List ℕ
   pub count_is : length piece ≡ count
   pub came : Appends before after piece
   pub ahead_is : new.ahead ≡ piece
-  pub reads : (text : List ℕ) (given : List (List ℕ)) → IsReading text given old → IsReading (text ++ piece) given new
+  pub reads : (text : List ℕ) (given : List (List ℕ)) → AreLinesSoFar text given old → AreLinesSoFar (text ++ piece) given new

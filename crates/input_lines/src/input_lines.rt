@@ -3,7 +3,7 @@ ghost use Rattle.std.specs.Prelude.{◌≡◌, ◌↔◌, ◌+◌, ◌≤◌, �
 ghost use Rattle.std.specs.Prelude.{IfOk, IsTrue, OnErr};
 ghost use Rattle.outside_io.specs.Causes.{HasCause};
 ghost use Rattle.input_lines.specs.Lines.{is_newline};
-ghost use Rattle.input_lines.specs.Reading.{Gives, IsReading, reading};
+ghost use Rattle.input_lines.specs.Reading.{GivesPiece, AreLinesSoFar, reading};
 
 use arrayvec::ArrayVec;
 use cell_base::NoMemory;
@@ -61,7 +61,7 @@ impl InputLines {
     /// Reads the next piece, where all that was read is spent, and answers how many bytes it has. No bytes: the end of the input.
     pub fn fill<S: Source>(&mut self, source: &mut S) -> Result<usize, Failed>
         requires spent { self.old.ahead ≡ [] }
-        ensures goes_on { IfOk result (λ count. Gives (S.given source.old) (S.given source.new) self.old self.new count) }
+        ensures goes_on { IfOk result (λ count. GivesPiece (S.given source.old) (S.given source.new) self.old self.new count) }
         ensures end { result ≡ Ok 0 → S.has_ended source.new }
         ensures nothing { OnErr result ((S.given source.new ≡ S.given source.old) × (self.new ≡ self.old)) }
         ensures cause { HasCause (S.faults source.old) (S.faults source.new) result }
@@ -82,10 +82,10 @@ impl InputLines {
 
     /// Takes the next whole line. Where there is none, all bytes that were read are in the line that has begun.
     pub fn next_line(&mut self) -> bool
-        ensures whole { result ≡ true → (text : List ℕ) (given : List (List ℕ)) → IsReading text given self.old
-            → (line : List ℕ) × (self.new.line ≡ take LINE_KEPT line) × IsReading text (given ++ line ∷ []) self.new }
+        ensures whole { result ≡ true → (text : List ℕ) (given : List (List ℕ)) → AreLinesSoFar text given self.old
+            → (line : List ℕ) × (self.new.line ≡ take LINE_KEPT line) × AreLinesSoFar text (given ++ line ∷ []) self.new }
         ensures none { result ≡ false → (self.new.ahead ≡ [])
-            × ((text : List ℕ) (given : List (List ℕ)) → IsReading text given self.old → IsReading text given self.new) }
+            × ((text : List ℕ) (given : List (List ℕ)) → AreLinesSoFar text given self.old → AreLinesSoFar text given self.new) }
     {
         match first_newline(&self.piece[self.at..self.end]) {
             Some(count) => {

@@ -21,12 +21,12 @@ pub record IsSummaryOf (number : ℕ) (summary : Summary) : Type 0 where
       summary ≡ summary_of number (drawn_cell number) (drawn_shift number) history left
 
 -- that summary is printed
-abbrev pub IsMade : ℕ → Outcome → Type 0
-IsMade number outcome = (summary : Summary) × IsSummaryOf number summary × (outcome ≡ done (summary_lines summary))
+abbrev pub IsSummaryPrinted : ℕ → Outcome → Type 0
+IsSummaryPrinted number outcome = (summary : Summary) × IsSummaryOf number summary × (outcome ≡ done (summary_lines summary))
 
 -- what is answered for a number
 abbrev pub made : ℕ → Walk
-made number = Answers λ input outcome. IsMade number outcome
+made number = Answers λ input outcome. IsSummaryPrinted number outcome
 
 -- the commands with their words, for any other word, and the word
 abbrev pub make : List ℕ → List ℕ → Walk

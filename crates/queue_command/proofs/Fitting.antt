@@ -33,7 +33,7 @@ use Rattle.wait_board.specs.Boards.{opened, renewed, scan_within, settled, told_
 use Rattle.wait_board.specs.BoardState.{IsWaiting}
 use Rattle.wait_board.proofs.Firsts.{All-without}
 use Rattle.board_rounds.specs.Rounds.{present_step, progress_in, queue_run, rounds, turn, turns}
-use Rattle.queue_command.specs.Lines.{BoardFits, EntryFits, ToldFits, WaiterFits}
+use Rattle.queue_command.specs.Lines.{BoardFits, BoardEntryFits, BoardToldFits, WaiterFits}
 
 module _ (cell : Cell) (fits : CellFits cell) where
   refusal_fits : (parts : List Part) (request : Request) (why : Refusal) → IsAdmitted cell parts → RequestFits cell request
@@ -45,23 +45,23 @@ module _ (cell : Cell) (fits : CellFits cell) where
       (All-head (AskedFits cell) e [] one).told
 
   end_fits : (parts : List Part) (request : Request) → IsAdmitted cell parts → RequestFits cell request
-      → ToldFits cell (end_of_wait (reply_to cell parts request))
+      → BoardToldFits cell (end_of_wait (reply_to cell parts request))
   end_fits parts request admitted fit = by_reply (reply_to cell parts request) refl
     where
-      by_reply : (r : Reply) → reply_to cell parts request ≡ r → ToldFits cell (end_of_wait r)
+      by_reply : (r : Reply) → reply_to cell parts request ≡ r → BoardToldFits cell (end_of_wait r)
       by_reply Granted is = tt
       by_reply (Refused why) is = refusal_fits parts request why admitted fit is
 
   -- what every ask and every step of a scan keeps
   record Fit (on : OnBoard) : Type 0 where
     pub admitted : IsAdmitted cell on.parts
-    pub entries : All (EntryFits cell) on.history
+    pub entries : All (BoardEntryFits cell) on.history
     pub requests : All (λ (w : Waiter). RequestFits cell w.request) on.waiters
 
-  push_fits : (history : List BoardEntry) (e : BoardEntry) → All (EntryFits cell) history → EntryFits cell e
-      → All (EntryFits cell) (history ++ e ∷ [])
+  push_fits : (history : List BoardEntry) (e : BoardEntry) → All (BoardEntryFits cell) history → BoardEntryFits cell e
+      → All (BoardEntryFits cell) (history ++ e ∷ [])
   push_fits history e all one =
-      All-append (EntryFits cell) history (e ∷ []) all (All-cons (EntryFits cell) e [] one (All-nil (EntryFits cell)))
+      All-append (BoardEntryFits cell) history (e ∷ []) all (All-cons (BoardEntryFits cell) e [] one (All-nil (BoardEntryFits cell)))
 
   after_admitted : (parts : List Part) (request : Request) → IsAdmitted cell parts → RequestFits cell request
       → IsAdmitted cell (state_after cell parts request)
@@ -169,7 +169,7 @@ module _ (cell : Cell) (fits : CellFits cell) where
     run_fit =
         rounds_fit (steps_of shift * shift.patience) (opened []) (record {
           admitted = IsAdmitted-empty cell;
-          entries = All-nil (EntryFits cell);
+          entries = All-nil (BoardEntryFits cell);
           requests = All-nil (λ (w : Waiter). RequestFits cell w.request);
         })
 

@@ -7,7 +7,7 @@ use Rattle.cell_base.specs.Fits.{CellFits, ShiftFits}
 use Rattle.admission_core.specs.CoreState.{CoreState}
 use Rattle.shift_file.specs.Walk.{shift_of}
 use Rattle.wait_board.specs.Boards.{OnBoard}
-use Rattle.wait_board.specs.BoardState.{BoardState, IsOpened, IsWaiting, Keeps}
+use Rattle.wait_board.specs.BoardState.{BoardState, IsNewBoard, IsWaiting, KeepsBoard}
 use Rattle.board_rounds.specs.Rounds.{NobodyAsks, queue_run}
 use Rattle.board_rounds.specs.Underway.{HasBecome}
 use Rattle.cell_walks.specs.Allowed.{ByMemory, IsAllowed, IsEndedAt, Passed, Stopped, Unasked}
@@ -27,8 +27,8 @@ use Rattle.queue_command.proofs.Fitting.{run_drains, run_fits}
 -- ---- the run
 
 module _ (cell : Cell) (fits : CellFits cell) (shift : Shift) (shift_fits : ShiftFits cell shift) (core : CoreState) (n room : ℕ)
-    (first new : BoardState) (empty : core ≡ record { cell = cell; parts = [] }) (opened : IsOpened core n room first)
-    (ran : HasBecome first (queue_run first.cell first.on.parts shift) new) (count : n ≡ length shift.scripts) (kept : Keeps new) where
+    (first new : BoardState) (empty : core ≡ record { cell = cell; parts = [] }) (opened : IsNewBoard core n room first)
+    (ran : HasBecome first (queue_run first.cell first.on.parts shift) new) (count : n ≡ length shift.scripts) (kept : KeepsBoard new) where
   on_cell : new.cell ≡ cell
   on_cell = ap (λ (b : BoardState). b.cell) ran.is ∙ opened.cell ∙ ap (λ (c : CoreState). c.cell) empty
 

@@ -54,17 +54,17 @@ board_lines cell on = told_lines cell on ++ left_lines cell (length on.parts) (p
 -- ---- entries that have a line
 
 -- a refusal names a resource of the cell, if any
-abbrev pub ToldFits : Cell → BoardTold → Type 0
-ToldFits cell told.Granted = ⊤
-ToldFits cell (told.Refused why) = RefusalFits cell why
-ToldFits cell (told.Waits why) = RefusalFits cell why
-ToldFits cell told.Served = ⊤
-ToldFits cell (told.Dropped why) = RefusalFits cell why
+abbrev pub BoardToldFits : Cell → BoardTold → Type 0
+BoardToldFits cell told.Granted = ⊤
+BoardToldFits cell (told.Refused why) = RefusalFits cell why
+BoardToldFits cell (told.Waits why) = RefusalFits cell why
+BoardToldFits cell told.Served = ⊤
+BoardToldFits cell (told.Dropped why) = RefusalFits cell why
 
 -- the ids of its request and of what was told are the cell's
-pub record EntryFits (cell : Cell) (entry : BoardEntry) : Type 0 where
+pub record BoardEntryFits (cell : Cell) (entry : BoardEntry) : Type 0 where
   pub request : RequestFits cell entry.request
-  pub told : ToldFits cell entry.told
+  pub told : BoardToldFits cell entry.told
 
 -- the same of a session that waits
 pub record WaiterFits (cell : Cell) (waiter : Waiter) : Type 0 where
@@ -73,5 +73,5 @@ pub record WaiterFits (cell : Cell) (waiter : Waiter) : Type 0 where
 
 -- and of all that stands on a board
 pub record BoardFits (cell : Cell) (on : OnBoard) : Type 0 where
-  pub entries : All (EntryFits cell) on.history
+  pub entries : All (BoardEntryFits cell) on.history
   pub waiters : All (WaiterFits cell) on.waiters

@@ -9,7 +9,7 @@
 ghost use Rattle.std.specs.Prelude.{◌≡◌, ◌≤◌, ◌∷◌, length};
 ghost use Rattle.cell_base.specs.declared.requests.Told.TheVariants.{Answered};
 ghost use Rattle.record_text.specs.Fitting.{EntryFits as AskedFits};
-ghost use Rattle.queue_command.specs.Clauses.{EntryFits, WaiterFits, asked_line, entry_line, reason_words, still_line};
+ghost use Rattle.queue_command.specs.Clauses.{BoardEntryFits, WaiterFits, asked_line, entry_line, reason_words, still_line};
 
 use cell_base::{Cell, Entry, Reply, Request, Told};
 use record_text::{Line, line_of, reply_line};
@@ -17,7 +17,7 @@ use wait_board::{BoardEntry, BoardTold, Waiter};
 
 /// The line of an entry, in the place of what stood on a line.
 pub fn write_entry(line: &mut Line, cell: &Cell, entry: &BoardEntry)
-    requires { EntryFits cell.now entry.now }
+    requires { BoardEntryFits cell.now entry.now }
     ensures { line.new ≡ entry_line cell.now entry.now }
 {
     let session = entry.session;

@@ -2,7 +2,7 @@
 ghost use Rattle.std.specs.Prelude.{map, OnOk, OnErr};
 ghost use Rattle.std.specs.List.{All};
 ghost use Rattle.cell_walks.specs.Clauses.{HasCause, TookAll, TookSome, sink_told};
-ghost use Rattle.queue_command.specs.Clauses.{BoardFits, EntryFits, WaiterFits, board_lines, entry_line, still_line, told_lines};
+ghost use Rattle.queue_command.specs.Clauses.{BoardFits, BoardEntryFits, WaiterFits, board_lines, entry_line, still_line, told_lines};
 
 use crate::lines::{write_entry, write_still};
 use cell_base::Cell;
@@ -43,7 +43,7 @@ fn print_told<K: Sink>(out: &mut K, board: &Board) -> Result<(), Failed>
 
 // Puts the line of each entry.
 fn print_entries<K: Sink>(out: &mut K, cell: &Cell, entries: &[BoardEntry]) -> Result<(), Failed>
-    requires { All (EntryFits cell.now) entries.now }
+    requires { All (BoardEntryFits cell.now) entries.now }
     ensures whole { OnOk result
         (TookAll (sink_told K.taken K.was_put K.faults out.old out.new) (map (entry_line cell.now) entries.now)) }
     ensures part { OnErr result

@@ -22,7 +22,7 @@ use Rattle.live_cell.specs.LiveState.{LiveState, asked}
 use Rattle.policy_laws.specs.Laws.{RefusalLaw}
 use Rattle.record_text.specs.Fitting.{EntryFits}
 use Rattle.serve_command.specs.Answers.{added_by, answer, entry_of, halted_line, session_grant}
-use Rattle.serve_command.specs.Serving.{Counted, GoesOn, HasCounts, IsAnswered, IsJournalFull, StandsAt, first_after}
+use Rattle.serve_command.specs.Serving.{CountsGrant, TakesOneLine, HasCounts, IsAskAnswered, IsJournalFull, StandsAt, first_after}
 use Rattle.serve_command.specs.declared.asks.Ask.{Ask}
 use Rattle.serve_command.specs.declared.asks.Ask.TheVariants.{Step}
 use Rattle.serve_command.specs.declared.command.TheConstants.{MAX_SERVED}
@@ -57,7 +57,7 @@ first_same (Some first) at line = refl
 module _ {D : Type 0} (old new : Server D) (line : List ℕ)
     (is : new ≡ record old { replies = old.replies ++ line ∷ []; asked = old.asked + 1 }) where
   pub kept_answered : (cell : Cell) (grants : List Grant) (ask : Ask) → StandsAt grants old → added_by cell grants ask ≡ []
-      → line ≡ answer cell grants (old.asked + 1) ask → IsAnswered cell grants old ask new
+      → line ≡ answer cell grants (old.asked + 1) ask → IsAskAnswered cell grants old ask new
   kept_answered cell grants ask at none line_is =
       let still : StandsAt grants (record old { replies = old.replies ++ line ∷ []; asked = old.asked + 1 }) =
       record { parts = at.parts; counts = at.counts; number = at.number } in
@@ -72,7 +72,7 @@ module _ {D : Type 0} (old new : Server D) (line : List ℕ)
             ∙ first_same old.first (length old.replies) (halted_line cell ask));
       }
 
-  pub kept_goes : GoesOn old new
+  pub kept_goes : TakesOneLine old new
   kept_goes = record {
     cell = ap (λ (s : Server D). s.live.cell) is;
     disk = ap (λ (s : Server D). s.live.disk) is;
@@ -97,7 +97,7 @@ module _ {D : Type 0} (old new : Server D) (session : ℕ) (request : Request) (
   grant = session_grant session request
 
   -- it was granted
-  module _ (granted : reply ≡ Granted) (mid : Server D) (counted : Counted (record old { live = live }) session request mid)
+  module _ (granted : reply ≡ Granted) (mid : Server D) (counted : CountsGrant (record old { live = live }) session request mid)
       (is : new ≡ record mid { replies = mid.replies ++ line ∷ []; asked = mid.asked + 1 }) where
     here : is_granted (reply_to cell old.live.parts request) ≡ true
     here = ap is_granted (sym reply_is ∙ granted)
@@ -116,7 +116,7 @@ module _ {D : Type 0} (old new : Server D) (session : ℕ) (request : Request) (
     new_live : new.live ≡ live
     new_live = ap (λ (s : Server D). s.live) is ∙ counted.live
 
-    pub granted_goes : GoesOn old new
+    pub granted_goes : TakesOneLine old new
     granted_goes =
         let all = new_live ∙ live_more in
         record {
@@ -139,7 +139,7 @@ module _ {D : Type 0} (old new : Server D) (session : ℕ) (request : Request) (
         }
 
     pub granted_answered : (grants : List Grant) → StandsAt grants old → length grants < 4294967295
-        → line ≡ answer cell grants (old.asked + 1) (Step session request) → IsAnswered cell grants old (Step session request) new
+        → line ≡ answer cell grants (old.asked + 1) (Step session request) → IsAskAnswered cell grants old (Step session request) new
     granted_answered grants at few line_is =
         let all = new_live ∙ live_more in
         let added : added_by cell grants (Step session request) ≡ grant ∷ [] =
@@ -187,11 +187,11 @@ module _ {D : Type 0} (old new : Server D) (session : ℕ) (request : Request) (
     same : new ≡ record old { replies = old.replies ++ line ∷ []; asked = old.asked + 1 }
     same = is ∙ (λ i. record old { live = live_same i; replies = old.replies ++ line ∷ []; asked = old.asked + 1 })
 
-    pub refused_goes : GoesOn old new
+    pub refused_goes : TakesOneLine old new
     refused_goes = kept_goes old new line same
 
     pub refused_answered : (grants : List Grant) → StandsAt grants old → line ≡ answer cell grants (old.asked + 1) (Step session request)
-        → IsAnswered cell grants old (Step session request) new
+        → IsAskAnswered cell grants old (Step session request) new
     refused_answered grants at line_is =
         kept_answered old new line same cell grants (Step session request) at
         (ap (λ (b : Bool). cond b (grant ∷ []) [])

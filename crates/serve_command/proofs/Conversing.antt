@@ -20,7 +20,7 @@ use Rattle.cell_base.specs.Policy.{IsAdmitted}
 use Rattle.policy_laws.proofs.Plans.{plan_law}
 use Rattle.cell_texts.specs.Blocks.{left_lines, left_in_core}
 use Rattle.input_lines.specs.Lines.{lines_after}
-use Rattle.input_lines.specs.Reading.{Gives, IsReading, LinesState}
+use Rattle.input_lines.specs.Reading.{GivesPiece, AreLinesSoFar, LinesState}
 use Rattle.move_journal.specs.Journals.{IsBeforeOrAfterAll, StandsFor}
 use Rattle.record_text.specs.Lines.{head_words, line_of}
 use Rattle.cell_walks.specs.Outcomes.{Cut, IsDelivered, Outcome, Whole, early}
@@ -34,7 +34,7 @@ use Rattle.serve_command.specs.Conversing.{IsConversing, IsLeftWith, IsServedAft
 use Rattle.serve_command.specs.Rounds.{StandsAfter, IsLastRound, IsRound, Moves}
 use Rattle.serve_command.specs.Serve.{FailedDevice, FailedSink, FullJournal, InputEnded, InputLost}
 use Rattle.serve_command.specs.Serve.{Stopped, Stops, answered_lines, full_line}
-use Rattle.serve_command.specs.Serving.{IsJournalFull, IsReady}
+use Rattle.serve_command.specs.Serving.{IsJournalFull, HasNoGroup}
 use Rattle.serve_command.specs.declared.asks.Ask.{Ask}
 use Rattle.serve_command.specs.declared.server.Server.{Server}
 use Rattle.serve_command.proofs.Delivering.{delivered_after}
@@ -108,14 +108,14 @@ module _ (cell : Cell) (opening : List Grant) (asked group : List Ask) where
 -- ---- the lines of a text
 
 -- lines that were given, and those that are ahead
-given_asks : (cell : Cell) (text : List ℕ) (given : List (List ℕ)) (lines : LinesState) (reads : IsReading text given lines)
+given_asks : (cell : Cell) (text : List ℕ) (given : List (List ℕ)) (lines : LinesState) (reads : AreLinesSoFar text given lines)
     → asks_of cell text ≡ map (ask_of cell) given ++ map (ask_of cell) (lines_after reads.begun (lines.ahead ++ []))
 given_asks cell text given lines reads =
     ap (asks_of cell) (sym (append-nil text)) ∙ ap (map (ask_of cell)) (reads.goes_on [])
     ∙ map-append (ask_of cell) given (lines_after reads.begun (lines.ahead ++ []))
 
 -- none is ahead
-none_ahead : (cell : Cell) (text : List ℕ) (given : List (List ℕ)) (lines : LinesState) → IsReading text given lines → lines.ahead ≡ []
+none_ahead : (cell : Cell) (text : List ℕ) (given : List (List ℕ)) (lines : LinesState) → AreLinesSoFar text given lines → lines.ahead ≡ []
     → asks_of cell text ≡ map (ask_of cell) given
 none_ahead cell text given lines reads spent =
     given_asks cell text given lines reads
@@ -223,7 +223,7 @@ module _ {D : Type 0} (reads_as : D → Option (List ℕ)) (may_leave : D → Li
     (so_far : IsConversing reads_as may_leave moment left_since faults (source_told gave ended input_faults a b) sink cell cell_text opening
     first old lines given) where
   -- a piece comes
-  pub piece_comes : (count : ℕ) → Gives (gave b) (gave c) lines later count → input_faults c ≡ input_faults b
+  pub piece_comes : (count : ℕ) → GivesPiece (gave b) (gave c) lines later count → input_faults c ≡ input_faults b
       → IsConversing reads_as may_leave moment left_since faults (source_told gave ended input_faults a c) sink cell cell_text opening first
       old later given
   piece_comes count gives still = record {
@@ -241,7 +241,7 @@ module _ {D : Type 0} (reads_as : D → Option (List ℕ)) (may_leave : D → Li
   }
 
   -- the last one is empty
-  pub none_is_ahead : (count : ℕ) → count ≡ 0 → Gives (gave b) (gave c) lines later count → later.ahead ≡ []
+  pub none_is_ahead : (count : ℕ) → count ≡ 0 → GivesPiece (gave b) (gave c) lines later count → later.ahead ≡ []
   none_is_ahead count none gives = gives.ahead_is ∙ nothing gives.piece (gives.count_is ∙ none)
     where
       nothing : (bytes : List ℕ) → length bytes ≡ 0 → bytes ≡ []
@@ -289,7 +289,7 @@ module _ {D K S : Type 0} (reads_as : D → Option (List ℕ)) (may_leave : D �
 
 module _ {D K S : Type 0} (reads_as : D → Option (List ℕ)) (may_leave : D → List ℕ → Type 0) (moment : D → ℕ)
     (left_since : D → ℕ → List ℕ → Type 0) (faults : D → ℕ) (cell_text : List ℕ) (opening : List Grant) (server : Server D)
-    (behind : StandsAfter reads_as may_leave cell_text opening server) (ready : IsReady server) (new : server.asked ≡ 0)
+    (behind : StandsAfter reads_as may_leave cell_text opening server) (ready : HasNoGroup server) (new : server.asked ≡ 0)
     (only_now : (c : List ℕ) → left_since server.live.disk (moment server.live.disk) c → may_leave server.live.disk c)
     (gave : S → Option (List ℕ)) (ended : S → Type 0) (input_faults : S → ℕ) (x : S)
     (taken : K → Option (List ℕ)) (was_put : K → List ℕ → K → Type 0) (sink_faults : K → ℕ) (a b : K) (line : List ℕ)

@@ -5,7 +5,7 @@ use Rattle.std.proofs.lemmas.List.{length-append}
 use Rattle.cell_base.specs.declared.cells.Cell.{Cell}
 use Rattle.cell_base.specs.declared.shifts.Grant.{Grant}
 use Rattle.serve_command.specs.Answers.{added_by, answer, answers, halted_line, since}
-use Rattle.serve_command.specs.Serving.{GoesOn, IsAnswered, IsFirstGrant, IsGroup, StandsAt, first_after}
+use Rattle.serve_command.specs.Serving.{TakesOneLine, IsAskAnswered, IsFirstGrant, IsAnsweredGroup, StandsAt, first_after}
 use Rattle.serve_command.specs.declared.asks.Ask.{Ask}
 use Rattle.serve_command.specs.declared.server.FirstGrant.{FirstGrant}
 use Rattle.serve_command.specs.declared.server.Server.{Server}
@@ -82,9 +82,10 @@ module _ (cell : Cell) where
   -- ---- a group
 
   module _ {D : Type 0} (grants : List Grant) (number : ℕ) (group : List Ask) (mid : Server D)
-      (is : IsGroup cell grants number group mid) where
-    pub group_goes : (ask : Ask) (new : Server D) → IsAnswered cell (grants ++ since cell grants group) mid ask new → GoesOn mid new
-        → IsGroup cell grants number (group ++ ask ∷ []) new
+      (is : IsAnsweredGroup cell grants number group mid) where
+    pub group_goes : (ask : Ask) (new : Server D) → IsAskAnswered cell (grants ++ since cell grants group) mid ask new
+        → TakesOneLine mid new
+        → IsAnsweredGroup cell grants number (group ++ ask ∷ []) new
     group_goes ask new answered goes =
         let behind = grants ++ since cell grants group in
         let more = added_by cell behind ask in

@@ -16,7 +16,7 @@ use Rattle.cell_base.specs.Outcomes.{state_after}
 use Rattle.policy_laws.specs.Laws.{RefusalLaw}
 use Rattle.record_text.specs.Lines.{head_words, line_of}
 use Rattle.serve_command.specs.Answers.{added_by, answers, count_of, entry_of, reply_after, session_grant, since}
-use Rattle.serve_command.specs.Laws.{EachOnce, IsAskedStep, IsBlock, IsOneHistory, history_of, is_told_granted}
+use Rattle.serve_command.specs.Laws.{EachOnce, IsAskedStep, IsBlock, IsServedHistory, history_of, is_told_granted}
 use Rattle.serve_command.specs.declared.asks.Ask.{Ask}
 use Rattle.serve_command.specs.declared.asks.Ask.TheVariants.{Step, Count, Why, Left, Nothing}
 use Rattle.cell_texts.specs.Blocks.{entry_line}
@@ -99,7 +99,7 @@ module _ (cell : Cell) where
     granted behind (Left ∷ asked) = granted (behind ++ []) asked
     granted behind (Nothing ∷ asked) = granted (behind ++ []) asked
 
-    pub one_history : (opening : List Grant) (asked : List Ask) → IsOneHistory cell opening asked
+    pub one_history : (opening : List Grant) (asked : List Ask) → IsServedHistory cell opening asked
     one_history opening asked = record { legal = legal opening asked; granted = granted opening asked }
 
   -- ---- a record

@@ -12,7 +12,7 @@ use Rattle.outside_io.specs.Puts.{SinkTold, TookAll, TookSome}
 use Rattle.cell_base.specs.declared.cells.Cell.{Cell}
 use Rattle.cell_base.specs.declared.shifts.Grant.{Grant}
 use Rattle.cell_base.specs.Histories.{replay}
-use Rattle.input_lines.specs.Reading.{IsReading, LinesState}
+use Rattle.input_lines.specs.Reading.{AreLinesSoFar, LinesState}
 use Rattle.live_cell.specs.LiveState.{LiveState, committed}
 use Rattle.move_journal.specs.Disks.{Shows}
 use Rattle.move_journal.specs.Journals.{IsBeforeOrAfterAll, StandsFor}
@@ -21,9 +21,9 @@ use Rattle.cell_walks.specs.declared.status.Status.{Status}
 use Rattle.cell_walks.specs.declared.status.Status.TheVariants.{DeviceFault, JournalRefused, SinkFault}
 use Rattle.serve_command.specs.Answers.{added_by, answers, halted_line, since}
 use Rattle.serve_command.specs.Asks.{ask_of}
-use Rattle.serve_command.specs.Rounds.{AreTaken, IsLastRound, IsRound, IsTaken, Moves, Stays}
+use Rattle.serve_command.specs.Rounds.{AreGroupLines, IsLastRound, IsRound, IsGroupOfLines, Moves, Stays}
 use Rattle.serve_command.specs.Serve.{FailedDevice, FailedSink, FullJournal, Stops, full_line}
-use Rattle.serve_command.specs.Serving.{HasCounts, IsFirstGrant, IsGroup, IsReady, StandsAt}
+use Rattle.serve_command.specs.Serving.{HasCounts, IsFirstGrant, IsAnsweredGroup, HasNoGroup, StandsAt}
 use Rattle.serve_command.specs.declared.asks.Ask.{Ask}
 use Rattle.serve_command.specs.declared.server.FirstGrant.{FirstGrant}
 use Rattle.serve_command.specs.declared.server.Server.{Server}
@@ -38,7 +38,7 @@ each P p (x ∷ xs) = All-cons (λ y. P) x xs p (each P p xs)
 module _ {D : Type 0} (reads_as : D → Option (List ℕ)) (may_leave : D → List ℕ → Type 0) (moment : D → ℕ)
     (left_since : D → ℕ → List ℕ → Type 0) (faults : D → ℕ) (sink : SinkTold) (cell_text : List ℕ) (grants : List Grant) (text : List ℕ)
     (given : List (List ℕ)) (old mid new : Server D) (lines : LinesState) (stays : Stays old mid) (full : Bool)
-    (taken : IsTaken old.live.cell grants old.asked text given mid lines full) where
+    (taken : IsGroupOfLines old.live.cell grants old.asked text given mid lines full) where
   abbrev cell : Cell
   cell = old.live.cell
 
@@ -48,20 +48,20 @@ module _ {D : Type 0} (reads_as : D → Option (List ℕ)) (may_leave : D → Li
   abbrev more : List Grant
   more = since cell grants asks
 
-  is_group : IsGroup cell grants old.asked asks mid
+  is_group : IsAnsweredGroup cell grants old.asked asks mid
   is_group = taken.1
 
   -- the lines that were taken, and what they ask
   abbrev Lines : Type 0
-  Lines = (all : List (List ℕ)) × (others : List Ask) × (map (ask_of cell) all ≡ asks ++ others) × IsReading text (given ++ all) lines
+  Lines = (all : List (List ℕ)) × (others : List Ask) × (map (ask_of cell) all ≡ asks ++ others) × AreLinesSoFar text (given ++ all) lines
 
-  all_lines : (how : Bool) → AreTaken cell grants text given taken.0 lines how → Lines
+  all_lines : (how : Bool) → AreGroupLines cell grants text given taken.0 lines how → Lines
   all_lines false reads = (taken.0, [], sym (append-nil asks), reads)
   all_lines true (line, reads, is) = (
     taken.0 ++ line ∷ [],
     ask_of cell line ∷ [],
     map-append (ask_of cell) taken.0 (line ∷ []),
-    subst (λ (ls : List (List ℕ)). IsReading text ls lines) (append_assoc given taken.0 (line ∷ [])) reads,
+    subst (λ (ls : List (List ℕ)). AreLinesSoFar text ls lines) (append_assoc given taken.0 (line ∷ [])) reads,
   )
 
   -- what is known of the disk
@@ -107,11 +107,11 @@ module _ {D : Type 0} (reads_as : D → Option (List ℕ)) (may_leave : D → Li
         stands_after = record { at = at; disk = stands };
         moves = moves_by more is_group.pending;
         asked = asked_is ∙ is_group.asked ∙ ap (λ (n : ℕ). old.asked + n) (length-map taken.0 (ask_of cell));
-        reads = subst (AreTaken cell grants text given taken.0 lines) none taken.2;
+        reads = subst (AreGroupLines cell grants text given taken.0 lines) none taken.2;
         took = subst (TookAll sink) is_group.replies took;
       }
 
-      pub is_ready : IsReady old → new.replies ≡ [] → new.first ≡ None → IsReady new
+      pub is_ready : HasNoGroup old → new.replies ≡ [] → new.first ≡ None → HasNoGroup new
       is_ready ready replies first = record {
         pending = ap (λ (l : LiveState D). l.pending) live_is;
         replies = replies;
@@ -174,8 +174,8 @@ module _ {D : Type 0} (reads_as : D → Option (List ℕ)) (may_leave : D → Li
           → IsLastRound reads_as may_leave moment left_since faults cell sink cell_text grants text given old new lines status
       unfolding all_lines
       fills is status delivered =
-          let at_full : AreTaken cell grants text given taken.0 lines true =
-          subst (AreTaken cell grants text given taken.0 lines) is taken.2 in
+          let at_full : AreGroupLines cell grants text given taken.0 lines true =
+          subst (AreGroupLines cell grants text given taken.0 lines) is taken.2 in
           let outcome : Outcome = record {
             status = JournalRefused;
             pieces = answers cell grants (old.asked + 1) asks ++ full_line ∷ [];

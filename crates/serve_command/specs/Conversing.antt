@@ -9,7 +9,7 @@ use Rattle.outside_io.specs.Source.{SourceTold}
 use Rattle.cell_base.specs.declared.cells.Cell.{Cell}
 use Rattle.cell_base.specs.declared.shifts.Grant.{Grant}
 use Rattle.move_journal.specs.Journals.{StandsForPrefix, IsBeforeOrAfterAll}
-use Rattle.input_lines.specs.Reading.{IsReading, LinesState}
+use Rattle.input_lines.specs.Reading.{AreLinesSoFar, LinesState}
 use Rattle.move_journal.specs.Disks.{Shows}
 use Rattle.cell_walks.specs.Allowed.{AtOpening, StandsForAdded}
 use Rattle.cell_walks.specs.DiskTold.{DiskTold}
@@ -52,7 +52,7 @@ module _ {D : Type 0} (reads_as : D → Option (List ℕ)) (may_leave : D → Li
     pub record IsConversing (server : Server D) (lines : LinesState) (given : List (List ℕ)) : Type 0 where
       pub text : List ℕ
       pub came : Appends input.given input.given_after text
-      pub reads : IsReading text given lines
+      pub reads : AreLinesSoFar text given lines
       pub cell_is : server.live.cell ≡ cell
       pub asked : server.asked ≡ length given
       pub stands_after : StandsAfter reads_as may_leave cell_text (opening ++ since cell opening (map (ask_of cell) given)) server

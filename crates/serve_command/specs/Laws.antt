@@ -49,7 +49,7 @@ history_of cell earlier [] = []
 history_of cell earlier (ask ∷ asks) = entries_of_ask cell earlier ask ++ history_of cell (earlier ++ added_by cell earlier ask) asks
 
 -- it is legal after the grants of the opening, as if a single thread had asked, and its grants are those that are added
-pub record IsOneHistory (cell : Cell) (opening : List Grant) (asked : List Ask) : Type 0 where
+pub record IsServedHistory (cell : Cell) (opening : List Grant) (asked : List Ask) : Type 0 where
   pub legal : IsLegal cell (replay cell opening) (history_of cell opening asked)
   pub granted : grants 0 (history_of cell opening asked) ≡ since cell opening asked
 

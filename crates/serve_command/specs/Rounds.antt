@@ -6,7 +6,7 @@ use Rattle.outside_io.specs.Causes.{Rose}
 use Rattle.outside_io.specs.Puts.{SinkTold, TookAll}
 use Rattle.cell_base.specs.declared.cells.Cell.{Cell}
 use Rattle.cell_base.specs.declared.shifts.Grant.{Grant}
-use Rattle.input_lines.specs.Reading.{IsReading, LinesState}
+use Rattle.input_lines.specs.Reading.{AreLinesSoFar, LinesState}
 use Rattle.move_journal.specs.Disks.{Shows}
 use Rattle.move_journal.specs.Journals.{IsBeforeOrAfterAll, StandsFor}
 use Rattle.cell_walks.specs.Outcomes.{IsDelivered, Outcome}
@@ -14,7 +14,7 @@ use Rattle.cell_walks.specs.declared.status.Status.{Status}
 use Rattle.serve_command.specs.Answers.{answers, since}
 use Rattle.serve_command.specs.Asks.{ask_of}
 pub use Rattle.serve_command.specs.Serve.{Stops, full_line}
-pub use Rattle.serve_command.specs.Serving.{IsJournalFull, IsGroup, IsReady, StandsAt}
+pub use Rattle.serve_command.specs.Serving.{IsJournalFull, IsAnsweredGroup, HasNoGroup, StandsAt}
 use Rattle.serve_command.specs.declared.asks.Ask.{Ask}
 pub use Rattle.serve_command.specs.declared.replies.TheConstants.{GROUP_LINES}
 use Rattle.serve_command.specs.declared.server.Server.{Server}
@@ -29,16 +29,17 @@ pub record Stays {D : Type 0} (old new : Server D) : Type 0 where
   pub spare : new.live.spare + length new.live.pending ≡ old.live.spare + length old.live.pending
 
 -- which lines were taken: those of the group, and the one that found the journal full
-abbrev pub AreTaken : Cell → List Grant → List ℕ → List (List ℕ) → List (List ℕ) → LinesState → Bool → Type 0
-AreTaken cell grants text given group lines false = IsReading text (given ++ group) lines
-AreTaken cell grants text given group lines true =
-    (line : List ℕ) × IsReading text (given ++ group ++ line ∷ []) lines
+abbrev pub AreGroupLines : Cell → List Grant → List ℕ → List (List ℕ) → List (List ℕ) → LinesState → Bool → Type 0
+AreGroupLines cell grants text given group lines false = AreLinesSoFar text (given ++ group) lines
+AreGroupLines cell grants text given group lines true =
+    (line : List ℕ) × AreLinesSoFar text (given ++ group ++ line ∷ []) lines
     × IsJournalFull cell (grants ++ since cell grants (map (ask_of cell) group)) (ask_of cell line)
 
 -- lines were answered as a group
-abbrev pub IsTaken : {D : Type 0} → Cell → List Grant → ℕ → List ℕ → List (List ℕ) → Server D → LinesState → Bool → Type 0
-IsTaken cell grants number text given server lines full =
-    (group : List (List ℕ)) × IsGroup cell grants number (map (ask_of cell) group) server × AreTaken cell grants text given group lines full
+abbrev pub IsGroupOfLines : {D : Type 0} → Cell → List Grant → ℕ → List ℕ → List (List ℕ) → Server D → LinesState → Bool → Type 0
+IsGroupOfLines cell grants number text given server lines full =
+    (group : List (List ℕ)) × IsAnsweredGroup cell grants number (map (ask_of cell) group) server
+        × AreGroupLines cell grants text given group lines full
 
 -- The server stands after these grants, and so does its disk, with this cell text.
 pub record StandsAfter {D : Type 0} (reads_as : D → Option (List ℕ)) (may_leave : D → List ℕ → Type 0) (cell_text : List ℕ)
@@ -63,7 +64,7 @@ module _ {D : Type 0} (reads_as : D → Option (List ℕ)) (may_leave : D → Li
     pub moves : let more = since cell grants (map (ask_of cell) group) in
         Moves reads_as moment left_since cell_text grants more old.live.disk new.live.disk
     pub asked : new.asked ≡ old.asked + length group
-    pub reads : IsReading text (given ++ group) lines
+    pub reads : AreLinesSoFar text (given ++ group) lines
     pub took : TookAll sink (answers cell grants (old.asked + 1) (map (ask_of cell) group))
 
   -- The conversation stops: of what these lines ask, the first asks were answered, and the others were not.
@@ -72,7 +73,7 @@ module _ {D : Type 0} (reads_as : D → Option (List ℕ)) (may_leave : D → Li
     pub group : List Ask
     pub others : List Ask
     pub parted : map (ask_of cell) taken ≡ group ++ others
-    pub reads : IsReading text (given ++ taken) lines
+    pub reads : AreLinesSoFar text (given ++ taken) lines
     pub outcome : Outcome
     pub stops : Stops cell (grants ++ since cell grants group) (answers cell grants (old.asked + 1) group) (since cell grants group)
         others outcome

@@ -31,7 +31,7 @@ first_after None at line [] = None
 first_after None at line (grant ∷ grants) = Some (record { at = at; line = line })
 
 -- a grant was counted, and is the first of its group where there was none
-pub record Counted {D : Type 0} (old : Server D) (session : ℕ) (request : Request) (new : Server D) : Type 0 where
+pub record CountsGrant {D : Type 0} (old : Server D) (session : ℕ) (request : Request) (new : Server D) : Type 0 where
   pub live : new.live ≡ old.live
   pub replies : new.replies ≡ old.replies
   pub asked : new.asked ≡ old.asked
@@ -41,14 +41,14 @@ pub record Counted {D : Type 0} (old : Server D) (session : ℕ) (request : Requ
       ≡ first_after old.first (length old.replies) (halted_line old.live.cell (Step session request)) (session_grant session request ∷ [])
 
 -- An ask was answered after these grants of this cell.
-pub record IsAnswered {D : Type 0} (cell : Cell) (grants : List Grant) (old : Server D) (ask : Ask) (new : Server D) : Type 0 where
+pub record IsAskAnswered {D : Type 0} (cell : Cell) (grants : List Grant) (old : Server D) (ask : Ask) (new : Server D) : Type 0 where
   pub at : StandsAt (grants ++ added_by cell grants ask) new
   pub replies : new.replies ≡ old.replies ++ answer cell grants (old.asked + 1) ask ∷ []
   pub pending : new.live.pending ≡ old.live.pending ++ added_by cell grants ask
   pub first : new.first ≡ first_after old.first (length old.replies) (halted_line cell ask) (added_by cell grants ask)
 
 -- The cell, the disk and the room stay, one line more was asked, and at most one grant more is pending.
-pub record GoesOn {D : Type 0} (old new : Server D) : Type 0 where
+pub record TakesOneLine {D : Type 0} (old new : Server D) : Type 0 where
   pub cell : new.live.cell ≡ old.live.cell
   pub disk : new.live.disk ≡ old.live.disk
   pub len : new.live.len ≡ old.live.len
@@ -66,7 +66,7 @@ IsJournalFull cell grants ask = (0 < length (added_by cell grants ask)) × (leng
 -- ---- a group
 
 -- no group is under way
-pub record IsReady {D : Type 0} (server : Server D) : Type 0 where
+pub record HasNoGroup {D : Type 0} (server : Server D) : Type 0 where
   pub pending : server.live.pending ≡ []
   pub replies : server.replies ≡ []
   pub first : server.first ≡ None
@@ -83,7 +83,7 @@ IsFirstGrant cell grants group (Some first) =
     × (first.at ≡ length before) × (first.line ≡ halted_line cell next)
 
 -- These asks were answered as a group after these grants: the answers are kept, and the grants are pending.
-pub record IsGroup {D : Type 0} (cell : Cell) (grants : List Grant) (number : ℕ) (group : List Ask) (new : Server D) : Type 0 where
+pub record IsAnsweredGroup {D : Type 0} (cell : Cell) (grants : List Grant) (number : ℕ) (group : List Ask) (new : Server D) : Type 0 where
   pub cell_is : new.live.cell ≡ cell
   pub at : StandsAt (grants ++ since cell grants group) new
   pub replies : new.replies ≡ answers cell grants (number + 1) group

@@ -1,7 +1,7 @@
 //! What follows of the answers, each law the contract of a function that does nothing.
 ghost use Rattle.std.specs.Prelude.{List};
 ghost use Rattle.cell_base.specs.declared.shifts.Grant.{Grant};
-ghost use Rattle.serve_command.specs.Laws.{EachOnce, IsBlock, IsOneHistory};
+ghost use Rattle.serve_command.specs.Laws.{EachOnce, IsBlock, IsServedHistory};
 ghost use Rattle.serve_command.specs.declared.asks.Ask.{Ask};
 
 use cell_base::Cell;
@@ -15,7 +15,7 @@ pub fn each_grant_is_counted_once(cell: &Cell)
 
 /// The steps that are asked are one legal history after the grants of the journal, and its grants are those that are added.
 pub fn steps_are_one_history(cell: &Cell)
-    ensures { (opening : List Grant) (asked : List Ask) → IsOneHistory cell.now opening asked }
+    ensures { (opening : List Grant) (asked : List Ask) → IsServedHistory cell.now opening asked }
 {
     refusal_law(cell);
 }

@@ -1,10 +1,10 @@
 //! One round of a conversation: the lines at hand are answered as a group.
 ghost use Rattle.std.specs.Prelude.{◌≡◌, ◌<◌, ◌+◌, ◌^◌, List, ℕ, Ok, IfSome, OnOk, take, length, ◌≤◌, ◌++◌, ◌∷◌, []};
 ghost use Rattle.cell_base.specs.declared.shifts.Grant.{Grant};
-ghost use Rattle.input_lines.specs.Reading.{IsReading};
+ghost use Rattle.input_lines.specs.Reading.{AreLinesSoFar};
 ghost use Rattle.cell_walks.specs.Clauses.{IsDelivered, printed, sink_told};
 ghost use Rattle.cell_walks.specs.declared.status.Status.TheVariants.{DeviceFault, JournalRefused};
-ghost use Rattle.serve_command.specs.Rounds.{GROUP_LINES, StandsAfter, IsReady, IsTaken, Rounds, StandsAt, Stays, full_line};
+ghost use Rattle.serve_command.specs.Rounds.{GROUP_LINES, StandsAfter, HasNoGroup, IsGroupOfLines, Rounds, StandsAt, Stays, full_line};
 
 use crate::asks::read_ask;
 use crate::command::MAX_SERVED;
@@ -20,10 +20,11 @@ impl<D: Disk> Server<D> {
     /// Answers the lines that are at hand, up to a group of them: the answers are kept, and the grants are pending. Says whether the
     /// journal was full at a line after these, which is taken too.
     pub fn take_group(&mut self, lines: &mut InputLines) -> bool
-        requires ready { IsReady self.old }
+        requires ready { HasNoGroup self.old }
         requires few { self.old.asked + GROUP_LINES < 2 ^ 64 }
         ensures taken { (grants : List Grant) (text : List ℕ) (given : List (List ℕ)) → StandsAt grants self.old
-            → IsReading text given lines.old → IsTaken self.old.live.cell grants self.old.asked text given self.new lines.new result }
+            → AreLinesSoFar text given lines.old
+            → IsGroupOfLines self.old.live.cell grants self.old.asked text given self.new lines.new result }
         ensures stays { Stays self.old self.new }
         ensures few { self.new.asked ≤ self.old.asked + GROUP_LINES }
     {
@@ -42,14 +43,14 @@ impl<D: Disk> Server<D> {
     /// Answers a group of the lines at hand: decides them, makes their grants stable, and puts the answers. Or gives the status with which
     /// the conversation stops.
     pub fn round<K: Sink>(&mut self, lines: &mut InputLines, out: &mut K) -> Result<(), Status>
-        requires ready { IsReady self.old }
+        requires ready { HasNoGroup self.old }
         requires few { self.old.asked + GROUP_LINES < 2 ^ 64 }
         ensures round { (cell_text : List ℕ) (grants : List Grant) (text : List ℕ) (given : List (List ℕ))
-            → StandsAfter D.reads_as D.may_leave cell_text grants self.old → IsReading text given lines.old
+            → StandsAfter D.reads_as D.may_leave cell_text grants self.old → AreLinesSoFar text given lines.old
             → Rounds D.reads_as D.may_leave D.moment D.left_since D.faults self.old.live.cell
             (sink_told K.taken K.was_put K.faults out.old out.new)
             cell_text grants text given self.old self.new lines.new result }
-        ensures ready { OnOk result (IsReady self.new) }
+        ensures ready { OnOk result (HasNoGroup self.new) }
         ensures few { OnOk result (self.new.asked ≤ self.old.asked + GROUP_LINES) }
         ensures still { OnOk result (K.faults out.new ≡ K.faults out.old) }
         ensures fed { OnOk result (D.faults self.new.live.disk ≡ D.faults self.old.live.disk) }

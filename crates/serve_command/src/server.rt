@@ -5,7 +5,7 @@ ghost use Rattle.cell_base.specs.declared.shifts.Grant.{Grant};
 ghost use Rattle.record_text.specs.Fitting.{EntryFits};
 ghost use Rattle.record_text.specs.Lines.{line_of, told_words};
 ghost use Rattle.step_text.specs.Steps.{request_words};
-ghost use Rattle.serve_command.specs.Clauses.{Answered, AskFits, Counted, GROUP_LINES, GoesOn, IsAnswered, IsJournalFull};
+ghost use Rattle.serve_command.specs.Clauses.{Answered, AskFits, CountsGrant, GROUP_LINES, TakesOneLine, IsAskAnswered, IsJournalFull};
 ghost use Rattle.serve_command.specs.Clauses.{IsStep, MAX_SERVED, StandsAt, Step, entry_of, reply_to, step_words};
 
 use crate::asks::Ask;
@@ -45,8 +45,8 @@ impl<D: Disk> Server<D> {
         requires short { length self.old.replies < GROUP_LINES }
         requires few { self.old.asked < 2 ^ 64 - 1 }
         ensures answered { (grants : List Grant) → StandsAt grants self.old
-            → OnOk result (IsAnswered self.old.live.cell grants self.old ask.now self.new) }
-        ensures goes_on { OnOk result (GoesOn self.old self.new) }
+            → OnOk result (IsAskAnswered self.old.live.cell grants self.old ask.now self.new) }
+        ensures goes_on { OnOk result (TakesOneLine self.old self.new) }
         ensures full { (grants : List Grant) → StandsAt grants self.old → OnErr result (IsJournalFull self.old.live.cell grants ask.now) }
         ensures same { OnErr result (self.new ≡ self.old) }
     {
@@ -81,8 +81,8 @@ impl<D: Disk> Server<D> {
         requires short { length self.old.replies < GROUP_LINES }
         requires few { self.old.asked < 2 ^ 64 - 1 }
         ensures answered { (grants : List Grant) → StandsAt grants self.old
-            → OnOk result (IsAnswered self.old.live.cell grants self.old (Step session request.now) self.new) }
-        ensures goes_on { OnOk result (GoesOn self.old self.new) }
+            → OnOk result (IsAskAnswered self.old.live.cell grants self.old (Step session request.now) self.new) }
+        ensures goes_on { OnOk result (TakesOneLine self.old self.new) }
         ensures full { (grants : List Grant) → StandsAt grants self.old
             → OnErr result (IsJournalFull self.old.live.cell grants (Step session request.now)) }
         ensures same { OnErr result (self.new ≡ self.old) }
@@ -115,7 +115,7 @@ impl<D: Disk> Server<D> {
     // Counts a grant, and keeps its halted line where it is the first of the group.
     fn count_grant(&mut self, session: u16, request: &Request)
         requires { IsStep self.old.live.cell request.now }
-        ensures counted { Counted self.old session request.now self.new }
+        ensures counted { CountsGrant self.old session request.now self.new }
     {
         self.counts.add(&Grant {
             shift: 0,

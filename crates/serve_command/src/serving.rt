@@ -4,7 +4,7 @@ ghost use Rattle.cell_base.specs.declared.shifts.Grant.{Grant};
 ghost use Rattle.outside_io.specs.Source.{source_told};
 ghost use Rattle.cell_walks.specs.Clauses.{sink_told};
 ghost use Rattle.serve_command.specs.Conversing.{Converses, IsServedAfter, fresh_lines};
-ghost use Rattle.serve_command.specs.Rounds.{StandsAfter, IsReady};
+ghost use Rattle.serve_command.specs.Rounds.{StandsAfter, HasNoGroup};
 
 use crate::server::Server;
 use cell_texts::{CommandEnd, print_left, print_line};
@@ -26,7 +26,7 @@ pub fn serve_live<R: Wait, S: Source, K: Sink, D: Disk>(
     input: &mut S,
     out: &mut K,
 ) -> CommandEnd<D>
-    requires ready { IsReady server }
+    requires ready { HasNoGroup server }
     requires first { server.asked ≡ 0 }
     requires fresh { lines ≡ fresh_lines }
     ensures { (cell_text : List ℕ) (opening : List Grant) → StandsAfter D.reads_as D.may_leave cell_text opening server
@@ -64,7 +64,7 @@ fn converse<R: Wait, S: Source, K: Sink, D: Disk>(
     input: &mut S,
     out: &mut K,
 ) -> Result<(), Status>
-    requires ready { IsReady server.old }
+    requires ready { HasNoGroup server.old }
     requires first { server.old.asked ≡ 0 }
     requires fresh { lines.old ≡ fresh_lines }
     ensures { (cell_text : List ℕ) (opening : List Grant) → StandsAfter D.reads_as D.may_leave cell_text opening server.old

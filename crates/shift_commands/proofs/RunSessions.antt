@@ -15,7 +15,7 @@ use Rattle.durable_cell.specs.Asked.{unsure_grant}
 use Rattle.durable_cell.specs.DurableState.{DurableState}
 use Rattle.cell_lock.specs.declared.board.Opening.{Opening}
 use Rattle.cell_lock.specs.Openings.{Outside, opening_of}
-use Rattle.cell_lock.specs.Standing.{AreAll, AreNumbered, LockId, Standing, new_pass, new_passes}
+use Rattle.cell_lock.specs.Standing.{AreAll, ArePassesNumbered, LockId, Standing, new_pass, new_passes}
 use Rattle.solo_rounds.specs.Underway.{IsWithinScript, progress_at}
 use Rattle.cell_base.specs.Starts.{AreFirstSteps}
 use Rattle.shift_commands.specs.JournalRuns.{HasGone, IsAfterSessions}
@@ -26,7 +26,7 @@ use Rattle.shift_commands.proofs.RunHistories.{all_sessions, starts_within}
 -- ---- the passes
 
 module _ {D : Type 0} (moment : D → ℕ) (lock : LockId D) where
-  numbered : (first count : ℕ) → AreNumbered lock first (new_passes moment lock first count)
+  numbered : (first count : ℕ) → ArePassesNumbered lock first (new_passes moment lock first count)
   numbered first zero = tt
   numbered first (suc count) = (refl, refl, numbered (first + 1) count)
 
@@ -45,7 +45,7 @@ module _ {D : Type 0} (moment : D → ℕ) (lock : LockId D) where
   mine_none first (suc count) zero d within = refl
   mine_none first (suc count) (suc k) d within = mine_none (first + 1) count k d (omega (arith, within))
 
-  number_at : (first k : ℕ) (passes : List (Standing D)) (d : Standing D) → k < length passes → AreNumbered lock first passes
+  number_at : (first k : ℕ) (passes : List (Standing D)) (d : Standing D) → k < length passes → ArePassesNumbered lock first passes
       → (get_or passes k d).number ≡ first + k
   number_at first k [] d within are = absurd (omega (arith, within))
   number_at first zero (pass ∷ passes) d within are = are.1 ∙ omega arith

@@ -16,7 +16,7 @@ use Rattle.policy_laws.proofs.Admission.{saturation_law}
 use Rattle.record_text.specs.Fitting.{RefusalFits}
 use Rattle.standby_link.specs.declared.take_fault.TakeFault.{TakeFault}
 use Rattle.standby_link.specs.declared.take_fault.TakeFault.TheVariants.{Halted, NotAFrame, Conflict, NoFit, NotGranted, Full, Device}
-use Rattle.standby_link.specs.Followers.{IsRefused}
+use Rattle.standby_link.specs.Followers.{IsFrameRefused}
 use Rattle.standby_commands.specs.Lines.{FaultFits}
 
 module _ (cell : Cell) (fits : CellFits cell) where
@@ -33,7 +33,7 @@ module _ (cell : Cell) (fits : CellFits cell) where
   refusal_fits parts request NoBranch admitted fit is = tt
 
   pub fault_fits : (grants : List Grant) (bytes : List ℕ) (why : TakeFault) → IsAdmitted cell (replay cell grants)
-      → IsRefused cell grants bytes why → FaultFits cell why
+      → IsFrameRefused cell grants bytes why → FaultFits cell why
   fault_fits grants bytes (NotGranted why) admitted (grant, next, fit, is) =
       refusal_fits (replay cell grants) grant.request why admitted fit is
   fault_fits grants bytes NotAFrame admitted refused = tt

@@ -25,11 +25,11 @@ use Rattle.cell_texts.specs.Tests.{KnownCell}
 use Rattle.standby_link.specs.declared.frame.Frame.{Frame}
 use Rattle.standby_link.specs.declared.take_fault.TakeFault.{TakeFault}
 use Rattle.standby_link.specs.declared.take_fault.TakeFault.TheVariants.{Halted, NotAFrame, Conflict, NoFit, NotGranted, Full, Device}
-use Rattle.standby_link.specs.Deliveries.{AreTaken, IsTaken, delivered, delivered_all}
-use Rattle.standby_link.specs.Followers.{IsKnown, IsRefused}
+use Rattle.standby_link.specs.Deliveries.{AreFramesTaken, IsFrameTaken, delivered, delivered_all}
+use Rattle.standby_link.specs.Followers.{IsKnown, IsFrameRefused}
 use Rattle.standby_link.specs.Frames.{frame_in, framed}
 use Rattle.standby_link.proofs.Fed.{fed_law}
-use Rattle.standby_commands.specs.Follow.{Followed, Follows, HaltedAt, RefusedAt, follow}
+use Rattle.standby_commands.specs.Follow.{Followed, EndsFollowing, HaltedAt, RefusedAt, follow}
 use Rattle.standby_commands.specs.FollowTold.{AreOfOneList, Completes, IsFollowTold, ToldHalted, ToldRefused, ToldWhole}
 
 -- ---- the facts
@@ -61,7 +61,7 @@ module _ (disk : DiskTold) (cell : Cell) (text : List ℕ) (frames : List (List 
         All-head (λ (grant : Grant). Rose disk.faults disk.faults_after) last [] now.cause,
       )
 
-  tells : Follows cell opening frames outcome → IsFollowTold disk cell text frames opening outcome
+  tells : EndsFollowing cell opening frames outcome → IsFollowTold disk cell text frames opening outcome
   tells (Followed is) = ToldWhole (record { is = is; stands = sure (delivered_all opening frames) is.added is.sure })
   tells (RefusedAt is) = ToldRefused (record { is = is; stands = sure (delivered_all opening is.first) is.added is.sure })
   tells (HaltedAt is) =
@@ -91,8 +91,8 @@ not_next grants bytes grant (frame, is, place) next =
     ]
 
 -- and a frame is not both taken and refused
-not_both : (cell : Cell) (grants : List Grant) (bytes : List ℕ) (why : TakeFault) → IsTaken cell grants bytes
-    → IsRefused cell grants bytes why → ⊥
+not_both : (cell : Cell) (grants : List Grant) (bytes : List ℕ) (why : TakeFault) → IsFrameTaken cell grants bytes
+    → IsFrameRefused cell grants bytes why → ⊥
 not_both cell grants bytes (Halted at) taken refused = refused
 not_both cell grants bytes (Full len) taken refused = refused
 not_both cell grants bytes Device taken refused = refused
@@ -123,7 +123,7 @@ not_both cell grants bytes (NotGranted why) (inr (grant, next)) (other, here, fi
 
 -- a frame among those that are taken is taken after the ones before it
 taken_at : (cell : Cell) (opening : List Grant) (first : List (List ℕ)) (bytes : List ℕ) (rest : List (List ℕ))
-    → AreTaken cell opening (first ++ bytes ∷ rest) → IsTaken cell (delivered_all opening first) bytes
+    → AreFramesTaken cell opening (first ++ bytes ∷ rest) → IsFrameTaken cell (delivered_all opening first) bytes
 taken_at cell opening [] bytes rest taken = taken.0
 taken_at cell opening (one ∷ first) bytes rest taken = taken_at cell (delivered opening one) first bytes rest taken.1
 
@@ -137,14 +137,14 @@ module _ (seen : Observed) (sink : SinkTold) (cell frames : List ℕ) (status : 
       → IsAnswered seen (follow cell frames) outcome → status ≡ Done
   by_answer outcome is serves of_one (held, shows, (list, read, (opening, opened, (had, hads, (follows, left))))) = by_case follows
     where
-      by_case : Follows held.cell opening list outcome → status ≡ Done
+      by_case : EndsFollowing held.cell opening list outcome → status ≡ Done
       by_case (Followed whole) = is ∙ whole.status
       by_case (RefusedAt refused) =
           let one = of_one held shows list read opening opened in
           let taken = (fed_law held.cell opening one.0 list one.1 one.2 one.3).0 in
           absurd (not_both held.cell (delivered_all opening refused.first) refused.bytes refused.why
           (taken_at held.cell opening refused.first refused.bytes refused.rest
-          (subst (λ (fs : List (List ℕ)). AreTaken held.cell opening fs) refused.parted taken)) refused.refused)
+          (subst (λ (fs : List (List ℕ)). AreFramesTaken held.cell opening fs) refused.parted taken)) refused.refused)
       by_case (HaltedAt halted) =
           absurd (serves_not held list serves (All-head (λ (grant : Grant). Rose seen.disk.faults seen.disk.faults_after) halted.grant []
           (subst (λ (u : List Grant). All (λ (grant : Grant). Rose seen.disk.faults seen.disk.faults_after) u) halted.unsure left.cause)))

@@ -19,9 +19,9 @@ use Rattle.cell_walks.specs.Outcomes.{Outcome}
 use Rattle.cell_walks.specs.declared.status.Status.TheVariants.{CommandRefused}
 use Rattle.standby_link.specs.declared.take_fault.TakeFault.{TakeFault}
 use Rattle.standby_link.specs.declared.take_fault.TakeFault.TheVariants.{Halted, NotAFrame, Conflict, NoFit, NotGranted, Full, Device}
-use Rattle.standby_link.specs.Deliveries.{AreTaken, acks_of, delivered_all}
-use Rattle.standby_link.specs.Followers.{FollowerState, IsGrantedNext, IsRefused, kept}
-use Rattle.standby_commands.specs.Follow.{Followed, Follows, HaltedAt, IsFollowed, IsHaltedAt, IsRefusedAt, RefusedAt, ack_lines}
+use Rattle.standby_link.specs.Deliveries.{AreFramesTaken, acks_of, delivered_all}
+use Rattle.standby_link.specs.Followers.{FollowerState, IsGrantedNext, IsFrameRefused, kept}
+use Rattle.standby_commands.specs.Follow.{Followed, EndsFollowing, HaltedAt, IsFollowed, IsHaltedAt, IsRefusedAt, RefusedAt, ack_lines}
 use Rattle.standby_commands.specs.Following.{ByDevice, ByRefusal, HasFollowed, HasFollowedOn, HasStopped, HasTaken}
 use Rattle.standby_commands.specs.Following.{IsOf, StopFits, StopsBy, ended_by, follow_outcome, stop_outcome}
 use Rattle.standby_commands.specs.Lines.{FaultFits, ack_line, follow_refused}
@@ -31,7 +31,7 @@ use Rattle.cell_texts.proofs.Added.{stands_for_added}
 use Rattle.standby_commands.proofs.Fitting.{fault_fits}
 
 -- a refusal is told by its line
-stop_is : (cell : Cell) (grants : List Grant) (bytes : List ℕ) (index : ℕ) (why : TakeFault) → IsRefused cell grants bytes why
+stop_is : (cell : Cell) (grants : List Grant) (bytes : List ℕ) (index : ℕ) (why : TakeFault) → IsFrameRefused cell grants bytes why
     → (shown : Cell) → ((stop_outcome shown index why).status ≡ CommandRefused)
     × ((stop_outcome shown index why).pieces ≡ follow_refused shown index why ∷ [])
 stop_is cell grants bytes index (Halted at) refused shown = absurd refused
@@ -56,8 +56,8 @@ module _ {D : Type 0} (old new : FollowerState D) (opening : List Grant) (first_
     grants_are : kept new ≡ delivered_all opening frames
     grants_are = has.kept_is ∙ ap (λ (gs : List Grant). delivered_all gs frames) first_is
 
-    taken_is : AreTaken old.durable.cell opening frames
-    taken_is = subst (λ (gs : List Grant). AreTaken old.durable.cell gs frames) first_is has.taken
+    taken_is : AreFramesTaken old.durable.cell opening frames
+    taken_is = subst (λ (gs : List Grant). AreFramesTaken old.durable.cell gs frames) first_is has.taken
 
     acks_are : map ack_line run.acks.items ≡ ack_lines opening frames
     acks_are = ap (map ack_line) has.acks_are ∙ ap (λ (gs : List Grant). map ack_line (acks_of gs frames)) first_is
@@ -83,7 +83,7 @@ module _ {D : Type 0} (old new : FollowerState D) (opening : List Grant) (first_
   -- ---- a stop
 
   module _ (every : List (List ℕ)) (stop : Stop) (is : run.stop ≡ Some stop) (has : HasStopped old every new run.acks.items stop) where
-    refused : IsRefused old.durable.cell (delivered_all (kept old) has.first) has.bytes stop.why → new.durable.unsure ≡ None
+    refused : IsFrameRefused old.durable.cell (delivered_all (kept old) has.first) has.bytes stop.why → new.durable.unsure ≡ None
         → IsRefusedAt old.durable.cell opening every outcome
     refused why sure =
         let told = stop_is old.durable.cell (delivered_all (kept old) has.first) has.bytes stop.index stop.why why run.core.cell in
@@ -94,7 +94,8 @@ module _ {D : Type 0} (old new : FollowerState D) (opening : List Grant) (first_
           why = stop.why;
           parted = has.parted;
           taken = taken_is has.first has.followed;
-          refused = subst (λ (gs : List Grant). IsRefused old.durable.cell (delivered_all gs has.first) has.bytes stop.why) first_is why;
+          refused = subst (λ (gs : List Grant). IsFrameRefused old.durable.cell (delivered_all gs has.first) has.bytes stop.why)
+            first_is why;
           status = ap (λ (s : Option Stop). (ended_by run.core s).status) is ∙ told.0;
           pieces = (λ i. acks_are has.first has.followed i
               ++ (ap (λ (s : Option Stop). (ended_by run.core s).pieces) is ∙ told.1
@@ -125,11 +126,11 @@ module _ {D : Type 0} (old new : FollowerState D) (opening : List Grant) (first_
         }
 
     by_stop : StopsBy old.durable.cell (delivered_all (kept old) has.first) has.bytes stop.why new.durable
-        → Follows old.durable.cell opening every outcome
+        → EndsFollowing old.durable.cell opening every outcome
     by_stop (ByRefusal why sure) = RefusedAt (refused why sure)
     by_stop (ByDevice grant granted why unsure) = HaltedAt (halted grant granted why unsure)
 
-    pub stopped : Follows old.durable.cell opening every outcome
+    pub stopped : EndsFollowing old.durable.cell opening every outcome
     stopped = by_stop has.stops
 
     -- its reason names what the cell has
@@ -147,7 +148,7 @@ module _ {D : Type 0} (old new : FollowerState D) (opening : List Grant) (first_
         by_why (ByRefusal why sure) =
             fault_fits run.core.cell fits (delivered_all opening has.first) has.bytes stop.why
             (subst (λ (ps : List Part). IsAdmitted run.core.cell ps) parts admitted)
-            (subst (λ (p : Cell × List Grant). IsRefused p.0 (delivered_all p.1 has.first) has.bytes stop.why)
+            (subst (λ (p : Cell × List Grant). IsFrameRefused p.0 (delivered_all p.1 has.first) has.bytes stop.why)
             (λ i. (sym same i, first_is i)) why)
         by_why (ByDevice grant granted why unsure) =
             subst (λ (fault : TakeFault). FaultFits run.core.cell fault) (sym why) tt
@@ -155,7 +156,7 @@ module _ {D : Type 0} (old new : FollowerState D) (opening : List Grant) (first_
   -- ---- either
 
   pub follows : (frames : List (List ℕ)) (stop : Option Stop) → run.stop ≡ stop → HasTaken old frames new run.acks.items stop
-      → Follows old.durable.cell opening frames outcome
+      → EndsFollowing old.durable.cell opening frames outcome
   follows frames None is (has, sure) = Followed (whole frames has is sure)
   follows frames (Some stop) is has = stopped frames stop is has
 
@@ -191,7 +192,7 @@ module _ {D : Type 0} (reads_as : D → Option (List ℕ)) (may_leave : D → Li
       let unsure = option_to_list new.durable.unsure in (
         new.durable.added,
         unsure,
-        subst (λ (cell : Cell). Follows cell durable.opening frames (follow_outcome (Ok run) new.durable.added unsure))
+        subst (λ (cell : Cell). EndsFollowing cell durable.opening frames (follow_outcome (Ok run) new.durable.added unsure))
             (ap (λ (d : DurableState D). d.cell) opened)
             (follows old new durable.opening first_is opening_is run core_of state frames run.stop refl has),
         subst (λ (p : D × List ℕ × List Grant). StandsForAdded (disk_told reads_as may_leave moment left_since faults p.0 disk) p.1 p.2

@@ -7,10 +7,10 @@ use Rattle.cell_base.specs.declared.shifts.Grant.{Grant}
 use Rattle.durable_cell.specs.DurableState.{DurableState}
 use Rattle.standby_link.specs.declared.take_fault.TakeFault.{TakeFault}
 use Rattle.standby_link.specs.declared.take_fault.TakeFault.TheVariants as fault
-use Rattle.standby_link.specs.Deliveries.{AreTaken, Delivers, IsTaken, acks_of, delivered, delivered_all}
-use Rattle.standby_link.specs.Followers.{FollowerState, GoesOn, IsGrantedNext, IsHalted, IsRefused, Takes, kept}
+use Rattle.standby_link.specs.Deliveries.{AreFramesTaken, Delivers, IsFrameTaken, acks_of, delivered, delivered_all}
+use Rattle.standby_link.specs.Followers.{FollowerState, HasNotHalted, IsGrantedNext, IsHaltedAppend, IsFrameRefused, Takes, kept}
 use Rattle.standby_link.specs.Frames.{index_in}
-use Rattle.standby_commands.specs.Following.{ByDevice, ByRefusal, HasFollowed, HasStopped, IsOf, IsReady, StopsBy}
+use Rattle.standby_commands.specs.Following.{ByDevice, ByRefusal, HasFollowed, HasStopped, IsOf, IsFreshFollower, StopsBy}
 
 -- ---- one frame more
 
@@ -25,8 +25,8 @@ acks_of-push grants [] bytes = refl
 acks_of-push grants (first ∷ frames) bytes =
     ap (λ (acks : List ℕ). length (delivered grants first) ∷ acks) (acks_of-push (delivered grants first) frames bytes)
 
-are_taken-push : (cell : Cell) (grants : List Grant) (frames : List (List ℕ)) (bytes : List ℕ) → AreTaken cell grants frames
-    → IsTaken cell (delivered_all grants frames) bytes → AreTaken cell grants (frames ++ bytes ∷ [])
+are_taken-push : (cell : Cell) (grants : List Grant) (frames : List (List ℕ)) (bytes : List ℕ) → AreFramesTaken cell grants frames
+    → IsFrameTaken cell (delivered_all grants frames) bytes → AreFramesTaken cell grants (frames ++ bytes ∷ [])
 are_taken-push cell grants [] bytes taken next = (next, tt)
 are_taken-push cell grants (first ∷ frames) bytes taken next =
     (taken.0, are_taken-push cell (delivered grants first) frames bytes taken.1 next)
@@ -36,7 +36,7 @@ are_taken-push cell grants (first ∷ frames) bytes taken next =
 -- these frames were taken, and no writing has failed
 pub record Underway {D : Type 0} (old : FollowerState D) (frames : List (List ℕ)) (now : FollowerState D) (acks : List ℕ) : Type 0 where
   pub followed : HasFollowed old frames now acks
-  pub goes_on : GoesOn now
+  pub goes_on : HasNotHalted now
   pub sure : now.durable.unsure ≡ None
   pub few : length now.durable.added ≤ length frames
   pub room : now.room ≡ old.room
@@ -53,7 +53,7 @@ module _ {D : Type 0} where
     opening = second.opening ∙ first.opening;
   }
 
-  pub begins : (old : FollowerState D) (frames : ℕ) → GoesOn old → IsReady old frames → Underway old [] old []
+  pub begins : (old : FollowerState D) (frames : ℕ) → HasNotHalted old → IsFreshFollower old frames → Underway old [] old []
   begins old frames goes_on ready = record {
     followed = record { taken = tt; kept_is = refl; acks_are = refl; same = is_of old.durable };
     goes_on = goes_on;
@@ -71,10 +71,10 @@ module _ {D : Type 0} where
         (subst (λ (cell : Cell). P cell (kept now)) so_far.followed.same.cell holds)
 
     grown : (ack : ℕ) → Takes now bytes (Ok ack) new → Delivers now bytes (Ok ack) new → IsOf now.durable new.durable
-        → IsTaken now.durable.cell (kept now) bytes → HasFollowed old (frames ++ bytes ∷ []) new (acks ++ ack ∷ [])
+        → IsFrameTaken now.durable.cell (kept now) bytes → HasFollowed old (frames ++ bytes ∷ []) new (acks ++ ack ∷ [])
     grown ack takes delivers same taken = record {
       taken = are_taken-push old.durable.cell (kept old) frames bytes so_far.followed.taken
-          (there (λ cell grants. IsTaken cell grants bytes) taken);
+          (there (λ cell grants. IsFrameTaken cell grants bytes) taken);
       kept_is = delivers.0 ∙ ap (λ (gs : List Grant). delivered gs bytes) so_far.followed.kept_is
           ∙ sym (delivered_all-push (kept old) frames bytes);
       acks_are = (λ i. so_far.followed.acks_are i
@@ -139,12 +139,12 @@ module _ {D : Type 0} where
       }
 
       refused : (why : TakeFault) (index : ℕ) → index ≡ index_in bytes → new ≡ now
-          → IsRefused now.durable.cell (kept now) bytes why → HasStopped old every new acks (record { index = index; why = why })
+          → IsFrameRefused now.durable.cell (kept now) bytes why → HasStopped old every new acks (record { index = index; why = why })
       refused why index index_is same is =
           stops why index index_is
           (still (ap (λ (f : FollowerState D). kept f) same)
           (subst (λ (f : FollowerState D). IsOf now.durable f.durable) (sym same) (is_of now.durable)))
-          (ByRefusal (there (λ cell grants. IsRefused cell grants bytes why) is)
+          (ByRefusal (there (λ cell grants. IsFrameRefused cell grants bytes why) is)
           (ap (λ (f : FollowerState D). f.durable.unsure) same ∙ so_far.sure))
 
       too_few : length now.durable.added ≡ now.room → ⊥
@@ -163,7 +163,7 @@ module _ {D : Type 0} where
           refused (fault.NotGranted why) index index_is takes.0 takes.2
       stopped (fault.Full len) index index_is takes kept_is = absurd (too_few takes.2.room)
       stopped fault.Device index index_is takes kept_is =
-          let is : IsHalted now bytes new = takes.1 in
+          let is : IsHaltedAppend now bytes new = takes.1 in
           stops fault.Device index index_is
           (still kept_is (record {
             cell = ap (λ (f : FollowerState D). f.durable.cell) is.is;

@@ -13,8 +13,8 @@ use Rattle.cell_walks.specs.declared.early_end.Subject.TheVariants.{Command}
 use Rattle.cell_walks.specs.declared.status.Status.TheVariants.{CommandRefused, DeviceFault, Done}
 use Rattle.cell_texts.specs.Tests.{KnownCell, cell_file, to_add}
 use Rattle.standby_link.specs.declared.take_fault.TakeFault.{TakeFault}
-use Rattle.standby_link.specs.Deliveries.{AreTaken, acks_of, delivered_all}
-use Rattle.standby_link.specs.Followers.{IsGrantedNext, IsRefused}
+use Rattle.standby_link.specs.Deliveries.{AreFramesTaken, acks_of, delivered_all}
+use Rattle.standby_link.specs.Followers.{IsGrantedNext, IsFrameRefused}
 use Rattle.standby_link.specs.Frames.{index_in}
 use Rattle.standby_commands.specs.FrameFiles.{frames_file}
 use Rattle.standby_commands.specs.Lines.{ack_line, follow_refused}
@@ -29,7 +29,7 @@ left_after cell grants = line_of (left_words (length (replay cell grants)))
 
 -- Each frame was taken: the journal has the grants of their deliveries, and the last line tells how many parts these leave.
 pub record IsFollowed (cell : Cell) (opening : List Grant) (frames : List (List ℕ)) (outcome : Outcome) : Type 0 where
-  pub taken : AreTaken cell opening frames
+  pub taken : AreFramesTaken cell opening frames
   pub status : outcome.status ≡ Done
   pub pieces : outcome.pieces ≡ ack_lines opening frames ++ left_after cell (delivered_all opening frames) ∷ []
   pub added : opening ++ outcome.added ≡ delivered_all opening frames
@@ -42,8 +42,8 @@ pub record IsRefusedAt (cell : Cell) (opening : List Grant) (frames : List (List
   pub rest : List (List ℕ)
   pub why : TakeFault
   pub parted : frames ≡ first ++ bytes ∷ rest
-  pub taken : AreTaken cell opening first
-  pub refused : IsRefused cell (delivered_all opening first) bytes why
+  pub taken : AreFramesTaken cell opening first
+  pub refused : IsFrameRefused cell (delivered_all opening first) bytes why
   pub status : outcome.status ≡ CommandRefused
   pub pieces : outcome.pieces ≡ ack_lines opening first ++ follow_refused cell (index_in bytes) why ∷ []
   pub added : opening ++ outcome.added ≡ delivered_all opening first
@@ -56,7 +56,7 @@ pub record IsHaltedAt (cell : Cell) (opening : List Grant) (frames : List (List 
   pub rest : List (List ℕ)
   pub grant : Grant
   pub parted : frames ≡ first ++ bytes ∷ rest
-  pub taken : AreTaken cell opening first
+  pub taken : AreFramesTaken cell opening first
   pub granted : IsGrantedNext cell (delivered_all opening first) bytes grant
   pub status : outcome.status ≡ DeviceFault
   pub pieces : outcome.pieces ≡ ack_lines opening first
@@ -64,10 +64,10 @@ pub record IsHaltedAt (cell : Cell) (opening : List Grant) (frames : List (List 
   pub unsure : outcome.unsure ≡ grant ∷ []
 
 -- one of the three
-pub data Follows (cell : Cell) (opening : List Grant) (frames : List (List ℕ)) (outcome : Outcome) : Type 0 where
-  Followed : IsFollowed cell opening frames outcome → Follows cell opening frames outcome
-  RefusedAt : IsRefusedAt cell opening frames outcome → Follows cell opening frames outcome
-  HaltedAt : IsHaltedAt cell opening frames outcome → Follows cell opening frames outcome
+pub data EndsFollowing (cell : Cell) (opening : List Grant) (frames : List (List ℕ)) (outcome : Outcome) : Type 0 where
+  Followed : IsFollowed cell opening frames outcome → EndsFollowing cell opening frames outcome
+  RefusedAt : IsRefusedAt cell opening frames outcome → EndsFollowing cell opening frames outcome
+  HaltedAt : IsHaltedAt cell opening frames outcome → EndsFollowing cell opening frames outcome
 
 -- ---- the walk
 
@@ -98,7 +98,7 @@ memory = record {
 abbrev pub stands_by : KnownCell → List (List ℕ) → List Grant → Walk
 stands_by held frames opening =
     Tests memory λ had.
-    Answers λ input outcome. Follows held.cell opening frames outcome
+    Answers λ input outcome. EndsFollowing held.cell opening frames outcome
 
 abbrev pub follow : List ℕ → List ℕ → Walk
 follow cell frames =

@@ -18,10 +18,10 @@ use Rattle.cell_texts.specs.Recorded.{IsFresh}
 use Rattle.cell_texts.specs.Tests.{KnownCell, to_add}
 use Rattle.standby_link.specs.declared.take_fault.TakeFault.{TakeFault}
 use Rattle.standby_link.specs.declared.take_fault.TakeFault.TheVariants.{Device}
-use Rattle.standby_link.specs.Deliveries.{AreTaken, acks_of, delivered_all}
-use Rattle.standby_link.specs.Followers.{FollowerState, IsGrantedNext, IsRefused, kept}
+use Rattle.standby_link.specs.Deliveries.{AreFramesTaken, acks_of, delivered_all}
+use Rattle.standby_link.specs.Followers.{FollowerState, IsGrantedNext, IsFrameRefused, kept}
 use Rattle.standby_link.specs.Frames.{index_in}
-use Rattle.standby_commands.specs.Follow.{Follows}
+use Rattle.standby_commands.specs.Follow.{EndsFollowing}
 use Rattle.standby_commands.specs.Lines.{FaultFits, ack_line, follow_refused}
 use Rattle.standby_commands.specs.declared.follow.Followed.{Followed}
 use Rattle.standby_commands.specs.declared.following.Stop.{Stop}
@@ -29,7 +29,7 @@ use Rattle.standby_commands.specs.declared.following.Stop.{Stop}
 -- ---- the frames
 
 -- nothing was taken yet, and there is room for so many grants
-pub record IsReady {D : Type 0} (follower : FollowerState D) (frames : ℕ) : Type 0 where
+pub record IsFreshFollower {D : Type 0} (follower : FollowerState D) (frames : ℕ) : Type 0 where
   pub fresh : IsFresh follower.durable
   pub room : frames ≤ follower.room
 
@@ -42,14 +42,14 @@ pub record IsOf {D : Type 0} (old new : DurableState D) : Type 0 where
 
 -- these frames were taken in turn, with these answers
 pub record HasFollowed {D : Type 0} (old : FollowerState D) (frames : List (List ℕ)) (new : FollowerState D) (acks : List ℕ) : Type 0 where
-  pub taken : AreTaken old.durable.cell (kept old) frames
+  pub taken : AreFramesTaken old.durable.cell (kept old) frames
   pub kept_is : kept new ≡ delivered_all (kept old) frames
   pub acks_are : acks ≡ acks_of (kept old) frames
   pub same : IsOf old.durable new.durable
 
 -- the next one is refused, or the writing of its grant failed
 pub data StopsBy {D : Type 0} (cell : Cell) (grants : List Grant) (bytes : List ℕ) (why : TakeFault) (new : DurableState D) : Type 0 where
-  ByRefusal : IsRefused cell grants bytes why → new.unsure ≡ None → StopsBy cell grants bytes why new
+  ByRefusal : IsFrameRefused cell grants bytes why → new.unsure ≡ None → StopsBy cell grants bytes why new
   ByDevice : (grant : Grant) → IsGrantedNext cell grants bytes grant → why ≡ Device → new.unsure ≡ Some grant
       → StopsBy cell grants bytes why new
 
@@ -107,7 +107,7 @@ IsFollowAllowed seen walk made = (added : List Grant) × (unsure : List Grant) �
 -- the frames were taken after the grants of the journal as far as the walk says; or there was no memory, and nothing was added
 abbrev pub HasFollowedOn : DiskTold → Cell → List ℕ → List Grant → List (List ℕ) → Result Followed EarlyEnd → Type 0
 HasFollowedOn disk cell text opening frames (Ok followed) =
-    (added : List Grant) × (unsure : List Grant) × Follows cell opening frames (follow_outcome (Ok followed) added unsure)
+    (added : List Grant) × (unsure : List Grant) × EndsFollowing cell opening frames (follow_outcome (Ok followed) added unsure)
     × StandsForAdded disk text opening added unsure
 HasFollowedOn disk cell text opening frames (Err end) = (end ≡ WantOfMemory) × StandsForAdded disk text opening [] []
 

@@ -1,6 +1,6 @@
 //! Frames that a follower takes in turn.
 ghost use Rattle.std.specs.Prelude.{◌≡◌, ◌≤◌, [], length, take, drop};
-ghost use Rattle.standby_commands.specs.Following.{IsReady, HasTaken};
+ghost use Rattle.standby_commands.specs.Following.{IsFreshFollower, HasTaken};
 ghost use Rattle.standby_commands.specs.FrameFiles.{frames_in};
 
 use cell_base::Shelf;
@@ -20,7 +20,7 @@ pub fn take_frames<D: Disk>(
     bytes: &[u8],
     acks: &mut Shelf<u64>,
 ) -> Option<Stop>
-    requires ready { IsReady follower.old (length (frames_in bytes.now)) }
+    requires ready { IsFreshFollower follower.old (length (frames_in bytes.now)) }
     requires acks { acks.old.items ≡ [] }
     requires room { length (frames_in bytes.now) ≤ acks.old.spare }
     ensures { HasTaken follower.old (frames_in bytes.now) follower.new acks.new.items result }

@@ -17,7 +17,7 @@ use Rattle.cell_base.specs.Histories.{all_granted, is_granted, is_replay, replay
 use Rattle.cell_base.specs.Outcomes.{reply_to}
 use Rattle.shift_recovery.specs.Replayed.{AreDue}
 use Rattle.standby_link.specs.declared.frame.Frame.{Frame}
-use Rattle.standby_link.specs.Deliveries.{AreTaken, IsTaken, delivered, delivered_all}
+use Rattle.standby_link.specs.Deliveries.{AreFramesTaken, IsFrameTaken, delivered, delivered_all}
 use Rattle.standby_link.specs.Fed.{FedLaw, IsFrameOf}
 use Rattle.standby_link.specs.Followers.{IsGrantedNext}
 use Rattle.standby_link.specs.Frames.{frame_at, framed}
@@ -61,7 +61,7 @@ module _ (cell : Cell) where
       ∙ ap (all_granted cell []) (sym (map-append (λ (g : Grant). g.request) front (grant ∷ []))) ∙ is)).1).0
 
   module _ (all : List Grant) (due : AreDue cell all) where
-    takes : (opening : List Grant) (bytes : List ℕ) → IsPrefix opening all → IsFrameOf all bytes → IsTaken cell opening bytes
+    takes : (opening : List Grant) (bytes : List ℕ) → IsPrefix opening all → IsFrameOf all bytes → IsFrameTaken cell opening bytes
     takes opening bytes prefix (frame, is, there) = elim (cases_lt frame.index (length opening)) [
       | inl early ↦ inl (
         frame,
@@ -94,7 +94,7 @@ module _ (cell : Cell) where
         subst (λ (gs : List Grant). IsPrefix gs all) (sym (of_frame opening bytes frame is)) (received_after opening all frame prefix there)
 
     each : (opening : List Grant) (frames : List (List ℕ)) → IsPrefix opening all → All (IsFrameOf all) frames
-        → AreTaken cell opening frames × IsPrefix (delivered_all opening frames) all
+        → AreFramesTaken cell opening frames × IsPrefix (delivered_all opening frames) all
     each opening [] prefix are = (tt, prefix)
     each opening (bytes ∷ frames) prefix are =
         let here = All-head (IsFrameOf all) bytes frames are in

@@ -29,7 +29,7 @@ use Rattle.standby_link.specs.declared.frame.Frame.{Frame}
 use Rattle.standby_link.specs.declared.take_fault.TakeFault.{TakeFault}
 use Rattle.standby_link.specs.declared.take_fault.TakeFault.TheVariants.{Halted, NotAFrame, Conflict, NoFit, NotGranted, Full, Device}
 use Rattle.standby_link.specs.Deliveries.{Delivers, LeavesDelivered, StandsForDelivered, StandsForKept, delivered}
-use Rattle.standby_link.specs.Followers.{FollowerState, GoesOn, IsAppended, IsHalted, IsKnown}
+use Rattle.standby_link.specs.Followers.{FollowerState, HasNotHalted, IsAppended, IsHaltedAppend, IsKnown}
 use Rattle.standby_link.specs.Followers.{IsNext, Takes, kept, kept_in, with_grant, with_halt}
 use Rattle.standby_link.specs.Following.{received}
 use Rattle.standby_link.specs.Frames.{frame_in, framed}
@@ -150,7 +150,7 @@ module _ {D : Type 0} (reads_as : D → Option (List ℕ)) (may_leave : D → Li
         (stands_for_kept more.durable file refl (subst (λ (f : FollowerState D). StandsNow f.durable file) is.is now))))
 
     -- its writing failed
-    pub halted_leaves : IsHalted old bytes new
+    pub halted_leaves : IsHaltedAppend old bytes new
         → IfSome (reads_as old.durable.disk)
         (λ _. LeavesOnly moment left_since old.durable.disk new.durable.disk (StandsThen old.durable new.durable))
         → IfSome (reads_as old.durable.disk) (λ _. LeavesOnly moment left_since old.durable.disk new.durable.disk Behind)
@@ -189,7 +189,8 @@ delivers old new bytes (Err Device) takes =
 
 module _ {D : Type 0} (reads_as : D → Option (List ℕ)) (may_leave : D → List ℕ → Type 0) (moment : D → ℕ)
     (left_since : D → ℕ → List ℕ → Type 0) (old new : FollowerState D) (bytes : List ℕ)
-    (sure : GoesOn old → old.durable.unsure ≡ None) (moves : MovesSafely reads_as may_leave moment left_since old.durable new.durable) where
+    (sure : HasNotHalted old → old.durable.unsure ≡ None)
+    (moves : MovesSafely reads_as may_leave moment left_since old.durable new.durable) where
   pub crashes : (result : Result ℕ TakeFault) → Takes old bytes result new → LeavesDelivered reads_as moment left_since old bytes new
   crashes (Ok ack) (before, behind, len, inl (same, known)) goes_on =
       same_leaves reads_as may_leave moment left_since old new bytes (sure goes_on) same moves.any_moment

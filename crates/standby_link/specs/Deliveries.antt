@@ -7,7 +7,7 @@ use Rattle.outside_io.specs.Disk.{LeavesOnly}
 use Rattle.move_journal.specs.Disks.{Shows}
 use Rattle.move_journal.specs.Journals.{StandsFor}
 use Rattle.standby_link.specs.declared.take_fault.TakeFault.{TakeFault}
-use Rattle.standby_link.specs.Followers.{FollowerState, GoesOn, IsGrantedNext, IsKnown, kept}
+use Rattle.standby_link.specs.Followers.{FollowerState, HasNotHalted, IsGrantedNext, IsKnown, kept}
 use Rattle.standby_link.specs.Following.{received}
 use Rattle.standby_link.specs.Frames.{frame_in}
 
@@ -25,13 +25,13 @@ acks_of grants [] = []
 acks_of grants (bytes ∷ frames) = length (delivered grants bytes) ∷ acks_of (delivered grants bytes) frames
 
 -- the bytes are a frame that a standby with these grants takes
-abbrev pub IsTaken : Cell → List Grant → List ℕ → Type 0
-IsTaken cell grants bytes = IsKnown grants bytes ⊎ ((grant : Grant) × IsGrantedNext cell grants bytes grant)
+abbrev pub IsFrameTaken : Cell → List Grant → List ℕ → Type 0
+IsFrameTaken cell grants bytes = IsKnown grants bytes ⊎ ((grant : Grant) × IsGrantedNext cell grants bytes grant)
 
 -- each of them is taken in its turn
-abbrev pub AreTaken : Cell → List Grant → List (List ℕ) → Type 0
-AreTaken cell grants [] = ⊤
-AreTaken cell grants (bytes ∷ frames) = IsTaken cell grants bytes × AreTaken cell (delivered grants bytes) frames
+abbrev pub AreFramesTaken : Cell → List Grant → List (List ℕ) → Type 0
+AreFramesTaken cell grants [] = ⊤
+AreFramesTaken cell grants (bytes ∷ frames) = IsFrameTaken cell grants bytes × AreFramesTaken cell (delivered grants bytes) frames
 
 -- ---- a take
 
@@ -48,7 +48,7 @@ StandsForDelivered text grants bytes file = StandsFor file text grants ⊎ Stand
 abbrev pub LeavesDelivered : {D : Type 0} → (D → Option (List ℕ)) → (D → ℕ) → (D → ℕ → List ℕ → Type 0)
     → FollowerState D → List ℕ → FollowerState D → Type 0
 LeavesDelivered reads_as moment left_since old bytes new =
-    GoesOn old → IfSome (reads_as old.durable.disk) (λ _. LeavesOnly moment left_since old.durable.disk new.durable.disk
+    HasNotHalted old → IfSome (reads_as old.durable.disk) (λ _. LeavesOnly moment left_since old.durable.disk new.durable.disk
     (StandsForDelivered old.durable.text (kept old) bytes))
 
 -- the disk stands for the grants of the standby, and so does each image that a crash now may leave

@@ -6,7 +6,7 @@ use Rattle.cell_base.specs.declared.cells.Cell.{Cell}
 use Rattle.cell_base.specs.declared.shifts.Grant.{Grant}
 use Rattle.shift_recovery.specs.Replayed.{AreDue}
 use Rattle.standby_link.specs.declared.frame.Frame.{Frame}
-use Rattle.standby_link.specs.Deliveries.{AreTaken, delivered_all}
+use Rattle.standby_link.specs.Deliveries.{AreFramesTaken, delivered_all}
 use Rattle.standby_link.specs.Frames.{frame_at, frame_in}
 
 -- the bytes are the frame of the grant that the list has at its index
@@ -17,4 +17,4 @@ IsFrameOf all bytes = (frame : Frame) × (frame_in bytes ≡ Some frame) × (fra
 abbrev pub FedLaw : Cell → Type 0
 FedLaw cell =
     (opening all : List Grant) (frames : List (List ℕ)) → IsPrefix opening all → AreDue cell all → All (IsFrameOf all) frames
-    → AreTaken cell opening frames × IsPrefix (delivered_all opening frames) all
+    → AreFramesTaken cell opening frames × IsPrefix (delivered_all opening frames) all

@@ -31,8 +31,8 @@ abbrev pub kept : {D : Type 0} → FollowerState D → List Grant
 kept follower = kept_in follower.durable
 
 -- no writing has failed
-abbrev pub GoesOn : {D : Type 0} → FollowerState D → Type 0
-GoesOn follower = halted_at follower.durable.history ≡ None
+abbrev pub HasNotHalted : {D : Type 0} → FollowerState D → Type 0
+HasNotHalted follower = halted_at follower.durable.history ≡ None
 
 -- ---- frames
 
@@ -52,17 +52,17 @@ IsKnown grants bytes =
     (frame : Frame) × (frame_in bytes ≡ Some frame) × ((slice_get grants frame.index ≡ Some frame.grant) ⊎ (length grants < frame.index))
 
 -- why bytes are refused by a standby with these grants, whatever its room and its device
-abbrev pub IsRefused : Cell → List Grant → List ℕ → TakeFault → Type 0
-IsRefused cell grants bytes (Halted at) = ⊥
-IsRefused cell grants bytes NotAFrame = frame_in bytes ≡ None
-IsRefused cell grants bytes (Conflict at kept) =
+abbrev pub IsFrameRefused : Cell → List Grant → List ℕ → TakeFault → Type 0
+IsFrameRefused cell grants bytes (Halted at) = ⊥
+IsFrameRefused cell grants bytes NotAFrame = frame_in bytes ≡ None
+IsFrameRefused cell grants bytes (Conflict at kept) =
     (grant : Grant) × (frame_in bytes ≡ Some (framed at grant)) × (slice_get grants at ≡ Some kept) × (kept ≢ grant)
-IsRefused cell grants bytes NoFit = (grant : Grant) × IsNext grants bytes grant × (RequestFits cell grant.request → ⊥)
-IsRefused cell grants bytes (NotGranted why) =
+IsFrameRefused cell grants bytes NoFit = (grant : Grant) × IsNext grants bytes grant × (RequestFits cell grant.request → ⊥)
+IsFrameRefused cell grants bytes (NotGranted why) =
     (grant : Grant) × IsNext grants bytes grant × RequestFits cell grant.request
     × (reply_to cell (replay cell grants) grant.request ≡ Refused why)
-IsRefused cell grants bytes (Full len) = ⊥
-IsRefused cell grants bytes Device = ⊥
+IsFrameRefused cell grants bytes (Full len) = ⊥
+IsFrameRefused cell grants bytes Device = ⊥
 
 -- ---- what a frame makes of a follower
 
@@ -80,21 +80,21 @@ abbrev pub with_halt : {D : Type 0} → FollowerState D → D → Grant → Foll
 with_halt follower disk grant = decided follower disk grant told.Halted
 
 -- room for one grant more
-abbrev pub HasRoom : {D : Type 0} → FollowerState D → Type 0
-HasRoom follower = length follower.durable.added < follower.room
+abbrev pub HasRoomForGrant : {D : Type 0} → FollowerState D → Type 0
+HasRoomForGrant follower = length follower.durable.added < follower.room
 
 -- a grant that may be appended was
 pub record IsAppended {D : Type 0} (old : FollowerState D) (bytes : List ℕ) (new : FollowerState D) : Type 0 where
   pub grant : Grant
   pub granted : IsGrantedNext old.durable.cell (kept old) bytes grant
-  pub room : HasRoom old
+  pub room : HasRoomForGrant old
   pub is : new ≡ with_grant old new.durable.disk grant
 
 -- the writing of a grant that may be appended failed
-pub record IsHalted {D : Type 0} (old : FollowerState D) (bytes : List ℕ) (new : FollowerState D) : Type 0 where
+pub record IsHaltedAppend {D : Type 0} (old : FollowerState D) (bytes : List ℕ) (new : FollowerState D) : Type 0 where
   pub grant : Grant
   pub granted : IsGrantedNext old.durable.cell (kept old) bytes grant
-  pub room : HasRoom old
+  pub room : HasRoomForGrant old
   pub is : new ≡ with_halt old new.durable.disk grant
 
 -- a grant could be appended, but for the room
@@ -107,11 +107,11 @@ pub record IsOutOfRoom {D : Type 0} (old : FollowerState D) (bytes : List ℕ) (
 -- What is answered to a frame, by the first test that it fails. The answer to a frame that is taken is how many grants there then are.
 abbrev pub Takes : {D : Type 0} → FollowerState D → List ℕ → Result ℕ TakeFault → FollowerState D → Type 0
 Takes old bytes (Ok ack) new =
-    GoesOn old × GoesOn new × (ack ≡ length (kept new)) × (((new ≡ old) × IsKnown (kept old) bytes) ⊎ IsAppended old bytes new)
+    HasNotHalted old × HasNotHalted new × (ack ≡ length (kept new)) × (((new ≡ old) × IsKnown (kept old) bytes) ⊎ IsAppended old bytes new)
 Takes old bytes (Err (Halted at)) new = (new ≡ old) × (halted_at old.durable.history ≡ Some at)
-Takes old bytes (Err (Full len)) new = (new ≡ old) × GoesOn old × IsOutOfRoom old bytes len
-Takes old bytes (Err Device) new = GoesOn old × IsHalted old bytes new
-Takes old bytes (Err why) new = (new ≡ old) × GoesOn old × IsRefused old.durable.cell (kept old) bytes why
+Takes old bytes (Err (Full len)) new = (new ≡ old) × HasNotHalted old × IsOutOfRoom old bytes len
+Takes old bytes (Err Device) new = HasNotHalted old × IsHaltedAppend old bytes new
+Takes old bytes (Err why) new = (new ≡ old) × HasNotHalted old × IsFrameRefused old.durable.cell (kept old) bytes why
 
 -- the count rises where the answer is that the device failed, and stays with every other answer
 abbrev pub HasTakeCause : {A D : Type 0} → (D → ℕ) → D → D → Result A TakeFault → Type 0
@@ -129,7 +129,7 @@ Compares grants frame (Err why) =
 
 -- the next grant, appended or refused
 abbrev pub AppendsTo : {D : Type 0} → FollowerState D → List ℕ → Result ⊤ TakeFault → FollowerState D → Type 0
-AppendsTo old bytes (Ok done) new = GoesOn new × IsAppended old bytes new
+AppendsTo old bytes (Ok done) new = HasNotHalted new × IsAppended old bytes new
 AppendsTo old bytes (Err why) new = Takes old bytes (Err why) new
 
 -- the same, whatever bytes are its frame

@@ -67,7 +67,7 @@ pub record IsStart (cell : Cell) (world : World) : Type 0 where
   pub nothing_known : world.known ≡ 0
 
 -- the standby has a prefix of the first controller's grants, each granted in its turn, and as many at least as are known
-pub record IsFollowed (cell : Cell) (world : World) : Type 0 where
+pub record HasPrefixOfFirst (cell : Cell) (world : World) : Type 0 where
   pub behind : IsPrefix world.standby world.first
   pub granted : is_replay cell world.standby ≡ true
   pub known : world.known ≤ length world.standby
@@ -75,4 +75,5 @@ pub record IsFollowed (cell : Cell) (world : World) : Type 0 where
 -- whatever happens
 abbrev pub FollowingLaw : Cell → Type 0
 FollowingLaw cell =
-    (world : World) (events : List Event) → IsStart cell world → ArePossible cell world events → IsFollowed cell (after_events world events)
+    (world : World) (events : List Event) → IsStart cell world → ArePossible cell world events
+        → HasPrefixOfFirst cell (after_events world events)

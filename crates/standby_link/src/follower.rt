@@ -3,7 +3,7 @@ ghost use Rattle.std.specs.Prelude.{◌≡◌, ◌≤◌, [], None, IfOk, IfErr}
 ghost use Rattle.cell_base.specs.Histories.{replay};
 ghost use Rattle.durable_cell.specs.Acknowledged.{MovesSafely};
 ghost use Rattle.durable_cell.specs.DurableState.{parts};
-ghost use Rattle.standby_link.specs.Followers.{kept, Appends, Compares, GoesOn, HasTakeCause, Takes};
+ghost use Rattle.standby_link.specs.Followers.{kept, Appends, Compares, HasNotHalted, HasTakeCause, Takes};
 ghost use Rattle.standby_link.specs.Deliveries.{Delivers, LeavesDelivered, StandsForKept};
 
 use crate::{Frame, TakeFault};
@@ -107,7 +107,7 @@ impl<D: Disk> Follower<D> {
         ensures answer { Takes self.old bytes.now result self.new }
         ensures cause { HasTakeCause D.faults self.old.durable.disk self.new.durable.disk result }
         ensures disk { MovesSafely D.reads_as D.may_leave D.moment D.left_since self.old.durable self.new.durable }
-        ensures sure { GoesOn self.old → self.old.durable.unsure ≡ None }
+        ensures sure { HasNotHalted self.old → self.old.durable.unsure ≡ None }
     {
         stays(&self.durable);
         if let Some(at) = self.halted {
@@ -143,7 +143,7 @@ impl<D: Disk> Follower<D> {
 
     // Appends the next grant.
     fn append(&mut self, grant: &Grant) -> Result<(), TakeFault>
-        requires { GoesOn self.old }
+        requires { HasNotHalted self.old }
         ensures answer { Appends self.old grant.now result self.new }
         ensures cause { HasTakeCause D.faults self.old.durable.disk self.new.durable.disk result }
         ensures disk { MovesSafely D.reads_as D.may_leave D.moment D.left_since self.old.durable self.new.durable }

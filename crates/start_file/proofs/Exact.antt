@@ -21,8 +21,8 @@ use Rattle.record_text.proofs.Ending.{same_Ok, same_Err}
 use Rattle.record_text.proofs.Pieces.{pieces_lines, pieces_some}
 use Rattle.record_text.proofs.Splitting.{IsLine, joined-pieces, joined-words}
 use Rattle.start_file.specs.declared.reading.TheConstants.{MAX_START_BYTES, MAX_START_LINES}
-use Rattle.start_file.specs.Reading.{Gives, next_of, placing_of, read_from}
-use Rattle.start_file.specs.StartFiles.{IsBadLine, IsPlacing, IsStartOf, RefusedAt, place_line, start_reads, start_text}
+use Rattle.start_file.specs.Reading.{GivesStart, next_of, placing_of, read_from}
+use Rattle.start_file.specs.StartFiles.{IsBadStartLine, IsPlacing, IsStartOf, StartRefusedAt, place_line, start_reads, start_text}
 use Rattle.start_file.proofs.Lines.{first_piece, next_is, read_all, read_cons}
 use Rattle.start_file.proofs.Placing.{placing-sound}
 
@@ -71,7 +71,7 @@ module _ (cell : Cell) (fits : CellFits cell) where
           ∙ unread (placing_of cell (words piece)) refl (ltb-true (length before) MAX_START_LINES is)
       none false is = ap (λ (b : Bool). cond b (placing_of cell (words piece)) None) is
 
-  pub read_bad : (bytes : List ℕ) (n : ℕ) → IsBadLine cell bytes n → read_from cell [] (pieces bytes) ≡ Err n
+  pub read_bad : (bytes : List ℕ) (n : ℕ) → IsBadStartLine cell bytes n → read_from cell [] (pieces bytes) ≡ Err n
   read_bad bytes n is =
       let some = pieces_some is.rest in
       ap (λ (text : List ℕ). read_from cell [] (pieces text)) is.text
@@ -94,7 +94,7 @@ module _ (cell : Cell) (fits : CellFits cell) where
   -- no line is read of the rest
   bad_line : (bytes : List ℕ) (found : List Request) (rest : List ℕ) → IsFront bytes found rest → 1 ≤ length rest
       → (piece : List ℕ) (others : List (List ℕ)) → pieces rest ≡ piece ∷ others
-      → (1 ≤ length others → next_of cell found piece ≡ None) → IsBadLine cell bytes (length found + 1)
+      → (1 ≤ length others → next_of cell found piece ≡ None) → IsBadStartLine cell bytes (length found + 1)
   bad_line bytes found rest front some piece others are unread = record {
     before = found;
     rest = rest;
@@ -118,7 +118,7 @@ module _ (cell : Cell) (fits : CellFits cell) where
   -- how the answer tells the bytes
   abbrev Tells : List ℕ → Result (List Request) ℕ → Type 0
   Tells bytes (Ok requests) = IsFront bytes requests []
-  Tells bytes (Err n) = IsBadLine cell bytes n
+  Tells bytes (Err n) = IsBadStartLine cell bytes n
 
   one_more : (bytes : List ℕ) (found : List Request) (rest : List ℕ) (request : Request) (more : List ℕ) → IsFront bytes found rest
       → length found < MAX_START_LINES → IsPlacing cell request → rest ≡ place_line cell request ++ more
@@ -204,18 +204,19 @@ module _ (cell : Cell) (fits : CellFits cell) where
       text = front.text ∙ append-nil (start_text cell requests);
     }
 
-    pub answers_found : (result : Result (List Request) RecordFault) → Gives result (read_from cell [] (pieces bytes))
+    pub answers_found : (result : Result (List Request) RecordFault) → GivesStart result (read_from cell [] (pieces bytes))
         → IfOk result (IsStartOf cell bytes)
     answers_found (Ok requests) gives = is_start requests (subst (Tells bytes) gives (told bytes))
     answers_found (Err fault) gives = tt
 
-    pub answers_refused : (result : Result (List Request) RecordFault) → Gives result (read_from cell [] (pieces bytes))
-        → IfErr result (RefusedAt cell bytes)
+    pub answers_refused : (result : Result (List Request) RecordFault) → GivesStart result (read_from cell [] (pieces bytes))
+        → IfErr result (StartRefusedAt cell bytes)
     answers_refused (Ok requests) gives = tt
     answers_refused (Err (Bad n)) gives = inr (short, subst (Tells bytes) gives (told bytes))
     answers_refused (Err Memory) gives = tt
 
-  pub answers_complete : (bytes : List ℕ) (result : Result (List Request) RecordFault) → Gives result (read_from cell [] (pieces bytes))
+  pub answers_complete : (bytes : List ℕ) (result : Result (List Request) RecordFault)
+      → GivesStart result (read_from cell [] (pieces bytes))
       → (requests : List Request) → IsStartOf cell bytes requests → (result ≡ Ok requests) ⊎ (result ≡ Err Memory)
   answers_complete bytes (Ok others) gives requests is =
       inl (ap Ok (same_Ok others requests (sym gives ∙ read_start bytes requests is)))
@@ -225,14 +226,15 @@ module _ (cell : Cell) (fits : CellFits cell) where
 
 -- ---- bytes are read in one way
 
-one_bad : (cell : Cell) → CellFits cell → (bytes : List ℕ) (n m : ℕ) → RefusedAt cell bytes (Bad n) → RefusedAt cell bytes (Bad m) → n ≡ m
+one_bad : (cell : Cell) → CellFits cell → (bytes : List ℕ) (n m : ℕ) → StartRefusedAt cell bytes (Bad n)
+    → StartRefusedAt cell bytes (Bad m) → n ≡ m
 one_bad cell fits bytes n m (inl a) (inl b) = a.1 ∙ sym b.1
 one_bad cell fits bytes n m (inl a) (inr b) = absurd (omega (arith, a.0, b.0))
 one_bad cell fits bytes n m (inr a) (inl b) = absurd (omega (arith, a.0, b.0))
 one_bad cell fits bytes n m (inr a) (inr b) = same_Err n m (sym (read_bad cell fits bytes n a.1) ∙ read_bad cell fits bytes m b.1)
 
 no_start : (cell : Cell) → CellFits cell → (bytes : List ℕ) (requests : List Request) (n : ℕ) → IsStartOf cell bytes requests
-    → RefusedAt cell bytes (Bad n) → ⊥
+    → StartRefusedAt cell bytes (Bad n) → ⊥
 no_start cell fits bytes requests n is (inl long) = omega (arith, long.0, is.short)
 no_start cell fits bytes requests n is (inr bad) =
     let both : Ok requests ≡ Err n = sym (read_start cell fits bytes requests is) ∙ read_bad cell fits bytes n bad.1 in cc

@@ -25,7 +25,7 @@ read_from cell found (line ∷ next ∷ more) =
     option_map_or (λ request. read_from cell (found ++ request ∷ []) (next ∷ more)) (next_of cell found line) (Err (length found + 1))
 
 -- the result is what reading gives, unless memory is wanting
-abbrev pub Gives : Result (List Request) RecordFault → Result (List Request) ℕ → Type 0
-Gives (Ok requests) read = read ≡ Ok requests
-Gives (Err (Bad line)) read = read ≡ Err line
-Gives (Err Memory) read = ⊤
+abbrev pub GivesStart : Result (List Request) RecordFault → Result (List Request) ℕ → Type 0
+GivesStart (Ok requests) read = read ≡ Ok requests
+GivesStart (Err (Bad line)) read = read ≡ Err line
+GivesStart (Err Memory) read = ⊤

@@ -33,7 +33,7 @@ pub record IsStartOf (cell : Cell) (bytes : List ℕ) (requests : List Request) 
 
 -- the n-th line is bad: the lines of requests stand before it, and after these stands something that doesn't begin with the line of a
 -- request; or they are as many as there may be
-pub record IsBadLine (cell : Cell) (bytes : List ℕ) (n : ℕ) : Type 0 where
+pub record IsBadStartLine (cell : Cell) (bytes : List ℕ) (n : ℕ) : Type 0 where
   pub before : List Request
   pub rest : List ℕ
   pub placing : All (IsPlacing cell) before
@@ -45,13 +45,13 @@ pub record IsBadLine (cell : Cell) (bytes : List ℕ) (n : ℕ) : Type 0 where
       → rest ≡ place_line cell request ++ more → ⊥
 
 -- why bytes are refused: there are too many, or they have a bad line
-abbrev pub RefusedAt : Cell → List ℕ → RecordFault → Type 0
-RefusedAt cell bytes (Bad line) =
-    ((MAX_START_BYTES < length bytes) × (line ≡ 0)) ⊎ ((length bytes ≤ MAX_START_BYTES) × IsBadLine cell bytes line)
-RefusedAt cell bytes Memory = ⊤
+abbrev pub StartRefusedAt : Cell → List ℕ → RecordFault → Type 0
+StartRefusedAt cell bytes (Bad line) =
+    ((MAX_START_BYTES < length bytes) × (line ≡ 0)) ⊎ ((length bytes ≤ MAX_START_BYTES) × IsBadStartLine cell bytes line)
+StartRefusedAt cell bytes Memory = ⊤
 
 -- the bytes are the lines of these requests, of a cell that fits, or this line of them is bad
 abbrev pub start_reads : Cell → List ℕ → Result (List Request) RecordFault → Type 0
 start_reads cell bytes (Ok requests) = CellFits cell × IsStartOf cell bytes requests
-start_reads cell bytes (Err (Bad line)) = CellFits cell × RefusedAt cell bytes (Bad line)
+start_reads cell bytes (Err (Bad line)) = CellFits cell × StartRefusedAt cell bytes (Bad line)
 start_reads cell bytes (Err Memory) = ⊥

@@ -3,9 +3,9 @@ ghost use Rattle.std.specs.Prelude.{◌≡◌, ◌<◌, ◌⊎◌, [], length, I
 ghost use Rattle.cell_base.specs.Fits.{CellFits};
 ghost use Rattle.cell_base.specs.declared.requests.Request.{Request};
 ghost use Rattle.record_text.specs.BadLines.{pieces};
-ghost use Rattle.start_file.specs.Reading.{Gives, next_of, read_from};
+ghost use Rattle.start_file.specs.Reading.{GivesStart, next_of, read_from};
 ghost use Rattle.start_file.specs.declared.reading.TheConstants.{MAX_START_LINES};
-ghost use Rattle.start_file.specs.StartFiles.{IsStartOf, RefusedAt};
+ghost use Rattle.start_file.specs.StartFiles.{IsStartOf, StartRefusedAt};
 
 use crate::place::read_place;
 use cell_base::{Cell, List, Request};
@@ -24,7 +24,7 @@ pub fn read_start(alloc: Global, cell: &Cell, bytes: &[u8]) -> Result<List<Reque
     ensures found { IfOk result (IsStartOf cell.now bytes.now) }
     ensures complete { (requests : Items Request) → IsStartOf cell.now bytes.now requests
         → (result ≡ Ok requests) ⊎ (result ≡ Err RecordFault.Memory) }
-    ensures refused { IfErr result (RefusedAt cell.now bytes.now) }
+    ensures refused { IfErr result (StartRefusedAt cell.now bytes.now) }
 {
     if bytes.len() as u64 > MAX_START_BYTES {
         return Err(RecordFault::Bad { line: 0 });
@@ -35,7 +35,7 @@ pub fn read_start(alloc: Global, cell: &Cell, bytes: &[u8]) -> Result<List<Reque
 // The requests of all lines.
 fn read_lines(alloc: Global, cell: &Cell, bytes: &[u8]) -> Result<List<Request>, RecordFault>
     requires cell { CellFits cell.now }
-    ensures { Gives result (read_from cell.now [] (pieces bytes.now)) }
+    ensures { GivesStart result (read_from cell.now [] (pieces bytes.now)) }
 {
     let mut found: List<Request> = List::new(alloc);
     let mut rest = bytes;

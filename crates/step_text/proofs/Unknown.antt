@@ -26,7 +26,7 @@ use Rattle.step_text.specs.declared.faults.StepFault.TheVariants.{BadStep, Unkno
 use Rattle.step_text.specs.Words.{words, joined, number_of}
 use Rattle.step_text.specs.Steps.{step_text, job_of, number_of_name, load_of, process_of, move_of, branch_of}
 use Rattle.step_text.specs.Steps.{unload_of, step_of_two, step_of_three, step_of_words, step_of}
-use Rattle.step_text.specs.Lacking.{with_resource, with_type, IsNew, LacksName}
+use Rattle.step_text.specs.Lacking.{with_resource, with_type, IsFreeName, LacksName}
 use Rattle.step_text.proofs.Chains.{if_some}
 use Rattle.step_text.proofs.Joined.{IsWord, words_again, word_by_test, decimal_word, name_word}
 use Rattle.step_text.proofs.Numerals.{job_again, job_small, job_back}
@@ -37,7 +37,7 @@ IsUnknown r = r ≡ Err UnknownName
 -- ---- a name that is not known
 
 -- no name is this one exactly where none is found
-new_from_none : (names : List (List ℕ)) (word : List ℕ) → position (bytes_eq word) names ≡ None → IsNew word names
+new_from_none : (names : List (List ℕ)) (word : List ℕ) → position (bytes_eq word) names ≡ None → IsFreeName word names
 new_from_none names word e k d within = at (nat_lt (position_or_len (bytes_eq word) names) (length names)) refl e
   where
     at : (b : Bool) → nat_lt (position_or_len (bytes_eq word) names) (length names) ≡ b
@@ -47,7 +47,7 @@ new_from_none names word e k d within = at (nat_lt (position_or_len (bytes_eq wo
         let early : k < position_or_len (bytes_eq word) names = omega (arith, within, ltb-false _ _ fails) in
         false≢true (sym (fails_before_first (bytes_eq word) names k d early) ∙ (bytes_eq-Decides word (get_or names k d)).1 (sym same))
 
-none_from_new : (names : List (List ℕ)) (word : List ℕ) → IsNew word names → position (bytes_eq word) names ≡ None
+none_from_new : (names : List (List ℕ)) (word : List ℕ) → IsFreeName word names → position (bytes_eq word) names ≡ None
 none_from_new names word new =
     let last : position_or_len (bytes_eq word) names ≡ length names =
     position_or_len_is (bytes_eq word) names (length names) [] (omega arith)
@@ -75,7 +75,7 @@ name_from_test word is =
 -- a word that is no known name is a name, and a new one
 record IsNewName (names : List (List ℕ)) (word : List ℕ) : Type 0 where
   spelled : IsName word
-  new : IsNew word names
+  new : IsFreeName word names
 
 unknown_is_new : (names : List (List ℕ)) (word : List ℕ) → IsUnknown (number_of_name names word) → IsNewName names word
 unfolding number_of_name
@@ -97,7 +97,7 @@ unknown_is_new names word e = at (name_of word) refl e
           new = new_from_none names word (subst (λ (n : List ℕ). position (bytes_eq n) names ≡ None) (sym same.1) found);
         }
 
-new_is_unknown : (names : List (List ℕ)) (word : List ℕ) → IsName word → IsNew word names → IsUnknown (number_of_name names word)
+new_is_unknown : (names : List (List ℕ)) (word : List ℕ) → IsName word → IsFreeName word names → IsUnknown (number_of_name names word)
 unfolding number_of_name
 new_is_unknown names word spelled new = rw (name_of-name word spelled, none_from_new names word new) refl
 

@@ -21,19 +21,19 @@ with_type cell name =
     let added : JobType = record { name = name; route = []; next = [] } in record cell { types = cell.types ++ added ∷ [] }
 
 -- none of these names is this one
-abbrev pub IsNew : List ℕ → List (List ℕ) → Type 0
-IsNew name names = All (λ other. other ≢ name) names
+abbrev pub IsFreeName : List ℕ → List (List ℕ) → Type 0
+IsFreeName name names = All (λ other. other ≢ name) names
 
 -- the name is new among the resources, and with a resource of it the text asks for the work there
 pub record LacksResource (cell : Cell) (text name : List ℕ) : Type 0 where
   pub spelled : IsName name
-  pub new : IsNew name (resource_names cell.resources)
+  pub new : IsFreeName name (resource_names cell.resources)
   pub step : step_text (with_resource cell name) (Process (record { 0 = length cell.resources })) ≡ text
 
 -- the name is new among the types, and with a type of it the text asks for a load of that type
 pub record LacksType (cell : Cell) (text name : List ℕ) (job : JobId) : Type 0 where
   pub spelled : IsName name
-  pub new : IsNew name (type_names cell.types)
+  pub new : IsFreeName name (type_names cell.types)
   pub job_fits : job.0 < 2 ^ 32
   pub step : step_text (with_type cell name) (Load job (record { 0 = length cell.types })) ≡ text
 

@@ -17,7 +17,7 @@ use Rattle.wait_board.specs.declared.waiter.Waiter.{Waiter}
 use Rattle.wait_board.specs.declared.entries.BoardTold.TheVariants as told
 use Rattle.policy_laws.specs.Decisions.{is_saturation}
 use Rattle.wait_board.specs.Boards.{OnBoard, noted, joined, told_on, board, waiter_of}
-use Rattle.wait_board.specs.BoardState.{IsWaiting, IsOther, AreApart, Keeps}
+use Rattle.wait_board.specs.BoardState.{IsWaiting, IsOther, AreApart, KeepsBoard}
 use Rattle.wait_board.proofs.Scans.{full, Stands, scan-settled}
 use Rattle.wait_board.proofs.Asks.{asked_on}
 use Rattle.wait_board.proofs.Effects.{board_after}
@@ -64,9 +64,9 @@ module _ (cell : Cell) (fits : CellFits cell) (sessions : ℕ) (on : OnBoard) (s
 -- an ask keeps all of it
 pub keeps : (cell : Cell) (opening : List Part) (on : OnBoard) (spare left sessions session : ℕ) (request : Request) → CellFits cell
     → RefusalLaw cell → IsAdmitted cell on.parts
-    → Keeps (record { cell = cell; opening = opening; on = on; spare = spare; sessions = sessions })
+    → KeepsBoard (record { cell = cell; opening = opening; on = on; spare = spare; sessions = sessions })
     → RequestFits cell request → IsWithin 1 sessions session → waiter_of on.waiters session ≡ None
-    → Keeps (record { cell = cell; opening = opening; on = board cell on session request; spare = left; sessions = sessions })
+    → KeepsBoard (record { cell = cell; opening = opening; on = board cell on session request; spare = left; sessions = sessions })
 keeps cell opening on spare left sessions session request fits law admitted kept fit within free =
     let wait = waiting_on cell fits sessions on session request admitted kept.waiting kept.apart fit within free in
     record {

@@ -2,7 +2,7 @@
 ghost use Rattle.std.specs.Prelude.{◌≡◌, ◌<◌, ◌≤◌, None, [], length, IfOk, IfErr, vec_capacity};
 ghost use Rattle.cell_base.specs.Fits.{RequestFits, IsWithin};
 ghost use Rattle.wait_board.specs.Boards.{waiter_of};
-ghost use Rattle.wait_board.specs.BoardState.{Answers, IsAsked, IsOpened, Keeps};
+ghost use Rattle.wait_board.specs.BoardState.{AnswersTry, IsBoardAsked, IsNewBoard, KeepsBoard};
 
 use crate::asking::ask;
 use crate::waiter::waiter_of;
@@ -25,7 +25,7 @@ pub struct Board {
 
 impl Model for Board {
     ghost use Rattle.std.specs.Prelude.{◌≤◌, vec_capacity};
-    ghost use Rattle.wait_board.specs.BoardState.{BoardState, on_board, Keeps};
+    ghost use Rattle.wait_board.specs.BoardState.{BoardState, on_board, KeepsBoard};
 
     ghost Value = { BoardState };
 
@@ -37,7 +37,7 @@ impl Model for Board {
       sessions = s.sessions;
     } };
 
-    ghost invariant = { λ s. Keeps (record {
+    ghost invariant = { λ s. KeepsBoard (record {
       cell = s.core.cell;
       opening = s.opening;
       on = on_board s.core s.waiters.items s.history.items;
@@ -77,7 +77,7 @@ impl Board {
         room: u64,
     ) -> Result<Board, (Core, NoMemory)>
         requires { IsWithin 1 64 sessions }
-        ensures ok { IfOk result (IsOpened core sessions room) }
+        ensures ok { IfOk result (IsNewBoard core sessions room) }
         ensures err { IfErr result (λ back. back.0 ≡ core) }
     {
         match reserve(alloc, &core, sessions, room) {
@@ -106,8 +106,8 @@ impl Board {
         requires session { IsWithin 1 self.old.sessions session }
         requires free { waiter_of self.old.on.waiters session ≡ None }
         requires room { length self.old.on.waiters < self.old.spare }
-        ensures asked { IsAsked self.old session request.now result self.new }
-        ensures kept { Keeps self.new }
+        ensures asked { IsBoardAsked self.old session request.now result self.new }
+        ensures kept { KeepsBoard self.new }
     {
         let cell = self.core.cell();
         refusal_law(cell);
@@ -124,8 +124,8 @@ impl Board {
     pub fn try_ask(&mut self, session: u16, request: &Request) -> Result<BoardReply, BoardFault>
         requires request { RequestFits self.old.cell request.now }
         requires session { IsWithin 1 self.old.sessions session }
-        ensures answer { Answers self.old session request.now result self.new }
-        ensures kept { Keeps self.new }
+        ensures answer { AnswersTry self.old session request.now result self.new }
+        ensures kept { KeepsBoard self.new }
     {
         if let Some(waiter) = self.waiter_of(session) {
             return Err(BoardFault::AlreadyWaits(waiter));
@@ -141,7 +141,7 @@ impl Board {
     /// Those that wait, in the order in which they began to.
     pub fn waiting(&self) -> &[Waiter]
         ensures waiters { result.now ≡ self.now.on.waiters }
-        ensures kept { Keeps self.now }
+        ensures kept { KeepsBoard self.now }
     {
         &self.waiters
     }
@@ -156,7 +156,7 @@ impl Board {
     /// What was told since the opening, in its order.
     pub fn history(&self) -> &[BoardEntry]
         ensures history { result.now ≡ self.now.on.history }
-        ensures kept { Keeps self.now }
+        ensures kept { KeepsBoard self.now }
     {
         self.history.as_slice()
     }
@@ -164,7 +164,7 @@ impl Board {
     /// The core, after the history.
     pub fn core(&self) -> &Core
         ensures core { result.now ≡ record { cell = self.now.cell; parts = self.now.on.parts } }
-        ensures kept { Keeps self.now }
+        ensures kept { KeepsBoard self.now }
     {
         &self.core
     }

@@ -12,9 +12,11 @@ returns-then-is_within_units c =
     let cell = c.args.table.now in
     let next : List Part = without c.args.tally.now.parts.items c.args.arrival.part.job ++ c.args.arrival.part ∷ [] in
     let within : is_within_units cell next ≡ true =
-    ap (λ parts. is_within_units cell (without parts c.args.arrival.part.job ++ c.args.arrival.part ∷ [])) (sym c.as_slice-parts.ensures.value)
+    ap (λ parts. is_within_units cell (without parts c.args.arrival.part.job ++ c.args.arrival.part ∷ []))
+    (sym c.as_slice-parts.ensures.value)
     ∙ sym c.is_within_units.ensures ∙ c.if-is_within_units.true in
     let none : stuck cell next ≡ 0 =
     ap (λ parts. stuck cell (without parts c.args.arrival.part.job ++ c.args.arrival.part ∷ [])) (sym c.as_slice-parts.ensures.value)
     ∙ sym c.stuck-stuck.ensures ∙ c.if-stuck-eq0.true in
-    sym (in_place-granted cell c.args.tally.now.parts.items c.args.arrival.part c.requires.tallied.state.distinct c.requires.tallied.state.standing c.requires.arrival.stage within none)
+    sym (in_place-granted cell c.args.tally.now.parts.items c.args.arrival.part
+    c.requires.tallied.state.distinct c.requires.tallied.state.standing c.requires.arrival.stage within none)

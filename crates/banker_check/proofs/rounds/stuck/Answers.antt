@@ -27,7 +27,8 @@ returns-then-next-held c =
     let parts : List Part = without c.args.parts.now c.args.last.job ++ c.args.last ∷ [] in
     let distinct = distinct-in_place c.args.parts.now c.args.last c.requires.distinct in
     let round = c.loop.invariant.0 in
-    sym (round-last c.args.table.now parts distinct round.0 c.loop.held c.round-next.result round.1 c.round-next.ensures c.if-next-held.true)
+    sym (round-last c.args.table.now parts distinct round.0 c.loop.held c.round-next.result round.1 c.round-next.ensures
+    c.if-next-held.true)
 
 pub loop-preserved : goal.loop-preserved
 loop-preserved c =
@@ -35,7 +36,10 @@ loop-preserved c =
     let parts : List Part = without c.args.parts.now c.args.last.job ++ c.args.last ∷ [] in
     let distinct = distinct-in_place c.args.parts.now c.args.last c.requires.distinct in
     let round = c.loop.invariant.0 in (
-      (counts_on cell c.loop.held.on false, round-next cell parts distinct round.0 c.loop.held c.round-next.result round.1 c.round-next.ensures),
+      (
+        counts_on cell c.loop.held.on false,
+        round-next cell parts distinct round.0 c.loop.held c.round-next.result round.1 c.round-next.ensures,
+      ),
       omega (
         arith,
         c.loop.invariant.1,

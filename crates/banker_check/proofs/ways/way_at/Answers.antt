@@ -11,5 +11,6 @@ returns-in-Some c =
     let s = stage_numbered cell c.args.stage.0 in
     let t = stage_numbered cell c.in-Some.next.0 in
     way_mask-next cell c.requires.fits s t c.resource_of.result.0 _ ((numbering_law cell).stages c.args.stage.0 c.requires.stage)
-    (sym c.in-Some.ensures.stage) c.resource_of.ensures.value (omega (arith, c.requires.fits.resource_count.1, c.resource_of.ensures.within))
+    (sym c.in-Some.ensures.stage) c.resource_of.ensures.value
+    (omega (arith, c.requires.fits.resource_count.1, c.resource_of.ensures.within))
     (c.requires.behind c.in-Some.next.0 (omega (arith, c.in-Some.ensures.later)) c.in-Some.ensures.within)

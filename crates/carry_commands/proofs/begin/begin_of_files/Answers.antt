@@ -4,7 +4,7 @@ use Rattle.cell_base.specs.declared.requests.Request.{Request}
 use Rattle.cell_walks.specs.DiskTold.{disk_told}
 use Rattle.cell_texts.specs.Tests.{known}
 use Rattle.cell_texts.proofs.Disks.{untouched}
-use Rattle.carry_commands.specs.Beginning.{EndsAtStart, IsBegunOnJournal, IsGrantedStart}
+use Rattle.carry_commands.specs.Beginning.{EndsBeforeJournal, IsBegunOnJournal, IsGrantedStart}
 use Rattle.carry_commands.proofs.Began.{begin_on_disk, begin_refused, begin_unread, begin_without_start}
 use Rattle.carry_commands.proofs.begin.begin_of_files.Goals as goal
 
@@ -36,7 +36,7 @@ returns-in-Err-check_start-clause-allowed g c =
     c.in-Err-check_start.end
     (untouched g.D.Disk.reads_as g.D.Disk.may_leave g.D.Disk.moment g.D.Disk.left_since g.D.Disk.faults c.args.disk
     (g.met.D.Disk.only_now c.args.disk))
-    (subst (λ (requests : List Request). EndsAtStart c.in-Ok.held.cell requests c.in-Err-check_start.end) c.as_slice.ensures
+    (subst (λ (requests : List Request). EndsBeforeJournal c.in-Ok.held.cell requests c.in-Err-check_start.end) c.as_slice.ensures
     c.in-Err-check_start.ensures.ended)
 
 pub returns-in-Ok-check_start-clause-allowed : goal.returns-in-Ok-check_start-clause-allowed

@@ -2,19 +2,19 @@
 use Rattle.std.proofs.Common.{◌≡◌, ◌+◌, ◌∷◌, [], ◌++◌, ℕ, List, length, length-append, append_assoc, arith, sym, ap, ◌∙◌, subst}
 use Rattle.cell_lock.specs.declared.board.View.{View}
 use Rattle.cell_lock.specs.Views.{AtSeat, gathered, passing}
-use Rattle.cell_lock.specs.Standing.{LockId, Standing, AreNumbered}
+use Rattle.cell_lock.specs.Standing.{LockId, Standing, ArePassesNumbered}
 use Rattle.cell_lock.specs.Steps.{lock_of, gathering}
 use Rattle.cell_lock.proofs.Gathering.{numbered_at, gathered_more}
 use Rattle.cell_lock.proofs.setting.gather.Goals as goal
 
 -- the last of the passes that are left is of the lock, and has the number before those that have come together
 last_left : {D : Type 0} (lock : LockId D) (left new done all : List (Standing D)) (p : Standing D) → left ++ done ≡ all
-    → left ≡ new ++ p ∷ [] → AreNumbered lock 1 all
+    → left ≡ new ++ p ∷ [] → ArePassesNumbered lock 1 all
     → (new ++ p ∷ done ≡ all) × (p.lock ≡ lock) × (p.number ≡ length new + 1) × (length left ≡ length new + 1)
 last_left {D} lock left new done all p together pops numbered =
     let whole : new ++ p ∷ done ≡ all =
     sym (append_assoc new (p ∷ []) done) ∙ (ap (λ (l : List (Standing D)). l ++ done) (sym pops) ∙ together) in
-    let t = numbered_at lock 1 new done p (subst (λ (l : List (Standing D)). AreNumbered lock 1 l) (sym whole) numbered) in
+    let t = numbered_at lock 1 new done p (subst (λ (l : List (Standing D)). ArePassesNumbered lock 1 l) (sym whole) numbered) in
     let one : 1 + length new ≡ length new + 1 = omega arith in
     (whole, t.0, t.1 ∙ one, ap (λ (l : List (Standing D)). length l) pops ∙ length-append new (p ∷ []))
 

@@ -5,12 +5,12 @@ use Rattle.cell_base.specs.declared.shifts.Grant.{Grant}
 use Rattle.outside_io.specs.Puts.{sink_told}
 use Rattle.outside_io.specs.Source.{source_told}
 use Rattle.serve_command.specs.Conversing.{IsConversing}
-use Rattle.serve_command.specs.Rounds.{StandsAfter, IsReady}
+use Rattle.serve_command.specs.Rounds.{StandsAfter, HasNoGroup}
 use Rattle.serve_command.proofs.serving.converse.Given as goal
 
 abbrev pub invariant-loop-round : goal.invariant-loop-round
 invariant-loop-round g l = record {
-  ready : IsReady l.server;
+  ready : HasNoGroup l.server;
   few : l.server.asked ≤ 512 * l._round;
   goes_on : (cell_text : List ℕ) (opening : List Grant)
       → StandsAfter g.D.Disk.reads_as g.D.Disk.may_leave cell_text opening l.fn.server

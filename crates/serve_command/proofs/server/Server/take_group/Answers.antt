@@ -2,7 +2,7 @@
 use Rattle.std.proofs.Common.{List, ℕ, ap, arith, length, map, subst, sym, ◌∙◌}
 use Rattle.admission_core.specs.CoreState.{CoreState}
 use Rattle.serve_command.specs.Asks.{ask_of}
-use Rattle.serve_command.specs.Rounds.{IsGroup, Stays}
+use Rattle.serve_command.specs.Rounds.{IsAnsweredGroup, Stays}
 use Rattle.serve_command.specs.declared.server.Server.{Server}
 use Rattle.serve_command.proofs.Asking.{ask_of-kept}
 use Rattle.serve_command.proofs.Taking.{begins, finds_full, one_more, stays_more, stays_same}
@@ -56,7 +56,7 @@ returns-in-Err-clause-taken g c = λ grants text given at reads.
     let cell_is = c.cell.ensures.cell ∙ ap (λ (s : CoreState). s.cell) c.core.ensures.core ∙ so.1.cell_is in
     let ask_is = c.read_ask-ask.ensures.ask ∙ (λ i. ask_of (cell_is i) ((c.line.ensures ∙ line.1) i)) ∙ ask_of-kept cell line.0 in (
       so.0,
-      subst (λ (s : Server _). IsGroup cell grants old.asked (map (ask_of cell) so.0) s) (sym c.in-Err.ensures.same) so.1,
+      subst (λ (s : Server _). IsAnsweredGroup cell grants old.asked (map (ask_of cell) so.0) s) (sym c.in-Err.ensures.same) so.1,
       (line.0, line.2, finds_full cell grants old.asked text given so.0 _ so.1 line.0 _ ask_is (c.in-Err.ensures.full _ so.1.at)),
     )
 
