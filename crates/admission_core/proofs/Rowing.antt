@@ -6,7 +6,7 @@ use Rattle.std.proofs.lemmas.Bool.{false≢true, true≢false, ne_eqb}
 use Rattle.std.proofs.lemmas.Option.{none-some}
 use Rattle.part_table.proofs.Places.{get_in_push}
 use Rattle.cell_base.specs.declared.cells.Cell.{Cell}
-use Rattle.cell_base.specs.Stages.{Stage, stage, IsStage, stages, successor}
+use Rattle.cell_base.specs.Stages.{Stage, stage, IsStage, successor}
 use Rattle.cell_base.specs.Numbers.{number_of, stage_numbered}
 use Rattle.cell_base.specs.Plans.{work_from}
 use Rattle.policy_laws.proofs.Numbering.{numbering_law}

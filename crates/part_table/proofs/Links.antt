@@ -142,7 +142,8 @@ module _ (keys next last : List ℕ) (room key : ℕ) (are : AreLinked keys next
   -- another place keeps its next one
   other_place : (k : ℕ) → (get_or next k 0 < length given) ⊎ (key ≡ get_or given k 0 → ⊥) → k < length given
       → get_or given k 0 < length last → IsNextOf (given ++ key ∷ []) room (get_or given k 0) k (get_or next k 0)
-  other_place k either inside lane = next_kept given key room (get_or given k 0) room_left k (get_or next k 0) either (are.lead.each k inside lane)
+  other_place k either inside lane =
+      next_kept given key room (get_or given k 0) room_left k (get_or next k 0) either (are.lead.each k inside lane)
 
   -- another place of the same key has a next one already
   has_next : key < length last → (k : ℕ) → k < length given → get_or given k 0 < length last → (k ≡ get_or last key 0 → ⊥)
@@ -156,7 +157,8 @@ module _ (keys next last : List ℕ) (room key : ℕ) (are : AreLinked keys next
       none far = ⊎_elim
           (λ (there : get_or last key 0 < length given). ⊎_elim
           (λ (later : k < get_or last key 0).
-          absurd ((are.lead.each k inside below).between (get_or last key 0) later (omega (arith, there, far)) there (least.here there ∙ is)))
+          absurd
+          ((are.lead.each k inside below).between (get_or last key 0) later (omega (arith, there, far)) there (least.here there ∙ is)))
           (λ (other : get_or last key 0 ≤ k).
           absurd (least.behind k (omega (arith, other, away)) inside (sym is)))
           (cases_lt k (get_or last key 0)))

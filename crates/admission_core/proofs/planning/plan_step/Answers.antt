@@ -53,8 +53,9 @@ found cell same parts r o part e first is =
 pub step_of-requires : goal.step_of-requires
 step_of-requires c =
     All-found (λ part. IsStage c.args.table.now (stage_of part)) (λ part. resource_of_part c.args.table.now part == c.at.result.0)
-    c.args.tally.now.parts.parts c.in-Some.part c.requires.sound.admitted.state.standing (found c.args.table.now c.args.tally.now.parts.cell c.args.tally.now.parts.parts c.at.result c.first_on.result c.in-Some.part
-    c.requires.sound.tallied.same_cell c.first_on.ensures c.in-Some.is)
+    c.args.tally.now.parts.parts c.in-Some.part c.requires.sound.admitted.state.standing
+    (found c.args.table.now c.args.tally.now.parts.cell c.args.tally.now.parts.parts c.at.result c.first_on.result
+    c.in-Some.part c.requires.sound.tallied.same_cell c.first_on.ensures c.in-Some.is)
 
 pub returns-in-Some : goal.returns-in-Some
 returns-in-Some c =
@@ -71,8 +72,9 @@ returns-in-Some c =
     (picked cell c.requires.sound.fits marked.ranks c.requires.marked.ranking parts c.requires.sound.admitted.state.standing rank
     c.at.result within (get_or_from_slice_get marked.ranks rank c.at.result c.at.result c.at.ensures)
     (free_below cell parts marked c.loop-left.left c.loop-left.invariant (omega arith) (omega arith))
-    c.in-Some.part (found c.args.table.now c.args.tally.now.parts.cell c.args.tally.now.parts.parts c.at.result c.first_on.result c.in-Some.part
-    c.requires.sound.tallied.same_cell c.first_on.ensures c.in-Some.is)))
+    c.in-Some.part
+    (found c.args.table.now c.args.tally.now.parts.cell c.args.tally.now.parts.parts c.at.result c.first_on.result
+    c.in-Some.part c.requires.sound.tallied.same_cell c.first_on.ensures c.in-Some.is)))
 
 pub returns : goal.returns
 returns c =

@@ -1,5 +1,5 @@
 -- Each look-up tells of the stage of this number.
-use Rattle.std.proofs.Common.{◌≡◌, ℕ, List, length, get_or, ap, subst, sym, arith, ◌∙◌}
+use Rattle.std.proofs.Common.{ℕ, List, length, get_or, ap, subst, sym, arith, ◌∙◌}
 use Rattle.cell_base.specs.declared.cells.Cell.{Cell}
 use Rattle.cell_base.specs.Stages.{Stage, stage, IsStage}
 use Rattle.cell_base.specs.Numbers.{stage_numbered}
