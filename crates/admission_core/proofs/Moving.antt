@@ -1,8 +1,9 @@
 -- What is known of the part of a job, and of the replies to what it asks for.
-use Rattle.std.proofs.Common.{◌≡◌, ℕ, ◌<◌, Bool, true, false, ◌&&◌, List, length, Contains}
+use Rattle.std.proofs.Common.{◌≡◌, ℕ, ◌<◌, Bool, true, false, not, ◌&&◌, List, length, Contains}
 use Rattle.std.proofs.Common.{Option, Some, None, find, ap, refl, sym, ◌∙◌, arith}
 use Rattle.std.specs.List.{list_any, range_with_len}
-use Rattle.std.specs.Option.{option_map, option_map_or}
+use Rattle.std.specs.Option.{option_map, option_map_or, is_some}
+use Rattle.std.proofs.lemmas.Bool.{true≢false}
 use Rattle.std.proofs.lemmas.Option.{none-some, same_Some}
 use Rattle.std.proofs.lemmas.List.FromFn.{length-range_with_len, get_or-range_with_len}
 use Rattle.cell_base.specs.declared.cells.Cell.{Cell}
@@ -64,6 +65,10 @@ admit_reply cell parts next = at (first_over cell next)
 pub none_left : {X : Type 0} (o : Option X) → ((x : X) → o ≡ Some x → ⊥) → o ≡ None
 none_left None away = refl
 none_left (Some x) away = absurd (away x refl)
+
+pub none_flagged : {X : Type 0} (o : Option X) (b : Bool) → is_some o ≡ not b → b ≡ true → o ≡ None
+none_flagged None b e f = refl
+none_flagged (Some x) b e f = absurd (true≢false (e ∙ ap not f))
 
 -- what a number is mapped to
 pub some_resource : (o : Option ℕ) (at : ResId) → Some at ≡ option_map (λ r. let q : ResId = record { 0 = r } in q) o → o ≡ Some at.0

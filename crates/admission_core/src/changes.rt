@@ -1,35 +1,40 @@
 //! The changes of granted requests.
-ghost use Rattle.std.specs.Prelude.{◌≡◌, ◌++◌, ◌∷◌, [], Some, None};
+ghost use Rattle.std.specs.Prelude.{◌≡◌, ◌<◌, ◌++◌, ◌∷◌, [], length, Some, None};
 ghost use Rattle.cell_base.specs.Policy.{first_over};
 ghost use Rattle.cell_base.specs.Outcomes.{finish_first, is_waiting_on, outcome_of_entry, outcome_of_move, without};
 ghost use Rattle.admission_core.specs.Clauses.{Granted, IsStage, Process, RequestFits, part_of, reply_to, stage_of, state_after};
 ghost use Rattle.admission_core.specs.CoreState.{IsSound, IsTallied};
+ghost use Rattle.admission_core.specs.Occupied.{IsMarked};
 
 use crate::lead_table::LeadTable;
+use crate::occupied::Occupied;
 use crate::tally::Tally;
 use cell_base::{JobId, Part, Request, ResId};
 
 /// The change of a granted request.
-pub fn apply(table: &LeadTable, tally: &mut Tally, request: &Request)
+pub fn apply(table: &LeadTable, tally: &mut Tally, occupied: &mut Occupied, request: &Request)
     requires sound { IsSound table.now tally.old }
+    requires marked { IsMarked table.now tally.old.parts.parts occupied.old }
     requires request { RequestFits table.now request.now }
     requires granted { reply_to table.now tally.old.parts.parts request.now ≡ Granted }
     ensures parts { tally.new.parts.parts ≡ state_after table.now tally.old.parts.parts request.now }
     ensures tallied { IsTallied table.now tally.new }
+    ensures marked { IsMarked table.now tally.new.parts.parts occupied.new }
 {
     match *request {
-        Request::Load { job, kind } => enter(table, tally, table.entry(job, kind)),
+        Request::Load { job, kind } => come_in(table, tally, occupied, table.entry(job, kind)),
         Request::Process { machine } => finish_first_on(table, tally, machine),
-        Request::Move { job, branch } => go_on(table, tally, job, branch),
-        Request::Unload { job } => leave(table, tally, job),
+        Request::Move { job, branch } => go_on(table, tally, occupied, job, branch),
+        Request::Unload { job } => leave(table, tally, occupied, job),
         Request::Place {
             job,
             kind,
             place,
             done,
-        } => enter(
+        } => come_in(
             table,
             tally,
+            occupied,
             Part {
                 job,
                 kind,
@@ -38,6 +43,20 @@ pub fn apply(table: &LeadTable, tally: &mut Tally, request: &Request)
             },
         ),
     }
+}
+
+/// A part that is granted to enter comes to its resource.
+fn come_in(table: &LeadTable, tally: &mut Tally, occupied: &mut Occupied, part: Part)
+    requires sound { IsSound table.now tally.old }
+    requires marked { IsMarked table.now tally.old.parts.parts occupied.old }
+    requires stage { IsStage table.now (stage_of part) }
+    requires granted { (outcome_of_entry table.now tally.old.parts.parts part).0 ≡ Granted }
+    ensures parts { tally.new.parts.parts ≡ (outcome_of_entry table.now tally.old.parts.parts part).1 }
+    ensures tallied { IsTallied table.now tally.new }
+    ensures marked { IsMarked table.now tally.new.parts.parts occupied.new }
+{
+    enter(table, tally, part);
+    occupied.mark(table.resource_at(part));
 }
 
 /// A part that is granted to enter.
@@ -67,18 +86,50 @@ fn finish_first_on(table: &LeadTable, tally: &mut Tally, machine: ResId)
 }
 
 /// A part that is granted to go on.
-fn go_on(table: &LeadTable, tally: &mut Tally, job: JobId, branch: u16)
+fn go_on(table: &LeadTable, tally: &mut Tally, occupied: &mut Occupied, job: JobId, branch: u16)
     requires sound { IsSound table.now tally.old }
+    requires marked { IsMarked table.now tally.old.parts.parts occupied.old }
     requires granted { (outcome_of_move table.now tally.old.parts.parts (part_of tally.old.parts.parts job) branch).0 ≡ Granted }
     ensures parts { tally.new.parts.parts
         ≡ (outcome_of_move table.now tally.old.parts.parts (part_of tally.old.parts.parts job) branch).1 }
     ensures tallied { IsTallied table.now tally.new }
+    ensures marked { IsMarked table.now tally.new.parts.parts occupied.new }
 {
     if let Some(part) = tally.parts.get(job) {
         if let Some(place) = table.next_place(part, branch) {
             let next = table.arrival(part.job, part.kind, place);
-            put_on(table, tally, part, next);
+            pass_on(table, tally, occupied, part, next);
         }
+    }
+}
+
+/// A part goes on from its resource to the next one.
+fn pass_on(table: &LeadTable, tally: &mut Tally, occupied: &mut Occupied, part: Part, next: Part)
+    requires sound { IsSound table.now tally.old }
+    requires marked { IsMarked table.now tally.old.parts.parts occupied.old }
+    requires found { part_of tally.old.parts.parts part.job ≡ Some part }
+    requires same { next ≡ record part { place = next.place; done = next.done } }
+    requires stage { IsStage table.now (stage_of next) }
+    requires room { first_over table.now (without tally.old.parts.parts part.job ++ next ∷ []) ≡ None }
+    ensures parts { tally.new.parts.parts ≡ without tally.old.parts.parts part.job ++ next ∷ [] }
+    ensures tallied { IsTallied table.now tally.new }
+    ensures marked { IsMarked table.now tally.new.parts.parts occupied.new }
+{
+    let from = table.resource_at(part);
+    put_on(table, tally, part, next);
+    occupied.mark(table.resource_at(next));
+    unmark_free(table, tally, occupied, from);
+}
+
+/// A resource that a part has left is marked no longer where no other part stands there.
+fn unmark_free(table: &LeadTable, tally: &Tally, occupied: &mut Occupied, from: ResId)
+    requires from { from.0 < length table.now.resources }
+    requires tallied { IsTallied table.now tally.now }
+    requires marked { IsMarked table.now tally.now.parts.parts occupied.old }
+    ensures { IsMarked table.now tally.now.parts.parts occupied.new }
+{
+    if tally.parts.first_on(from).is_none() {
+        occupied.unmark(from);
     }
 }
 
@@ -100,13 +151,17 @@ fn put_on(table: &LeadTable, tally: &mut Tally, part: Part, next: Part)
 }
 
 /// The part of a job leaves the cell.
-fn leave(table: &LeadTable, tally: &mut Tally, job: JobId)
+fn leave(table: &LeadTable, tally: &mut Tally, occupied: &mut Occupied, job: JobId)
     requires sound { IsSound table.now tally.old }
+    requires marked { IsMarked table.now tally.old.parts.parts occupied.old }
     ensures parts { tally.new.parts.parts ≡ without tally.old.parts.parts job }
     ensures tallied { IsTallied table.now tally.new }
+    ensures marked { IsMarked table.now tally.new.parts.parts occupied.new }
 {
     if let Some(part) = tally.parts.get(job) {
+        let from = table.resource_at(part);
         take_out(table, tally, part);
+        unmark_free(table, tally, occupied, from);
     }
 }
 

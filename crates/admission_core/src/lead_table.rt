@@ -5,7 +5,9 @@ ghost use Rattle.cell_base.specs.Neighborhoods.{mask_of, masks_of};
 ghost use Rattle.cell_base.specs.Outcomes.{arrival};
 ghost use Rattle.cell_base.specs.Plans.{work_of};
 ghost use Rattle.cell_base.specs.Fits.{CellFits};
+ghost use Rattle.admission_core.specs.Rows.{IsRowOf};
 
+use crate::stage_rows::{Row, rows};
 use cell_base::{Cell, JobId, NoMemory, Part, ResId, TypeId};
 use route_table::StageTable;
 use std::alloc::Global;
@@ -17,18 +19,21 @@ use upstream_sets::Upstream;
 pub struct LeadTable {
     stages: StageTable,
     upstream: Upstream,
+    /// By stage, what is looked up of it at each request.
+    rows: Vec<Row>,
 }
 
 impl Model for LeadTable {
     ghost use Rattle.std.specs.Prelude.{◌≡◌};
     ghost use Rattle.cell_base.specs.declared.cells.Cell.{Cell};
     ghost use Rattle.cell_base.specs.Neighborhoods.{masks_of};
+    ghost use Rattle.admission_core.specs.Rows.{AreRows};
 
     ghost Value = { Cell };
 
     ghost view = { λ s. s.stages };
 
-    ghost invariant = { λ s. s.upstream ≡ masks_of s.stages };
+    ghost invariant = { λ s. (s.upstream ≡ masks_of s.stages) × AreRows s.stages s.rows.items };
 }
 
 impl LeadTable {
@@ -39,7 +44,12 @@ impl LeadTable {
     {
         let stages = StageTable::new(alloc, cell)?;
         let upstream = Upstream::new(alloc, &stages)?;
-        Ok(LeadTable { stages, upstream })
+        let rows = rows(alloc, &stages, &upstream)?;
+        Ok(LeadTable {
+            stages,
+            upstream,
+            rows,
+        })
     }
 
     /// The cell.
@@ -64,13 +74,21 @@ impl LeadTable {
         &self.upstream
     }
 
+    /// The row of the stage at a place.
+    fn row(&self, kind: TypeId, place: u16) -> Row
+        requires { IsStage self.now (stage kind.0 place) }
+        ensures { IsRowOf self.now (stage kind.0 place) result }
+    {
+        let stage = self.stages.number(kind, place);
+        self.rows[stage.0 as usize]
+    }
+
     /// The mask of a part's stage.
     pub fn mask(&self, part: Part) -> u64
         requires { IsStage self.now (stage_of part) }
         ensures { result ≡ mask_of self.now (stage_of part) }
     {
-        let stage = self.stages.number(part.kind, part.place);
-        self.upstream.mask(stage)
+        self.row(part.kind, part.place).mask
     }
 
     /// The resource of a part's stage.
@@ -79,7 +97,7 @@ impl LeadTable {
         ensures value { result.0 ≡ resource_at self.now (stage_of part) }
         ensures within { result.0 < length self.now.resources }
     {
-        self.stages.cell().resource_at(part.kind, part.place)
+        self.row(part.kind, part.place).on
     }
 
     /// The steps that a part needs until it is out.
@@ -87,8 +105,8 @@ impl LeadTable {
         requires { IsStage self.now (stage_of part) }
         ensures { result ≡ work_of self.now part }
     {
-        let stage = self.stages.number(part.kind, part.place);
-        u64::from(self.stages.remaining(stage, part.done))
+        let left = u64::from(self.row(part.kind, part.place).left);
+        if part.done { left } else { left + 1 }
     }
 
     /// Whether a part stands at a last stage.
@@ -96,7 +114,7 @@ impl LeadTable {
         requires { IsStage self.now (stage_of part) }
         ensures { result ≡ is_last self.now (stage_of part) }
     {
-        self.cell().is_last(part.kind, part.place)
+        self.row(part.kind, part.place).first.is_none()
     }
 
     /// The place to which a part goes by a branch.
@@ -105,15 +123,24 @@ impl LeadTable {
         ensures successor { option_map (stage part.kind.0) result ≡ successor self.now (stage_of part) branch }
         ensures within { IfSome result (λ place. IsStage self.now (stage part.kind.0 place)) }
     {
-        self.cell().successor(part.kind, part.place, branch)
+        if branch == 0 {
+            self.row(part.kind, part.place).first
+        } else {
+            self.cell().successor(part.kind, part.place, branch)
+        }
     }
 
-    /// A part that arrives at a place.
+    /// A part that arrives at a place: it is done at once where the stage does not work.
     pub fn arrival(&self, job: JobId, kind: TypeId, place: u16) -> Part
         requires { IsStage self.now (stage kind.0 place) }
         ensures { result ≡ arrival self.now job kind place }
     {
-        arrival(self.cell(), job, kind, place)
+        Part {
+            job,
+            kind,
+            place,
+            done: !self.row(kind, place).works,
+        }
     }
 
     /// A part that arrives at the first place of its route.
@@ -122,19 +149,7 @@ impl LeadTable {
         ensures value { result ≡ arrival self.now job kind 0 }
         ensures stage { IsStage self.now (stage_of result) }
     {
-        arrival(self.cell(), job, kind, 0)
-    }
-}
-
-/// A part that arrives at a stage of a cell: it is done at once where the stage does not work.
-fn arrival(cell: &Cell, job: JobId, kind: TypeId, place: u16) -> Part
-    requires { IsStage cell.now (stage kind.0 place) }
-    ensures { result ≡ arrival cell.now job kind place }
-{
-    Part {
-        job,
-        kind,
-        place,
-        done: !cell.works_at(kind, place),
+        let _cell = self.cell();
+        self.arrival(job, kind, 0)
     }
 }

@@ -84,3 +84,11 @@ module _ (keys first : List ℕ) (room key : ℕ) (are : AreFirst keys first roo
         within = omega (arith, more, length_push keys key);
         small = are.small;
       }
+
+pub length-noted : (first : List ℕ) (key place : ℕ) → length (noted first key place) ≡ length first
+length-noted first key place = by (nat_lt key (length first)) (nat_le place (get_or first key 0))
+  where
+    by : (a b : Bool) → length (cond (a && b) (set first key place) first) ≡ length first
+    by true true = length-set first key place
+    by true false = refl
+    by false b = refl

@@ -1,4 +1,5 @@
 pub mod Firsts
+pub mod Links
 pub mod Places
 pub mod Logs
 pub mod Staying

@@ -2,7 +2,7 @@
 ghost use Rattle.std.specs.Prelude.{◌≡◌, ◌≢◌, ℕ, ◌+◌, ◌<◌, ◌≤◌, ◌∷◌, ◌++◌, [], length, slice_index};
 ghost use Rattle.std.specs.Prelude.{slice_set, MatchOption, IfOk, vec_capacity};
 ghost use Rattle.part_table.specs.declared.heads.TheConstants.{OFF, NOWHERE};
-ghost use Rattle.part_table.specs.Heads.{IsFirst, noted};
+ghost use Rattle.part_table.specs.Heads.{IsFirst, IsGiven, noted, lasted, linked};
 
 use cell_base::NoMemory;
 use std::alloc::Global;
@@ -15,21 +15,31 @@ pub const OFF: u16 = u16::MAX;
 const NOWHERE: u32 = u32::MAX;
 
 /// A list of keys, each a resource or `OFF`, and for each resource its first place.
+///
+/// The places that a resource was given are linked in their order, also those that were taken off, so that the next place of a
+/// resource is found by one step for each place of it that was taken off before.
 #[derive(Drop)]
 pub struct Heads {
     keys: Vec<u16>,
+    /// By place, the next one that was given the same resource.
+    next: Vec<u32>,
     first: Vec<u32>,
+    /// By resource, the last place that was given it.
+    last: Vec<u32>,
 }
 
 impl Model for Heads {
-    ghost use Rattle.std.specs.Prelude.{length, vec_capacity};
-    ghost use Rattle.part_table.specs.Heads.{Keyed, AreFirst};
+    ghost use Rattle.std.specs.Prelude.{◌≡◌, length, vec_capacity};
+    ghost use Rattle.part_table.specs.Heads.{Keyed, AreFirst, AreLinked};
 
     ghost Value = { Keyed };
 
     ghost view = { λ s. record { keys = s.keys.items; resources = length s.first.items; room = vec_capacity s.keys } };
 
-    ghost invariant = { λ s. AreFirst s.keys.items s.first.items (vec_capacity s.keys) };
+    ghost invariant = { λ s. AreFirst s.keys.items s.first.items (vec_capacity s.keys)
+        × AreLinked s.keys.items s.next.items s.last.items (vec_capacity s.keys)
+        × (length s.last.items ≡ length s.first.items)
+        × (vec_capacity s.next ≡ vec_capacity s.keys) };
 }
 
 /// The place is the first one of its key, where that key had none.
@@ -42,16 +52,35 @@ fn note(first: &mut Vec<u32>, key: u16, at: u32)
     }
 }
 
-/// The first place of a key, where none before `from` has it.
-fn seek(keys: &[u16], from: usize, key: u16) -> u32
+/// The place is the last one of its key, and the next one of the place that was the last.
+fn link(last: &mut Vec<u32>, next: &mut Vec<u32>, key: u16, at: u32)
+    ensures last { last.new.items ≡ lasted last.old.items key at }
+    ensures next { next.new.items ≡ linked next.old.items last.old.items key at }
+    ensures room { vec_capacity next.new ≡ vec_capacity next.old }
+{
+    let lane = key as usize;
+    if lane < last.len() {
+        let before = last[lane] as usize;
+        if before < next.len() {
+            next[before] = at;
+        }
+        last[lane] = at;
+    }
+}
+
+/// The first place of a key, where none up to `from` has it, and `from` was given it.
+fn seek(keys: &[u16], next: &[u32], from: u32, key: u16) -> u32
     requires few { length keys.now ≤ NOWHERE }
-    requires none { (k : ℕ) → k < from → k < length keys.now → slice_index keys.now k ≢ key }
+    requires given { IsGiven keys.now next.now key from }
+    requires none { (k : ℕ) → k ≤ from → k < length keys.now → slice_index keys.now k ≢ key }
     ensures { IsFirst key keys.now NOWHERE result }
 {
-    for at in from..keys.len() {
-        if keys[at] == key {
-            return at as u32;
+    let mut at = next[from as usize];
+    while (at as usize) < keys.len() {
+        if keys[at as usize] == key {
+            return at;
         }
+        at = next[at as usize];
     }
     NOWHERE
 }
@@ -66,7 +95,9 @@ impl Heads {
     {
         Ok(Heads {
             keys: Vec::with_capacity(alloc, n as usize)?,
+            next: Vec::with_capacity(alloc, n as usize)?,
             first: vec![in alloc; NOWHERE; resources as usize]?,
+            last: vec![in alloc; NOWHERE; resources as usize]?,
         })
     }
 
@@ -77,8 +108,11 @@ impl Heads {
         ensures resources { self.new.resources ≡ self.old.resources }
         ensures room { self.new.room ≡ self.old.room }
     {
-        note(&mut self.first, key, self.keys.len() as u32);
+        let at = self.keys.len() as u32;
+        note(&mut self.first, key, at);
+        link(&mut self.last, &mut self.next, key, at);
         self.keys.push_reserved(key);
+        self.next.push_reserved(NOWHERE);
     }
 
     /// No resource stands at a place any more.
@@ -92,7 +126,7 @@ impl Heads {
         self.keys[at as usize] = OFF;
         let lane = key as usize;
         if lane < self.first.len() && self.first[lane] == at {
-            let next = seek(&self.keys, at as usize, key);
+            let next = seek(&self.keys, &self.next, at, key);
             self.first[lane] = next;
         }
     }
@@ -104,7 +138,9 @@ impl Heads {
         ensures room { self.new.room ≡ self.old.room }
     {
         self.keys.clear();
+        self.next.clear();
         self.first.as_mut_slice().fill(NOWHERE);
+        self.last.as_mut_slice().fill(NOWHERE);
     }
 
     /// The first place of a resource.

@@ -16,10 +16,9 @@
 //! gone, and the entries that stay are moved together when the log is full, once in about three times as many arrivals as
 //! there may be parts. A hash table finds the entry of a job, and a list of first places the first entry of a resource, all
 //! and those that wait. So `get`, `first_on`, `first_waiting`, `finish`, `finish_first`, `len` and `spare` take a step or two.
-//! `arrive`, `advance` and `depart` take a few, of which `advance` looks its job up once. The entries of a resource are linked, also
-//! those that have gone, so where its first part goes the next is found by a step for each of its entries between them. `nth` goes through the log, and so does `listed`, once for all parts. In the plan that
-//! empties a cell of 4,096 parts over 64 resources all changes, with those of the counts, take some 180 instructions a step
-//! (November 2026).
+//! `arrive`, `advance` and `depart` take a few, of which `advance` looks its job up once; and where the first part of a
+//! resource goes, the next one is found along links between the entries of that resource, by one step for each of them that
+//! is gone. `nth` goes through the log, and so does `listed`, once for all parts.
 #![tactic(auto)]
 
 mod arrivals;

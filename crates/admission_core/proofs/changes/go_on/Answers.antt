@@ -5,8 +5,8 @@ use Rattle.cell_base.specs.Outcomes.{part_of}
 use Rattle.admission_core.proofs.Moving.{part_known}
 use Rattle.admission_core.proofs.changes.go_on.Goals as goal
 
-pub put_on-requires-clause-found : goal.put_on-requires-clause-found
-put_on-requires-clause-found c =
+pub pass_on-requires-clause-found : goal.pass_on-requires-clause-found
+pass_on-requires-clause-found c =
     let parts = c.args.tally.now.parts.parts in
     let found : part_of parts c.args.job ≡ Some c.in-Some.part = sym c.get.ensures.part ∙ c.in-Some.is in
     let known = part_known c.args.table.now parts c.args.job c.in-Some.part c.requires.sound.admitted found in

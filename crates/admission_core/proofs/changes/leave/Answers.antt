@@ -1,8 +1,11 @@
 -- The part of the job, or none.
-use Rattle.std.proofs.Common.{◌≡◌, Some, ap, subst, sym, ◌∙◌}
+use Rattle.std.proofs.Common.{◌≡◌, List, Some, ap, subst, sym, ◌∙◌}
 use Rattle.cell_base.specs.declared.requests.JobId.{JobId}
+use Rattle.cell_base.specs.declared.requests.Part.{Part}
 use Rattle.cell_base.specs.Outcomes.{part_of, without}
 use Rattle.policy_laws.proofs.Granting.{without-absent}
+use Rattle.admission_core.specs.Occupied.{IsMarked}
+use Rattle.admission_core.proofs.Marking.{marked_without}
 use Rattle.admission_core.proofs.Moving.{part_known, not_found, none_left}
 use Rattle.admission_core.proofs.changes.leave.Goals as goal
 
@@ -25,3 +28,13 @@ returns-in_default-clause-parts c =
     let parts = c.args.tally.now.parts.parts in
     sym (without-absent parts c.args.job
     (not_found parts c.args.job (sym c.get.ensures.part ∙ none_left c.get.result c.in_default.not-Some)))
+
+pub resource_at-from-requires : goal.resource_at-from-requires
+resource_at-from-requires c =
+    (part_known c.args.table.now c.args.tally.now.parts.parts c.args.job c.in-Some.part c.requires.sound.admitted
+    (sym c.get.ensures.part ∙ c.in-Some.is)).stage
+
+pub unmark_free-requires-clause-marked : goal.unmark_free-requires-clause-marked
+unmark_free-requires-clause-marked c =
+    subst (λ (parts : List Part). IsMarked c.args.table.now parts c.args.occupied.now) (sym c.take_out.ensures.parts)
+    (marked_without c.args.table.now c.args.tally.now.parts.parts c.args.occupied.now c.requires.marked c.in-Some.part.job)
