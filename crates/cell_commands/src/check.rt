@@ -3,7 +3,7 @@ ghost use Rattle.std.specs.Prelude.{◌≡◌};
 ghost use Rattle.cell_walks.specs.Clauses.{Ends, IsAllowed, IsDelivered, IsTaken, disk_told, files_told, no_disk, observed, sink_told};
 ghost use Rattle.cell_commands.specs.Check.{check, checked_outcome, verdict_status};
 
-use cell_texts::{CommandEnd, read_cell, read_record, verdict_line};
+use cell_texts::{CommandEnd, check_record, read_cell, verdict_line};
 use cell_walks::{EarlyEnd, Status, finish, finish_early};
 use outside_io::{Disk, Files, Sink};
 use shift_checker::Verdict;
@@ -50,13 +50,7 @@ fn verdict_of_files<F: Files>(
         IsAllowed (observed files no_disk) (check cell.now record_file.now) (checked_outcome result) }
 {
     match read_cell(alloc, files, cell) {
-        Ok(held) => match read_record(alloc, files, &held.cell, record_file) {
-            Ok(blocks) => match shift_checker::check(alloc, &held.cell, &blocks) {
-                Ok(verdict) => Ok(verdict),
-                Err(_) => Err(EarlyEnd::WantOfMemory),
-            },
-            Err(end) => Err(end),
-        },
+        Ok(held) => check_record(alloc, files, &held.cell, record_file),
         Err(end) => Err(end),
     }
 }

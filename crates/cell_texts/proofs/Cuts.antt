@@ -12,6 +12,8 @@ use Rattle.toml_walk.specs.declared.faults.DocumentFault.TheVariants.{TooMany}
 use Rattle.cell_base.specs.Faults.{◌>>=◌}
 use Rattle.cell_file.specs.Faults.{looked}
 use Rattle.cell_file.specs.Walk.{cell_of, cell_of_text}
+use Rattle.shift_checker.specs.declared.verdict.Verdict.{Verdict}
+use Rattle.shift_checker.specs.Judging.{IsVerdictOn}
 use Rattle.shift_file.specs.Walk.{shift_of}
 use Rattle.cell_base.specs.declared.shifts.Shift.{Shift}
 use Rattle.toml_walk.specs.Outcomes.{GivesOr}
@@ -32,6 +34,7 @@ use Rattle.cell_walks.specs.Observed.{FilesTold, ShowsFile}
 use Rattle.cell_walks.specs.Walks.{end_with}
 use Rattle.cell_walks.specs.declared.early_end.Subject.TheVariants.{Cell as OfCell, Input}
 use Rattle.cell_walks.proofs.Steps.{ended_by_fault}
+use Rattle.cell_texts.specs.JudgedFiles.{IsJudgedFile}
 use Rattle.cell_texts.specs.RecordReads.{record_line, record_reads}
 use Rattle.cell_texts.specs.Tests.{cell_fault_line, cell_file, cell_reads, record_file, shift_fault_line, shift_file, with_text}
 
@@ -171,11 +174,16 @@ bad_uncut cell line bytes (inr bad) =
 
 module _ (files : FilesTold) (name read : List ℕ) (cell : Cell) (is : IsReadOf files.names name MAX_RECORD_BYTES read) where
   -- the bytes that were read are the text of these blocks, and so is the file
-  pub blocks_read : (blocks : List Block) → CellFits cell → IsRecordOf cell read blocks
+  blocks_read : (blocks : List Block) → CellFits cell → IsRecordOf cell read blocks
       → ShowsFile files name (λ bytes. record_reads cell bytes (Ok blocks))
   blocks_read blocks fits written =
       held_of_read (λ bytes. record_reads cell bytes (Ok blocks)) MAX_RECORD_BYTES
       (λ bytes so. (so.0, record_uncut cell blocks bytes so.1)) files.names name read is (fits, written)
+
+  -- so the verdict on the bytes is that on the file
+  pub blocks_judged : (verdict : Verdict) → CellFits cell → IsVerdictOn cell read verdict → IsJudgedFile files cell name verdict
+  blocks_judged verdict fits is =
+      record { blocks = is.blocks; shown = blocks_read is.blocks fits is.written; judged = is.judged }
 
   -- or a line of them is bad
   pub blocks_refused : (fault : RecordFault) → RefusedAt cell read fault

@@ -3,6 +3,7 @@ pub mod Blocks
 pub mod Clauses
 pub mod FaultNumbers
 pub mod JournalReads
+pub mod JudgedFiles
 pub mod Numbers
 pub mod OneWay
 pub mod Parting

@@ -26,8 +26,8 @@ pub use printing::{
     print_block, print_history, print_left, print_line, print_lines, print_text, print_usage,
 };
 pub use readers::{
-    AfterGrants, CellFile, CommandEnd, Found, Made, find_grants, read_cell, read_journal,
-    read_record, read_shift,
+    AfterGrants, CellFile, CommandEnd, Found, Made, check_record, find_grants, read_cell,
+    read_journal, read_shift,
 };
 pub use recorded::{Asked, Closed, Recorded, give_back, print_recorded, record_of};
 pub use refusals::{at_journal_fault, at_other_shift, at_step_fault};

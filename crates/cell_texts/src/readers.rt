@@ -3,8 +3,8 @@ ghost use Rattle.std.specs.Prelude.{◌≡◌, ◌≤◌, ◌⊎◌, length, IfO
 ghost use Rattle.outside_io.specs.Files.{IsReadOf};
 ghost use Rattle.cell_walks.specs.Clauses.{File, IsEndedAt, IsNotOpened, IsOnlyRead, IsUnread, ShowsFile, disk_told, files_told};
 ghost use Rattle.cell_walks.specs.declared.early_end.EarlyEnd.TheVariants.{WantOfMemory};
-ghost use Rattle.cell_texts.specs.Clauses.{AreWellFormed, CellFits, GrantsFit, IsAfterGrants, IsFound, MAX_CELL_BYTES, ShiftFits};
-ghost use Rattle.cell_texts.specs.Clauses.{cell_file, cell_reads, known, record_file, record_reads, shift_file, shift_of, to_read};
+ghost use Rattle.cell_texts.specs.Clauses.{CellFits, GrantsFit, IsAfterGrants, IsFound, IsJudgedFile, MAX_CELL_BYTES, ShiftFits};
+ghost use Rattle.cell_texts.specs.Clauses.{cell_file, cell_reads, known, record_file, shift_file, shift_of, to_read};
 
 use crate::refusals::{at_cell_fault, at_journal_fault, at_record_fault, at_shift_fault};
 use admission_core::Core;
@@ -13,7 +13,8 @@ use cell_file::MAX_CELL_BYTES;
 use cell_walks::{EarlyEnd, Status};
 use durable_cell::{MAX_ROOM, Restored, restore};
 use outside_io::{Disk, FileFail, Files};
-use record_text::{Block, MAX_RECORD_BYTES};
+use record_text::MAX_RECORD_BYTES;
+use shift_checker::{Verdict, check_text};
 use shift_file::MAX_SHIFT_BYTES;
 use std::alloc::Global;
 
@@ -118,25 +119,24 @@ pub fn read_shift<F: Files>(
     }
 }
 
-/// The blocks of a record file of this cell, or the end in their place.
-pub fn read_record<F: Files>(
+/// The verdict on a record file of this cell, or the end in its place. Beside the bytes of the file there is one block of it
+/// at a time.
+pub fn check_record<F: Files>(
     alloc: Global,
     files: &mut F,
     cell: &Cell,
     name: &str,
-) -> Result<List<Block>, EarlyEnd>
+) -> Result<Verdict, EarlyEnd>
     requires { CellFits cell.now }
-    ensures read { IfOk result (λ blocks. ShowsFile (files_told F.holds F.is_sound F.faults files.old files.new) name.now
-        (λ bytes. record_reads cell.now bytes (Ok blocks))) }
-    ensures formed { IfOk result (AreWellFormed cell.now) }
+    ensures judged { IfOk result (IsJudgedFile (files_told F.holds F.is_sound F.faults files.old files.new) cell.now name.now) }
     ensures ended { IfErr result (IsEndedAt (files_told F.holds F.is_sound F.faults files.old files.new) (record_file cell.now name.now)) }
 {
     let bytes = match read_named(alloc, files, name, MAX_RECORD_BYTES as u32) {
         Ok(bytes) => bytes,
         Err(end) => return Err(end),
     };
-    match record_text::read_record(alloc, cell, &bytes) {
-        Ok(blocks) => Ok(blocks),
+    match check_text(alloc, cell, &bytes) {
+        Ok(verdict) => Ok(verdict),
         Err(fault) => Err(at_record_fault(fault)),
     }
 }

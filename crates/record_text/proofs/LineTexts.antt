@@ -80,7 +80,7 @@ length-block cell block =
       length-tail cell block.tail,
     )
 
-length-lines : (cell : Cell) (blocks : List Block) → length (lines_of cell blocks) ≡ sum_by line_count blocks
+pub length-lines : (cell : Cell) (blocks : List Block) → length (lines_of cell blocks) ≡ sum_by line_count blocks
 length-lines cell [] = refl
 length-lines cell (block ∷ blocks) =
     omega (

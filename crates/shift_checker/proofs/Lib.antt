@@ -1,4 +1,5 @@
 pub mod Carrying
+pub mod Judged
 pub mod Legal
 pub mod Onward
 pub mod Replying

@@ -53,7 +53,7 @@ length-tail cell parts (tails.Planned left steps) =
     omega (arith, length-map-range_with_len (judge_step cell parts steps) 0 (length steps))
 length-tail cell parts tails.Halted = refl
 
-length-block : (cell : Cell) (parts : List Part) (count : ℕ) (block : Block)
+pub length-block : (cell : Cell) (parts : List Part) (count : ℕ) (block : Block)
     → length (judge_block cell parts count block) ≡ line_count block
 length-block cell parts count block =
     omega (

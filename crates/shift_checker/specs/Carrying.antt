@@ -39,6 +39,11 @@ carried_on cell at block = record {
   halted = halted_in block.entries block.tail;
 }
 
+-- after blocks, the first of which begins there
+abbrev pub carried_over : Cell → Carried → List Block → Carried
+carried_over cell at [] = at
+carried_over cell at (block ∷ blocks) = carried_over cell (carried_on cell (settled cell at block.after) block) blocks
+
 -- the lines of the blocks that are left
 abbrev pub carried_lines : Cell → Carried → List Block → List (Option Why)
 carried_lines cell at [] = []

@@ -1,5 +1,5 @@
 -- What is wrong with a record, each line judged by itself.
-use Rattle.std.specs.Prelude.{ℕ, ◌+◌, Bool, false, not, ◌||◌, ◌==◌, if◌then◌else◌, Option}
+use Rattle.std.specs.Prelude.{◌≡◌, ℕ, ◌+◌, Bool, false, not, ◌||◌, ◌==◌, if◌then◌else◌, Option}
 use Rattle.std.specs.Prelude.{Some, None, List, [], ◌∷◌, ◌++◌, length, map, take, slice_get}
 use Rattle.std.specs.List.{filter, range_with_len}
 use Rattle.std.specs.Option.{option_map_or}
@@ -14,6 +14,7 @@ use Rattle.cell_base.specs.Outcomes.{reply_to}
 use Rattle.record_text.specs.declared.blocks.Block.{Block}
 use Rattle.record_text.specs.declared.blocks.Tail.{Tail}
 use Rattle.record_text.specs.declared.blocks.Tail.TheVariants as tails
+use Rattle.record_text.specs.BadLines.{IsRecordOf}
 use Rattle.shift_checker.specs.declared.verdict.Why.{Why}
 use Rattle.shift_checker.specs.declared.verdict.Why.TheVariants as whys
 use Rattle.shift_checker.specs.declared.verdict.Verdict.{Verdict}
@@ -125,3 +126,9 @@ verdict_from n (Some why ∷ lines) = No n why
 -- the verdict on the blocks of a file
 abbrev pub judge : Cell → List Block → Verdict
 judge cell blocks = verdict_from 1 (judge_lines cell [] blocks)
+
+-- the bytes are the record of blocks on which this is the verdict
+pub record IsVerdictOn (cell : Cell) (bytes : List ℕ) (verdict : Verdict) : Type 0 where
+  pub blocks : List Block
+  pub written : IsRecordOf cell bytes blocks
+  pub judged : verdict ≡ judge cell blocks

@@ -1,13 +1,14 @@
 //! The check of a record.
-ghost use Rattle.std.specs.Prelude.{◌≡◌, IfOk};
+ghost use Rattle.std.specs.Prelude.{◌≡◌, IfOk, IfErr};
 ghost use Rattle.cell_base.specs.Fits.{CellFits};
+ghost use Rattle.record_text.specs.BadLines.{RefusedAt};
 ghost use Rattle.record_text.specs.Blocks.{AreWellFormed};
-ghost use Rattle.shift_checker.specs.Judging.{judge};
+ghost use Rattle.shift_checker.specs.Judging.{judge, IsVerdictOn};
 
 use crate::Verdict;
 use crate::walk::Walk;
 use cell_base::{Cell, List, NoMemory};
-use record_text::Block;
+use record_text::{Block, BlockReader, RecordFault};
 use std::alloc::Global;
 
 /// The verdict on the blocks of a record, as `read_record` gives them. Memory is taken once, for the parts.
@@ -18,4 +19,22 @@ pub fn check(alloc: Global, cell: &Cell, blocks: &List<Block>) -> Result<Verdict
 {
     let mut walk = Walk::new(alloc, cell)?;
     Ok(walk.blocks(blocks.as_slice()))
+}
+
+/// The verdict on the record that some bytes are. Each block is judged as soon as it is read, and none is kept. Behind a line
+/// that fails the blocks are still read, since a later line may be none of a record.
+pub fn check_text(alloc: Global, cell: &Cell, bytes: &[u8]) -> Result<Verdict, RecordFault>
+    requires { CellFits cell.now }
+    ensures judged { IfOk result (IsVerdictOn cell.now bytes.now) }
+    ensures refused { IfErr result (RefusedAt cell.now bytes.now) }
+{
+    let mut left = BlockReader::new(alloc, cell, bytes)?;
+    let mut walk = Walk::new(alloc, cell)?;
+    let mut verdict = Verdict::Yes;
+    while let Some(block) = left.next()? {
+        if let Verdict::Yes = verdict {
+            verdict = walk.block(&block);
+        }
+    }
+    Ok(verdict)
 }

@@ -10,6 +10,8 @@
 //! }
 //! ```
 //!
+//! `check_text` does both at once, block by block, and so takes the memory of one block.
+//!
 //! The state is empty before the first block. A shift that was halted at a request leaves open whether it was written:
 //! it was where the head of the next block names one more grant. The steps of a plan are tried, and change nothing.
 //! `laws` says that the record of a legal shift and its plan is right.
@@ -21,7 +23,7 @@ mod replies;
 mod verdict;
 mod walk;
 
-pub use checking::check;
+pub use checking::{check, check_text};
 pub use verdict::{Verdict, Why};
 
 #[cfg(test)]

@@ -66,7 +66,8 @@ impl<'a> Walk<'a> {
         Verdict::Yes
     }
 
-    fn block(&mut self, block: &Block) -> Verdict
+    /// Goes over the next block, up to its first line that fails.
+    pub fn block(&mut self, block: &Block) -> Verdict
         requires formed { BlockIsWellFormed self.old.cell block.now }
         requires lines { block.now.first_line + line_count block.now ≤ 2 ^ 32 }
         requires before { IsBefore self.old.cell block.now.first_line self.old.at }
