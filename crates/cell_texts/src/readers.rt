@@ -11,10 +11,11 @@ use admission_core::Core;
 use cell_base::{Cell, Grant, List, Shift};
 use cell_file::MAX_CELL_BYTES;
 use cell_walks::{EarlyEnd, Status};
-use durable_cell::{MAX_ROOM, Restored, restore};
+use durable_cell::{MAX_ROOM, Restored, Resumed, restore, resume};
 use outside_io::{Disk, FileFail, Files};
 use record_text::{Block, MAX_RECORD_BYTES};
 use shift_file::MAX_SHIFT_BYTES;
+use shift_recovery::Unkept;
 use std::alloc::Global;
 
 /// How a command ended, and the disk that was handed in.
@@ -141,7 +142,7 @@ pub fn read_record<F: Files>(
     }
 }
 
-/// The state after the grants of the cell that stand on a disk, or the end in its place. It only reads.
+/// The state after the grants of the cell that stand on a disk, or the end in its place. It only reads, and keeps no list of the grants.
 pub fn read_journal<D: Disk>(alloc: Global, held: CellFile, disk: D) -> Made<AfterGrants, D>
     requires fits { CellFits held.cell }
     requires short { length held.text.items ≤ MAX_CELL_BYTES }
@@ -151,15 +152,28 @@ pub fn read_journal<D: Disk>(alloc: Global, held: CellFile, disk: D) -> Made<Aft
         (disk_told D.reads_as D.may_leave D.moment D.left_since D.faults disk result.disk) (to_read (known held))) }
     ensures only_read { IsOnlyRead (disk_told D.reads_as D.may_leave D.moment D.left_since D.faults disk result.disk) }
 {
-    let Made { made, disk } = find_grants(alloc, held, disk);
-    let made = match made {
-        Ok(found) => Ok(AfterGrants {
-            core: found.core,
-            grants: found.grants.len(),
-        }),
-        Err(end) => Err(end),
-    };
-    Made { made, disk }
+    let CellFile { cell, text } = held;
+    match resume(alloc, cell, &text, disk, MAX_ROOM, Unkept) {
+        Resumed::Open { core, stored, .. } => Made {
+            made: Ok(AfterGrants {
+                core,
+                grants: stored.count(),
+            }),
+            disk: stored.into_disk(),
+        },
+        Resumed::Refused { disk, why } => Made {
+            made: Err(at_journal_fault(why)),
+            disk,
+        },
+        Resumed::Device { disk } => Made {
+            made: Err(EarlyEnd::DeviceFailed),
+            disk,
+        },
+        Resumed::Memory { disk } => Made {
+            made: Err(EarlyEnd::WantOfMemory),
+            disk,
+        },
+    }
 }
 
 /// The grants of the cell that stand on a disk, with the state after them, or the end in their place. It only reads.
