@@ -1,5 +1,5 @@
 -- One grant more of a replay, and what a replay comes to.
-use Rattle.std.specs.Prelude.{Bool, true, false, if◌then◌else◌, Option, Some, None, Result, Ok, Err}
+use Rattle.std.specs.Prelude.{Bool, true, false, if◌then◌else◌, Option, Some, None, Result, Ok, Err, OnOk}
 use Rattle.std.specs.Option.{option_map_or}
 use Rattle.std.proofs.Common.{◌≡◌, ℕ, ◌+◌, ◌*◌, List, [], ◌∷◌, ◌++◌, length, refl, sym, ◌∙◌, ap, arith}
 use Rattle.cell_base.specs.declared.cells.Cell.{Cell}
@@ -7,6 +7,8 @@ use Rattle.cell_base.specs.declared.requests.Part.{Part}
 use Rattle.cell_base.specs.declared.shifts.Grant.{Grant}
 use Rattle.cell_base.specs.Histories.{after_requests, requests_of}
 use Rattle.cell_base.specs.Outcomes.{state_after}
+use Rattle.admission_core.specs.CoreState.{CoreState}
+use Rattle.durable_cell.specs.Replays.{HasReplayed}
 use Rattle.shift_recovery.specs.declared.faults.JournalFault.{JournalFault}
 use Rattle.shift_recovery.specs.declared.faults.JournalFault.TheVariants.{Damaged}
 use Rattle.shift_recovery.specs.Readings.{read_as}
@@ -20,7 +22,7 @@ after_more cell parts [] grant = refl
 after_more cell parts (first ∷ grants) grant = after_more cell (state_after cell parts first.request) grants grant
 
 -- where the stray stands, by the test of a grant
-abbrev stray_by : Bool → ℕ → Option ℕ → Option ℕ
+abbrev pub stray_by : Bool → ℕ → Option ℕ → Option ℕ
 stray_by due at behind = if due then behind else Some at
 
 goes_on : (due : Bool) (at : ℕ) (behind : Option ℕ) → stray_by due at behind ≡ None → (due ≡ true) × (behind ≡ None)
@@ -54,6 +56,35 @@ stray_more cell parts at gate (first ∷ grants) grant is gate_is =
     let way = goes_on (is_due cell parts first.request) at (first_stray cell next (at + 17) grants) is in
     ap (λ (b : Bool). stray_by b at (first_stray cell next (at + 17) (grants ++ grant ∷ []))) way.0
     ∙ stray_more cell next (at + 17) gate grants grant way.1 (omega (arith, gate_is))
+
+-- after a stray the replay stays where it is
+pub strayed_stays : (start old new : CoreState) (first found : ℕ) (grants : List Grant) (grant : Grant) → new.cell ≡ old.cell
+    → HasReplayed start first grants old (Some found) → HasReplayed start first (grants ++ grant ∷ []) new (Some found)
+strayed_stays start old new first found grants grant same has = record {
+  cell = same ∙ has.cell;
+  strays = stray_stays start.cell [] first found grants grant has.strays;
+  state = λ none. absurd (cc none);
+}
+
+-- one grant more is replayed where it is due, and strays where it isn't
+pub one_more : (start old new : CoreState) (first gate : ℕ) (grants : List Grant) (grant : Grant) (due : Bool) → new.cell ≡ old.cell
+    → due ≡ is_due old.cell old.parts grant.request → (due ≡ true → new.parts ≡ state_after old.cell old.parts grant.request)
+    → gate ≡ first + 17 * length grants → HasReplayed start first grants old None
+    → HasReplayed start first (grants ++ grant ∷ []) new (stray_by due gate None)
+one_more start old new first gate grants grant due same due_is moved gate_is has =
+    let parts_are : old.parts ≡ after_requests start.cell [] (requests_of grants) = has.state refl in
+    record {
+      cell = same ∙ has.cell;
+      strays = stray_more start.cell [] first gate grants grant has.strays gate_is
+          ∙ ap (λ (b : Bool). stray_by b gate None) (sym (due_is ∙ (λ i. is_due (has.cell i) (parts_are i) grant.request)));
+      state = λ none. moved (goes_on due gate None none).0 ∙ (λ i. state_after (has.cell i) (parts_are i) grant.request)
+          ∙ sym (after_more start.cell [] grants grant);
+    }
+
+-- both, where a call succeeds
+pub both_ok : {T E A : Type 0} (B : Type 0) (r : Result T E) → A → OnOk r B → OnOk r (A × B)
+both_ok B (Ok x) a b = (a, b)
+both_ok B (Err e) a b = tt
 
 -- what the bytes open as, where they are read as grants of which one strays or none
 pub opened_by : (cell : Cell) (file text : List ℕ) (room first : ℕ) (grants : List Grant) (stray : Option ℕ)

@@ -1,7 +1,8 @@
 //! The replay of a journal's grants, as they are read.
-ghost use Rattle.std.specs.Prelude.{◌≡◌};
-ghost use Rattle.std.specs.Bool.{OnTrue};
+ghost use Rattle.std.specs.Prelude.{◌≡◌, ℕ, ◌+◌, ◌*◌, List as Sequence, [], ◌∷◌, ◌++◌, length, true};
+ghost use Rattle.cell_base.specs.declared.shifts.Grant.{Grant as OneGrant};
 ghost use Rattle.cell_base.specs.Outcomes.{state_after};
+ghost use Rattle.admission_core.specs.CoreState.{CoreState};
 ghost use Rattle.shift_recovery.specs.Replayed.{is_due};
 ghost use Rattle.durable_cell.specs.Replays.{HasReplayed};
 
@@ -25,10 +26,25 @@ impl<K: Taker> Taker for Replay<K> {
     ghost took = { λ start first grants now. HasReplayed start.core first grants now.core now.stray × K.took start.kept first grants now.kept };
 
     fn take(&mut self, at: u64, grant: Grant) -> Result<(), NoMemory> {
-        if self.stray.is_none() && !is_taken(&mut self.core, &grant.request) {
-            self.stray = Some(at);
-        }
+        self.stray = replay_one(&mut self.core, self.stray, at, &grant);
         self.kept.take(at, grant)
+    }
+}
+
+// Replays a grant more, whose gate stands at an offset. Gives where the first stray stands.
+fn replay_one(core: &mut Core, stray: Option<u64>, at: u64, grant: &Grant) -> Option<u64>
+    ensures { (start : CoreState) (first : ℕ) (grants : Sequence OneGrant) → at ≡ first + 17 * length grants
+        → HasReplayed start first grants core.old stray → HasReplayed start first (grants ++ grant.now ∷ []) core.new result }
+{
+    match stray {
+        Some(gate) => Some(gate),
+        None => {
+            if is_taken(core, &grant.request) {
+                None
+            } else {
+                Some(at)
+            }
+        }
     }
 }
 
@@ -36,7 +52,7 @@ impl<K: Taker> Taker for Replay<K> {
 fn is_taken(core: &mut Core, request: &Request) -> bool
     ensures due { result ≡ is_due core.old.cell core.old.parts request.now }
     ensures cell { core.new.cell ≡ core.old.cell }
-    ensures state { OnTrue result (core.new.parts ≡ state_after core.old.cell core.old.parts request.now) }
+    ensures state { result ≡ true → core.new.parts ≡ state_after core.old.cell core.old.parts request.now }
 {
     request_fits(core.cell(), request) && core.ask(request) == Reply::Granted
 }

