@@ -5,13 +5,15 @@ use Rattle.shift_recovery.specs.Replayed.{opened_as}
 use Rattle.durable_cell.specs.declared.replays.TheConstants.{MAX_ROOM}
 use Rattle.cell_walks.specs.Allowed.{OpeningRefused}
 use Rattle.cell_texts.proofs.Disks.{only_read}
-use Rattle.cell_texts.proofs.readers.read_journal.Goals as goal
+use Rattle.cell_texts.proofs.readers.replay_journal.Goals as goal
 
-pub returns-in-Open-clause-read : goal.returns-in-Open-clause-read
-returns-in-Open-clause-read g c =
+pub returns-in-Open-clause-replayed : goal.returns-in-Open-clause-replayed
+returns-in-Open-clause-replayed g c =
     let after = c.in-Open.ensures.resumed in
     record {
+      first = after.first;
       grants = after.grants;
+      taken = after.taken;
       opened = (
         after.core.due,
         subst (λ (text : List ℕ). IfSome (g.D.Disk.reads_as c.args.disk)
