@@ -20,13 +20,13 @@ disk_resumed (Memory disk) = disk
 -- the core stands after grants that were taken, the disk holds them, and where it tells they are what it opens as
 pub record IsOpenedAfter {D K : Type 0} (reads_as : D → Option (List ℕ)) (may_leave : D → List ℕ → Type 0) (disk : D) (cell : Cell)
     (text : List ℕ) (room : ℕ) (took : K → ℕ → List Grant → K → Type 0) (old : K) (stands : CoreState) (held : Stored D) (new : K) : Type 0
-    where
-  pub first : ℕ
-  pub grants : List Grant
-  pub taken : took old first grants new
-  pub core : IsCore cell room stands grants
-  pub holds : IsStored reads_as may_leave text grants held
-  pub opened : IfSome (reads_as disk) (λ file. opened_as cell file text room ≡ Ok grants)
+  where
+    pub first : ℕ
+    pub grants : List Grant
+    pub taken : took old first grants new
+    pub core : IsCore cell room stands grants
+    pub holds : IsStored reads_as may_leave text grants held
+    pub opened : IfSome (reads_as disk) (λ file. opened_as cell file text room ≡ Ok grants)
 
 -- the answer is what the bytes open as
 abbrev pub IsResumed : {D K : Type 0} → (D → Option (List ℕ)) → (D → List ℕ → Type 0) → D → Cell → List ℕ → ℕ

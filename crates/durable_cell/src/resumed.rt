@@ -22,11 +22,18 @@ pub enum Resumed<D: Disk, K> {
         kept: K,
     },
     /// The file is no journal of this cell, has more grants than room, or one that is not granted in its turn.
-    Refused { disk: D, why: JournalFault },
+    Refused {
+        disk: D,
+        why: JournalFault,
+    },
     /// The device failed.
-    Device { disk: D },
+    Device {
+        disk: D,
+    },
     /// There was no memory.
-    Memory { disk: D },
+    Memory {
+        disk: D,
+    },
 }
 
 /// Finds the grants that stand on a disk, with this cell text and with room for so many, and replays each one as it is read, and

@@ -17,7 +17,7 @@ returns-in-Open-clause-replayed g c =
       opened = (
         after.core.due,
         subst (λ (text : List ℕ). IfSome (g.D.Disk.reads_as c.args.disk)
-        (λ file. opened_as c.args.held.cell file text MAX_ROOM ≡ Ok after.grants)) c.deref.ensures.value after.opened,
+            (λ file. opened_as c.args.held.cell file text MAX_ROOM ≡ Ok after.grants)) c.deref.ensures.value after.opened,
       );
       core = after.core.state;
       count = c.count.ensures c.deref.result.now after.grants after.holds;

@@ -21,21 +21,25 @@ use Rattle.shift_recovery.proofs.Ends.{walk_back}
 use Rattle.shift_recovery.proofs.scans.read_journal.Goals as goal
 
 pub returns-then-len-eq0-clause-exact : goal.returns-then-len-eq0-clause-exact
-returns-then-len-eq0-clause-exact g c =
-    (where_told _ (λ file. (read_as file c.args.cell_text.now c.args.room ≡ Ok None) × HasForm Short file) (λ file is.
-    let size : c.in_ok-len.len ≡ length file =
-    told _ (λ (f : List ℕ). c.in_ok-len.len ≡ length f) file (c.sync.ensures.same ∙ is) c.in_ok-len.ensures.len in
-    let short : length file ≤ 1 = omega (arith, size, c.if-len-eq0.true) in
-    (reads_by_head file c.args.cell_text.now c.args.room (Blank Short) (short_head file short), short)), refl)
+returns-then-len-eq0-clause-exact g c = (
+  where_told _ (λ file. (read_as file c.args.cell_text.now c.args.room ≡ Ok None) × HasForm Short file) (λ file is.
+      let size : c.in_ok-len.len ≡ length file =
+      told _ (λ (f : List ℕ). c.in_ok-len.len ≡ length f) file (c.sync.ensures.same ∙ is) c.in_ok-len.ensures.len in
+      let short : length file ≤ 1 = omega (arith, size, c.if-len-eq0.true) in
+      (reads_by_head file c.args.cell_text.now c.args.room (Blank Short) (short_head file short), short)),
+  refl,
+)
 
 pub returns-in-Blank-clause-exact : goal.returns-in-Blank-clause-exact
-returns-in-Blank-clause-exact g c =
-    (where_told _ (λ file. (read_as file c.args.cell_text.now c.args.room ≡ Ok None) × HasForm c.in-Blank.form file) (λ file is.
-    let head = head_file file c.in_ok-kept.kept.items c.deref.result.now c.in_ok-len.len (0 + min PIECE (c.in_ok-len.len - 0))
-    (Blank c.in-Blank.form) (told _ _ file (c.sync.ensures.same ∙ is) c.in_ok-len.ensures.len) (omega arith)
-    (told _ _ file (c.len.ensures.same ∙ c.sync.ensures.same ∙ is) c.in_ok-kept.ensures.bytes) c.in_ok-kept.ensures.longer
-    c.deref.ensures.value (sym (c.in-Blank.is) ∙ c.read_head.ensures.head) in
-    (reads_by_head file c.args.cell_text.now c.args.room (Blank c.in-Blank.form) head, form_is file c.in-Blank.form head)), refl)
+returns-in-Blank-clause-exact g c = (
+  where_told _ (λ file. (read_as file c.args.cell_text.now c.args.room ≡ Ok None) × HasForm c.in-Blank.form file) (λ file is.
+      let head = head_file file c.in_ok-kept.kept.items c.deref.result.now c.in_ok-len.len (0 + min PIECE (c.in_ok-len.len - 0))
+      (Blank c.in-Blank.form) (told _ _ file (c.sync.ensures.same ∙ is) c.in_ok-len.ensures.len) (omega arith)
+      (told _ _ file (c.len.ensures.same ∙ c.sync.ensures.same ∙ is) c.in_ok-kept.ensures.bytes) c.in_ok-kept.ensures.longer
+      c.deref.ensures.value (sym (c.in-Blank.is) ∙ c.read_head.ensures.head) in
+      (reads_by_head file c.args.cell_text.now c.args.room (Blank c.in-Blank.form) head, form_is file c.in-Blank.form head)),
+  refl,
+)
 
 pub returns-in-Faulty-clause-exact : goal.returns-in-Faulty-clause-exact
 returns-in-Faulty-clause-exact g c =
@@ -101,12 +105,12 @@ returns-in-Closed-clause-exact g c =
       few = omega (arith, walked.few, walked.counted);
       counted = walked.counted;
       small = omega (
-          arith,
-          walked.gate_is,
-          open_small c.in_ok-len.len c.deref.result.now c.in-Open.size c.read_head.ensures.in_range
-          (sym c.read_head.ensures.head ∙ c.in-Open.is),
-          c.from-size.ensures,
-          );
+        arith,
+        walked.gate_is,
+        open_small c.in_ok-len.len c.deref.result.now c.in-Open.size c.read_head.ensures.in_range
+            (sym c.read_head.ensures.head ∙ c.in-Open.is),
+        c.from-size.ensures,
+      );
       read = where_told _ (λ file. (read_as file text room ≡ Ok (Some grants)) × (13 + size ≡ 13 + length text)
           × (c.in-Closed.gate ≡ gate_of text grants) × IsJournal file text grants) (λ file is.
           let is_2 = c.sync.ensures.same ∙ is in
