@@ -1,6 +1,6 @@
 -- A grant more is replayed as the definition goes on.
 use Rattle.std.specs.Prelude.{true, false, Option}
-use Rattle.std.proofs.Common.{◌≡◌, ℕ, refl, sym, ◌∙◌, subst}
+use Rattle.std.proofs.Common.{ℕ, refl, sym, ◌∙◌, subst}
 use Rattle.durable_cell.specs.Replays.{HasReplayed}
 use Rattle.durable_cell.proofs.Replaying.{one_more, strayed_stays}
 use Rattle.durable_cell.proofs.replays.replay_one.Goals as goal
