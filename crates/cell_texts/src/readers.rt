@@ -1,9 +1,9 @@
 //! The files, the words and the journal of a command, tested.
-ghost use Rattle.std.specs.Prelude.{◌≡◌, ◌≤◌, ◌⊎◌, length, IfOk, IfErr, OnOk};
+ghost use Rattle.std.specs.Prelude.{◌≡◌, ◌≤◌, ◌⊎◌, ℕ, [], length, IfOk, IfErr, OnOk};
 ghost use Rattle.outside_io.specs.Files.{IsReadOf};
 ghost use Rattle.cell_walks.specs.Clauses.{File, IsEndedAt, IsNotOpened, IsOnlyRead, IsUnread, ShowsFile, disk_told, files_told};
 ghost use Rattle.cell_walks.specs.declared.early_end.EarlyEnd.TheVariants.{WantOfMemory};
-ghost use Rattle.cell_texts.specs.Clauses.{CellFits, GrantsFit, IsAfterGrants, IsFound, IsJudgedFile, MAX_CELL_BYTES, ShiftFits};
+ghost use Rattle.cell_texts.specs.Clauses.{CellFits, GrantsFit, IsAfterGrants, IsFound, IsJudgedFile, IsReplayed, MAX_CELL_BYTES, ShiftFits};
 ghost use Rattle.cell_texts.specs.Clauses.{cell_file, cell_reads, known, record_file, shift_file, shift_of, to_read};
 
 use crate::refusals::{at_cell_fault, at_journal_fault, at_record_fault, at_shift_fault};
@@ -11,11 +11,12 @@ use admission_core::Core;
 use cell_base::{Cell, Grant, List, Shift};
 use cell_file::MAX_CELL_BYTES;
 use cell_walks::{EarlyEnd, Status};
-use durable_cell::{MAX_ROOM, Restored, restore};
+use durable_cell::{MAX_ROOM, Resumed, resume};
 use outside_io::{Disk, FileFail, Files};
 use record_text::MAX_RECORD_BYTES;
 use shift_checker::{Verdict, check_text};
 use shift_file::MAX_SHIFT_BYTES;
+use shift_recovery::{Taker, Unkept};
 use std::alloc::Global;
 
 /// How a command ended, and the disk that was handed in.
@@ -141,7 +142,7 @@ pub fn check_record<F: Files>(
     }
 }
 
-/// The state after the grants of the cell that stand on a disk, or the end in its place. It only reads.
+/// The state after the grants of the cell that stand on a disk, or the end in its place. It only reads, and keeps no list of the grants.
 pub fn read_journal<D: Disk>(alloc: Global, held: CellFile, disk: D) -> Made<AfterGrants, D>
     requires fits { CellFits held.cell }
     requires short { length held.text.items ≤ MAX_CELL_BYTES }
@@ -151,11 +152,11 @@ pub fn read_journal<D: Disk>(alloc: Global, held: CellFile, disk: D) -> Made<Aft
         (disk_told D.reads_as D.may_leave D.moment D.left_since D.faults disk result.disk) (to_read (known held))) }
     ensures only_read { IsOnlyRead (disk_told D.reads_as D.may_leave D.moment D.left_since D.faults disk result.disk) }
 {
-    let Made { made, disk } = find_grants(alloc, held, disk);
+    let Made { made, disk } = replay_journal(alloc, held, disk, Unkept);
     let made = match made {
-        Ok(found) => Ok(AfterGrants {
-            core: found.core,
-            grants: found.grants.len(),
+        Ok(replayed) => Ok(AfterGrants {
+            core: replayed.core,
+            grants: replayed.count,
         }),
         Err(end) => Err(end),
     };
@@ -173,25 +174,64 @@ pub fn find_grants<D: Disk>(alloc: Global, held: CellFile, disk: D) -> Made<Foun
         (disk_told D.reads_as D.may_leave D.moment D.left_since D.faults disk result.disk) (to_read (known held))) }
     ensures only_read { IsOnlyRead (disk_told D.reads_as D.may_leave D.moment D.left_since D.faults disk result.disk) }
 {
+    let Made { made, disk } = replay_journal(alloc, held, disk, List::new(alloc));
+    match made {
+        Ok(replayed) => Made {
+            made: Ok(Found {
+                core: replayed.core,
+                grants: replayed.kept,
+            }),
+            disk,
+        },
+        Err(end) => Made {
+            made: Err(end),
+            disk,
+        },
+    }
+}
+
+/// A core in the state after the grants of a journal, how many these are, and what is kept of them.
+#[derive(Drop)]
+pub(crate) struct Replayed<K> {
+    core: Core,
+    count: u64,
+    kept: K,
+}
+
+// The state after the grants of the cell that stand on a disk, which somebody takes, or the end in its place.
+fn replay_journal<D: Disk, K: Taker + Drop>(
+    alloc: Global,
+    held: CellFile,
+    disk: D,
+    kept: K,
+) -> Made<Replayed<K>, D>
+    requires fits { CellFits held.cell }
+    requires none { (first : ℕ) → K.took kept first [] kept }
+    ensures replayed { IfOk result.made (IsReplayed
+        (disk_told D.reads_as D.may_leave D.moment D.left_since D.faults disk result.disk) (to_read (known held)) K.took kept) }
+    ensures ended { IfErr result.made (IsNotOpened
+        (disk_told D.reads_as D.may_leave D.moment D.left_since D.faults disk result.disk) (to_read (known held))) }
+    ensures only_read { IsOnlyRead (disk_told D.reads_as D.may_leave D.moment D.left_since D.faults disk result.disk) }
+{
     let CellFile { cell, text } = held;
-    match restore(alloc, cell, &text, disk, MAX_ROOM) {
-        Restored::Open {
-            core,
-            stored,
-            grants,
-        } => Made {
-            made: Ok(Found { core, grants }),
+    match resume(alloc, cell, &text, disk, MAX_ROOM, kept) {
+        Resumed::Open { core, stored, kept } => Made {
+            made: Ok(Replayed {
+                core,
+                count: stored.count(),
+                kept,
+            }),
             disk: stored.into_disk(),
         },
-        Restored::Refused { disk, why } => Made {
+        Resumed::Refused { disk, why } => Made {
             made: Err(at_journal_fault(why)),
             disk,
         },
-        Restored::Device { disk } => Made {
+        Resumed::Device { disk } => Made {
             made: Err(EarlyEnd::DeviceFailed),
             disk,
         },
-        Restored::Memory { disk } => Made {
+        Resumed::Memory { disk } => Made {
             made: Err(EarlyEnd::WantOfMemory),
             disk,
         },

@@ -6,6 +6,8 @@ pub mod Kept
 pub mod Made
 pub mod Moments
 pub mod Openings
+pub mod Replays
+pub mod Resumed
 pub mod Reserved
 pub mod Restored
 pub mod Clauses

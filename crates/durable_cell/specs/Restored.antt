@@ -8,13 +8,12 @@ use Rattle.outside_io.specs.Causes.{Rose}
 use Rattle.move_journal.specs.Blanks.{IsBlank}
 use Rattle.move_journal.specs.Disks.{Rests}
 use Rattle.move_journal.specs.Journals.{IsJournal}
-use Rattle.move_journal.specs.Kept.{JournalState}
 use Rattle.shift_recovery.specs.declared.faults.JournalFault.{JournalFault}
 use Rattle.durable_cell.specs.declared.stored.Stored.{Stored}
 use Rattle.durable_cell.specs.declared.stored.Stored.TheVariants as stored
 use Rattle.durable_cell.specs.declared.restored.Restored.{Restored}
 use Rattle.durable_cell.specs.declared.restored.Restored.TheVariants.{Open, Refused, Device, Memory}
-use Rattle.shift_recovery.specs.Replayed.{AreDue, replayed}
+use Rattle.shift_recovery.specs.Replayed.{AreDue}
 
 -- the disk, with a journal or without
 abbrev pub disk_stored : {D : Type 0} → Stored D → D
@@ -72,12 +71,3 @@ Holds reads_as may_leave text (Memory disk) = ⊤
 abbrev pub HasRestoringCause : {D : Type 0} → ℕ → ℕ → Restored D → Type 0
 HasRestoringCause before now (Device disk) = Rose before now
 HasRestoringCause before now answer = now ≡ before
-
--- a journal of these grants, or its disk where one of them strays
-abbrev pub IsReplay : {D : Type 0} → CoreState → List ℕ → JournalState D → List Grant → Restored D → Type 0
-IsReplay old text journal grants (Open core held found) =
-    (core ≡ record old { parts = replay old.cell grants }) × (held ≡ stored.Journal journal) × (found ≡ grants)
-    × AreDue old.cell grants × (replayed old.cell text grants ≡ Ok grants)
-IsReplay old text journal grants (Refused disk why) = (disk ≡ journal.disk) × (replayed old.cell text grants ≡ Err why)
-IsReplay old text journal grants (Device disk) = ⊥
-IsReplay old text journal grants (Memory disk) = ⊥

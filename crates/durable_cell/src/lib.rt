@@ -21,7 +21,8 @@
 //! that one grant is on the disk, the core goes on without it, and every later `ask` is answered `Halted`, until the disk is
 //! opened again.
 //!
-//! `restore` is the first half of `open`: it reads a disk and replays its grants, and writes nothing.
+//! `restore` is the first half of `open`: it reads a disk and replays its grants, and writes nothing. `resume` is the same for
+//! grants that need not be kept.
 #![tactic(auto)]
 
 mod durable;
@@ -31,14 +32,16 @@ mod marks;
 mod opening;
 mod replays;
 mod restored;
+mod resumed;
 mod stored;
 
 pub use durable::Durable;
 pub use fault::AskFault;
 pub use finished::Finished;
 pub use opening::Opening;
-pub use replays::{MAX_ROOM, replay};
+pub use replays::MAX_ROOM;
 pub use restored::{Restored, restore};
+pub use resumed::{Resumed, resume};
 pub use stored::Stored;
 
 #[cfg(test)]

@@ -1,42 +1,58 @@
-//! The replay of a journal's grants.
-ghost use Rattle.std.specs.Prelude.{◌≡◌, ◌≤◌, [], length, Ok, Err, OnOk, MatchResult};
-ghost use Rattle.cell_base.specs.Histories.{replay};
-ghost use Rattle.shift_recovery.specs.Replayed.{is_due, AreDue, replayed};
+//! The replay of a journal's grants, as they are read.
+ghost use Rattle.std.specs.Prelude.{◌≡◌, ℕ, ◌+◌, ◌*◌, List as Sequence, [], ◌∷◌, ◌++◌, length, true};
+ghost use Rattle.cell_base.specs.declared.shifts.Grant.{Grant as OneGrant};
+ghost use Rattle.cell_base.specs.Outcomes.{state_after};
+ghost use Rattle.admission_core.specs.CoreState.{CoreState};
+ghost use Rattle.shift_recovery.specs.Replayed.{is_due};
+ghost use Rattle.durable_cell.specs.Replays.{HasReplayed};
 
 use admission_core::Core;
-use cell_base::{Grant, Reply, Request, request_fits};
-use move_journal::{ENTRY_SIZE, MAX_CELL_TEXT, TEXT_AT};
-use shift_recovery::JournalFault;
+use cell_base::{Grant, NoMemory, Reply, Request, request_fits};
+use shift_recovery::Taker;
 
 /// The most grants of a journal for which there may be room, and the most entries of a history.
 pub const MAX_ROOM: u64 = 2_097_152;
 
-/// Brings a core from the empty state to the one after the grants of a journal with this cell text. The first grant that does
-/// not fit the cell, or is not granted in its turn, is damage at its gate; what the core then holds is not to be used.
-pub fn replay(core: &mut Core, cell_text: &[u8], grants: &[Grant]) -> Result<(), JournalFault>
-    requires empty { core.old.parts ≡ [] }
-    requires text { length cell_text.now ≤ MAX_CELL_TEXT }
-    requires few { length grants.now ≤ MAX_ROOM }
-    ensures exact { MatchResult result
-        (λ _. replayed core.old.cell cell_text.now grants.now ≡ Ok grants.now)
-        (λ why. replayed core.old.cell cell_text.now grants.now ≡ Err why) }
-    ensures due { OnOk result (AreDue core.old.cell grants.now) }
-    ensures state { OnOk result (core.new ≡ record core.old { parts = replay core.old.cell grants.now }) }
-{
-    let mut gate = TEXT_AT + cell_text.len() as u64;
-    for grant in grants {
-        if !is_due(core, &grant.request) {
-            return Err(JournalFault::Damaged { at: gate });
-        }
-        core.apply(&grant.request);
-        gate += ENTRY_SIZE;
-    }
-    Ok(())
+/// A core that takes the steps of a journal's grants, up to the first that does not fit the cell or is not granted in its turn; where
+/// the gate of that one stands; and who else is to have the grants. After a stray what the core holds is not to be used.
+#[derive(Drop)]
+pub(crate) struct Replay<K> {
+    pub(crate) core: Core,
+    pub(crate) stray: Option<u64>,
+    pub(crate) kept: K,
 }
 
-// Whether the request fits the cell and is granted now.
-fn is_due(core: &Core, request: &Request) -> bool
-    ensures { result ≡ is_due core.now.cell core.now.parts request.now }
+impl<K: Taker> Taker for Replay<K> {
+    ghost took = { λ start first grants now. HasReplayed start.core first grants now.core now.stray × K.took start.kept first grants now.kept };
+
+    fn take(&mut self, at: u64, grant: Grant) -> Result<(), NoMemory> {
+        self.stray = replay_one(&mut self.core, self.stray, at, &grant);
+        self.kept.take(at, grant)
+    }
+}
+
+// Replays a grant more, whose gate stands at an offset. Gives where the first stray stands.
+fn replay_one(core: &mut Core, stray: Option<u64>, at: u64, grant: &Grant) -> Option<u64>
+    ensures { (start : CoreState) (first : ℕ) (grants : Sequence OneGrant) → at ≡ first + 17 * length grants
+        → HasReplayed start first grants core.old stray → HasReplayed start first (grants ++ grant.now ∷ []) core.new result }
 {
-    request_fits(core.cell(), request) && core.decide(request) == Reply::Granted
+    match stray {
+        Some(gate) => Some(gate),
+        None => {
+            if is_taken(core, &grant.request) {
+                None
+            } else {
+                Some(at)
+            }
+        }
+    }
+}
+
+// Takes the step of a request that fits the cell and is granted now. Gives whether it is.
+fn is_taken(core: &mut Core, request: &Request) -> bool
+    ensures due { result ≡ is_due core.old.cell core.old.parts request.now }
+    ensures cell { core.new.cell ≡ core.old.cell }
+    ensures state { result ≡ true → core.new.parts ≡ state_after core.old.cell core.old.parts request.now }
+{
+    request_fits(core.cell(), request) && core.ask(request) == Reply::Granted
 }

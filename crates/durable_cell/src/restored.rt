@@ -1,18 +1,18 @@
-//! The recovery of a disk's grants, and their replay.
+//! The recovery of a disk's grants as a list, and their replay.
 ghost use Rattle.std.specs.Prelude.{◌≡◌, ◌≤◌, ℕ, List as Sequence, Some, [], length, IfSome};
 ghost use Rattle.cell_base.specs.declared.shifts.Grant.{Grant};
 ghost use Rattle.cell_base.specs.Fits.{CellFits};
 ghost use Rattle.move_journal.specs.Journals.{StandsFor};
 ghost use Rattle.shift_recovery.specs.Reads.{OnlyReads};
 ghost use Rattle.shift_recovery.specs.Replayed.{AreDue, opened_as};
-ghost use Rattle.durable_cell.specs.Restored.{disk_of, IsAnswer, IsFound, HasCore, Holds, HasRestoringCause, IsReplay};
+ghost use Rattle.durable_cell.specs.Restored.{disk_of, IsAnswer, IsFound, HasCore, Holds, HasRestoringCause};
 
-use crate::{MAX_ROOM, Stored, replay};
+use crate::{MAX_ROOM, Resumed, Stored, resume};
 use admission_core::Core;
 use cell_base::{Cell, Grant, List};
-use move_journal::{Journal, MAX_CELL_TEXT};
+use move_journal::MAX_CELL_TEXT;
 use outside_io::Disk;
-use shift_recovery::{JournalFault, Opened, recover};
+use shift_recovery::JournalFault;
 use std::alloc::Global;
 
 /// What a disk restores.
@@ -60,43 +60,14 @@ pub fn restore<D: Disk>(
     ensures stands { (file : Sequence ℕ) (grants : Sequence Grant) → D.reads_as disk ≡ Some file
         → StandsFor file cell_text.now grants → AreDue cell grants → length grants ≤ room → IsFound grants result }
 {
-    let Ok(core) = Core::open(alloc, cell) else {
-        return Restored::Memory { disk };
-    };
-    match recover(alloc, disk, cell_text, room) {
-        Opened::Fresh(blank) => Restored::Open {
+    match resume(alloc, cell, cell_text, disk, room, List::new(alloc)) {
+        Resumed::Open { core, stored, kept } => Restored::Open {
             core,
-            stored: Stored::Nothing(blank),
-            grants: List::new(alloc),
+            stored,
+            grants: kept,
         },
-        Opened::Found { journal, grants } => replay_found(core, cell_text, journal, grants),
-        Opened::Refused { disk, why } => Restored::Refused { disk, why },
-        Opened::Device { disk } => Restored::Device { disk },
-        Opened::Memory { disk } => Restored::Memory { disk },
-    }
-}
-
-// Replays the grants of a journal.
-fn replay_found<D: Disk>(
-    mut core: Core,
-    cell_text: &[u8],
-    journal: Journal<D>,
-    grants: List<Grant>,
-) -> Restored<D>
-    requires empty { core.parts ≡ [] }
-    requires text { length cell_text.now ≤ MAX_CELL_TEXT }
-    requires few { length grants ≤ MAX_ROOM }
-    ensures answer { IsReplay core cell_text.now journal grants result }
-{
-    match replay(&mut core, cell_text, grants.as_slice()) {
-        Ok(()) => Restored::Open {
-            core,
-            stored: Stored::Journal(journal),
-            grants,
-        },
-        Err(why) => Restored::Refused {
-            disk: journal.into_disk(),
-            why,
-        },
+        Resumed::Refused { disk, why } => Restored::Refused { disk, why },
+        Resumed::Device { disk } => Restored::Device { disk },
+        Resumed::Memory { disk } => Restored::Memory { disk },
     }
 }

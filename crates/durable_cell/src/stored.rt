@@ -1,5 +1,5 @@
 //! What a disk holds once it is recovered: nothing yet, or a journal.
-ghost use Rattle.std.specs.Prelude.{◌≡◌, ◌≤◌, List as Sequence, length};
+ghost use Rattle.std.specs.Prelude.{◌≡◌, ◌≤◌, ℕ, List as Sequence, length};
 ghost use Rattle.cell_base.specs.declared.shifts.Grant.{Grant};
 ghost use Rattle.durable_cell.specs.Made.{IsMade};
 ghost use Rattle.durable_cell.specs.Restored.{disk_stored, IsStored};
@@ -24,6 +24,16 @@ impl<D: Disk> Stored<D> {
         match self {
             Stored::Nothing(blank) => blank.disk(),
             Stored::Journal(journal) => journal.disk(),
+        }
+    }
+
+    /// The number of its grants.
+    pub fn count(&self) -> u64
+        ensures { (text : Sequence ℕ) (grants : Sequence Grant) → IsStored D.reads_as D.may_leave text grants self.now → result ≡ length grants }
+    {
+        match self {
+            Stored::Nothing(_) => 0,
+            Stored::Journal(journal) => journal.len(),
         }
     }
 

@@ -11,6 +11,7 @@ ghost use Rattle.entry_codec.specs.Decoding.{grant_of, grant_with, is_record_of}
 use cell_base::{Grant, JobId, MAX_BRANCHES, Request, ResId, TypeId};
 
 /// The grant whose record the bytes are; none where they are no record.
+#[inline(always)]
 #[tactic(auto, unfolding(crate::specs::Decoding::grant_of))]
 pub fn decode(bytes: &[u8; 16]) -> Option<Grant>
     ensures grant { result ≡ grant_of bytes.now }
@@ -32,6 +33,7 @@ pub fn decode(bytes: &[u8; 16]) -> Option<Grant>
 }
 
 // The request whose numbers stand in the bytes.
+#[inline(always)]
 fn request_in(bytes: &[u8; 16]) -> Option<Request>
     ensures { result ≡ spec.request_in bytes.now }
 {
@@ -59,6 +61,7 @@ fn request_in(bytes: &[u8; 16]) -> Option<Request>
 
 // Whether the bytes are the record of a grant of the request that stands in them: its branch is one, and the bytes in which no
 // number stands are those of its kind.
+#[inline(always)]
 fn is_record(bytes: &[u8; 16], request: &Request) -> bool
     requires { spec.request_in bytes.now ≡ Some request.now }
     ensures { result ≡ is_record_of (grant_with bytes.now request.now) bytes.now }
@@ -73,12 +76,14 @@ fn is_record(bytes: &[u8; 16], request: &Request) -> bool
 }
 
 // Whether there is neither a flag nor more than one number after the job.
+#[inline(always)]
 fn is_plain(bytes: &[u8; 16]) -> bool
     ensures { result ≡ (nat_eq (slice_index bytes.now 1) 0 && nat_eq (spec.number_2 bytes.now 12) 0) }
 {
     bytes[1] == 0 && number_2(bytes, 12) == 0
 }
 
+#[inline(always)]
 fn number_2(bytes: &[u8; 16], at: usize) -> u16
     requires { at ≤ 14 }
     ensures { result ≡ spec.number_2 bytes.now at }
@@ -86,6 +91,7 @@ fn number_2(bytes: &[u8; 16], at: usize) -> u16
     u16::from_be_bytes([bytes[at], bytes[at + 1]])
 }
 
+#[inline(always)]
 fn number_4(bytes: &[u8; 16], at: usize) -> u32
     requires { at ≤ 12 }
     ensures { result ≡ spec.number_4 bytes.now at }

@@ -17,7 +17,7 @@ use Rattle.move_journal.specs.declared.blank.BlankForm.{BlankForm}
 use Rattle.move_journal.specs.declared.blank.BlankForm.TheVariants.{Short, Shut, Named}
 use Rattle.shift_recovery.specs.declared.heads.Head.TheVariants.{Blank, Open}
 use Rattle.shift_recovery.specs.Readings.{has_name, head_of, first_difference, grants_from, read_as}
-use Rattle.shift_recovery.specs.Opening.{IsFoundBy}
+use Rattle.shift_recovery.specs.Scanning.{IsFoundBy}
 use Rattle.shift_recovery.proofs.HeadTests.{head_by}
 use Rattle.shift_recovery.proofs.HeadReading.{short_head, reads_by_head, same_text_then}
 use Rattle.shift_recovery.proofs.Windowed.{drop-drop_at}

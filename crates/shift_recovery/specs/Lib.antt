@@ -4,4 +4,5 @@ pub mod Reads
 pub mod Windows
 pub mod Walked
 pub mod Opening
+pub mod Scanning
 pub mod Replayed

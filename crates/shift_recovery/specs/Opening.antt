@@ -1,16 +1,13 @@
 -- The answers of recovery.
-use Rattle.std.specs.Prelude.{◌≡◌, ◌⊎◌, ℕ, ◌+◌, ◌*◌, ◌^◌, ◌≤◌, false, Option, Some, None, Result, Ok, Err, List, [], length, ⊤}
+use Rattle.std.specs.Prelude.{◌≡◌, ℕ, ◌≤◌, false, Option, Some, None, Result, Ok, Err, List, length, ⊤}
 use Rattle.cell_base.specs.declared.shifts.Grant.{Grant}
 use Rattle.outside_io.specs.Causes.{Rose}
-use Rattle.move_journal.specs.Blanks.{HasForm, IsBlank}
+use Rattle.move_journal.specs.Blanks.{IsBlank}
 use Rattle.move_journal.specs.Disks.{Rests}
-use Rattle.move_journal.specs.Journals.{IsJournal, gate_of}
+use Rattle.move_journal.specs.Journals.{IsJournal}
 use Rattle.shift_recovery.specs.declared.faults.JournalFault.{JournalFault}
 use Rattle.shift_recovery.specs.declared.recoveries.Opened.{Opened}
 use Rattle.shift_recovery.specs.declared.recoveries.Opened.TheVariants.{Fresh, Found, Refused, Device, Memory}
-use Rattle.shift_recovery.specs.declared.recoveries.Reading.{Reading}
-use Rattle.shift_recovery.specs.declared.recoveries.Reading.TheVariants as reading
-use Rattle.shift_recovery.specs.Readings.{read_as}
 
 -- the disk that an answer has
 abbrev pub disk_of : {D : Type 0} → Opened D → D
@@ -46,24 +43,3 @@ HasRoom room answer = ⊤
 abbrev pub HasOpeningCause : {D : Type 0} → ℕ → ℕ → Opened D → Type 0
 HasOpeningCause before now (Device disk) = Rose before now
 HasOpeningCause before now answer = now ≡ before
-
--- the bytes are read as these grants, where there is room
-abbrev pub IsFoundBy : Result (Option (List Grant)) JournalFault → ℕ → List Grant → Type 0
-IsFoundBy read room grants = length grants ≤ room → ((read ≡ Ok None) × (grants ≡ [])) ⊎ (read ≡ Ok (Some grants))
-
--- a reading of the bytes, with what opens them
-abbrev pub IsReading : List ℕ → List ℕ → ℕ → Reading → Type 0
-IsReading file text room (reading.Blank form) = (read_as file text room ≡ Ok None) × HasForm form file
-IsReading file text room (reading.Found gate grants) =
-    (read_as file text room ≡ Ok (Some grants)) × (gate ≡ gate_of text grants) × IsJournal file text grants
-IsReading file text room (reading.Faulty why) = read_as file text room ≡ Err why
-
--- no offset wraps
-abbrev pub IsSmall : Reading → Type 0
-IsSmall (reading.Found gate grants) = gate ≤ 2 ^ 33 + 17 * length grants
-IsSmall found = ⊤
-
--- there are no more grants than room
-abbrev pub IsFew : ℕ → Reading → Type 0
-IsFew room (reading.Found gate grants) = length grants ≤ room
-IsFew room found = ⊤

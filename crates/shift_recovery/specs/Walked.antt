@@ -1,5 +1,5 @@
 -- What a walk over the gates of a file finds.
-use Rattle.std.specs.Prelude.{◌≡◌, ℕ, ◌+◌, ◌*◌, ◌≤◌, Option, IfSome, Result, Ok, Err, List, ◌++◌, length, drop, ⊤}
+use Rattle.std.specs.Prelude.{◌≡◌, ℕ, ◌+◌, ◌*◌, ◌≤◌, Option, IfSome, Result, Ok, Err, List, ◌++◌, length, drop}
 use Rattle.cell_base.specs.declared.shifts.Grant.{Grant}
 use Rattle.shift_recovery.specs.declared.faults.JournalFault.{JournalFault}
 use Rattle.shift_recovery.specs.declared.walks.Walked.{Walked}
@@ -11,13 +11,17 @@ abbrev pub with_grants : List Grant → Result (List Grant) JournalFault → Res
 with_grants front (Ok grants) = Ok (front ++ grants)
 with_grants front (Err why) = Err why
 
--- the grants up to the closed gate, or the first fault, of the file from an offset on
-abbrev pub IsWalkFrom : Option (List ℕ) → ℕ → ℕ → Walked → Type 0
-IsWalkFrom told first room (Closed gate grants) =
-    (gate ≡ first + 17 * length grants) × IfSome told (λ file. grants_from room room first (drop first file) ≡ Ok grants)
-IsWalkFrom told first room (Faulty why) = IfSome told (λ file. grants_from room room first (drop first file) ≡ Err why)
+-- the taker took the grants up to a closed gate, no more than room, and they are those of the file from an offset on
+pub record IsTakenFrom {T : Type 0} (told : Option (List ℕ)) (first room : ℕ) (took : T → ℕ → List Grant → T → Type 0) (old new : T)
+    (gate count : ℕ) : Type 0 where
+  pub grants : List Grant
+  pub taken : took old first grants new
+  pub counted : count ≡ length grants
+  pub few : count ≤ room
+  pub gate_is : gate ≡ first + 17 * length grants
+  pub found : IfSome told (λ file. grants_from room room first (drop first file) ≡ Ok grants)
 
--- there are no more grants than room
-abbrev pub IsFew : ℕ → Walked → Type 0
-IsFew room (Closed gate grants) = length grants ≤ room
-IsFew room (Faulty why) = ⊤
+-- the grants up to the closed gate, or the first fault, of the file from an offset on
+abbrev pub IsWalkFrom : {T : Type 0} → Option (List ℕ) → ℕ → ℕ → (T → ℕ → List Grant → T → Type 0) → T → T → Walked → Type 0
+IsWalkFrom told first room took old new (Closed gate count) = IsTakenFrom told first room took old new gate count
+IsWalkFrom told first room took old new (Faulty why) = IfSome told (λ file. grants_from room room first (drop first file) ≡ Err why)

@@ -9,6 +9,7 @@ use entry_codec::decode;
 
 /// What begins with the gate at an offset, where the bytes from there on begin with the window. None where more bytes
 /// are needed, and `is_last` says that there are no more.
+#[inline(always)]
 #[tactic(auto, unfolding(crate::specs::Readings::gate_at))]
 pub(crate) fn gate_in(
     window: &[u8],

@@ -14,6 +14,9 @@
 //! pieces, from its start on, and writes nothing. What it finds is `read_as`, a definition over the whole file. On what
 //! a crash may leave of a journal's calls it never answers one of the four faults of `JournalFault`, where the cell text
 //! is the same and there is room.
+//!
+//! `scan` is the same for grants that need not be kept: it hands each one to a `Taker` as it is read, so that a journal of any
+//! length takes the memory of a few pieces.
 #![tactic(auto)]
 
 mod faults;
@@ -21,11 +24,15 @@ mod gates;
 mod heads;
 mod pieces;
 mod recoveries;
+mod scans;
+mod takers;
 mod texts;
 mod walks;
 
 pub use faults::JournalFault;
 pub use recoveries::{Opened, recover};
+pub use scans::{Scanned, scan};
+pub use takers::{Taker, Unkept};
 
 #[cfg(test)]
 mod tests;

@@ -1,20 +1,16 @@
 //! The recovery of what stands on a disk.
-ghost use Rattle.std.specs.Prelude.{◌≡◌, ℕ, List as Sequence, IfOk, IfSome, OnOk, IsErrOf};
-ghost use Rattle.outside_io.specs.Causes.{Rose};
-ghost use Rattle.outside_io.specs.Disk.{Only};
+ghost use Rattle.std.specs.Prelude.{◌≡◌, ℕ, List as Sequence, IfSome};
 ghost use Rattle.cell_base.specs.declared.shifts.Grant.{Grant};
 ghost use Rattle.move_journal.specs.Journals.{StandsFor};
 ghost use Rattle.shift_recovery.specs.Reads.{OnlyReads};
 ghost use Rattle.shift_recovery.specs.Readings.{read_as};
-ghost use Rattle.shift_recovery.specs.Opening.{disk_of, Answers, IsReading, IsSmall, IsFew, HasRoom, IsAnswer, HasOpeningCause, IsFoundBy};
+ghost use Rattle.shift_recovery.specs.Opening.{disk_of, Answers, HasRoom, IsAnswer, HasOpeningCause};
+ghost use Rattle.shift_recovery.specs.Scanning.{IsFoundBy};
 
-use crate::faults::{JournalFault, Stop};
-use crate::heads::{Head, read_head};
-use crate::pieces::with_piece;
-use crate::texts::{Compared, compare};
-use crate::walks::{Walked, walk};
+use crate::faults::JournalFault;
+use crate::scans::{Scanned, scan};
 use cell_base::{Grant, List};
-use move_journal::{Blank, BlankForm, Journal, TEXT_AT};
+use move_journal::{Blank, Journal};
 use outside_io::Disk;
 use std::alloc::Global;
 
@@ -56,63 +52,12 @@ pub fn recover<D: Disk>(alloc: Global, disk: D, cell_text: &[u8], room: u64) -> 
     ensures stands { (file : Sequence ℕ) (grants : Sequence Grant) → StandsFor file cell_text.now grants
         → IsFoundBy (read_as file cell_text.now room) room grants }
 {
-    let mut disk = disk;
-    match read_journal(alloc, &mut disk, cell_text, room) {
-        Ok(Reading::Blank(form)) => match Blank::new(alloc, disk, form) {
-            Ok(blank) => Opened::Fresh(blank),
-            Err(disk) => Opened::Memory { disk },
-        },
-        Ok(Reading::Found { gate, grants }) => Opened::Found {
-            journal: Journal::found(disk, gate, grants.len()),
-            grants,
-        },
-        Ok(Reading::Faulty(why)) => Opened::Refused { disk, why },
-        Err(Stop::Device) => Opened::Device { disk },
-        Err(Stop::Memory) => Opened::Memory { disk },
-    }
-}
-
-/// What the bytes are read as.
-#[derive(Drop)]
-pub(crate) enum Reading {
-    Blank(BlankForm),
-    Found { gate: u64, grants: List<Grant> },
-    Faulty(JournalFault),
-}
-
-// Makes what the disk reads as stable, and reads it.
-fn read_journal<D: Disk>(
-    alloc: Global,
-    disk: &mut D,
-    cell_text: &[u8],
-    room: u64,
-) -> Result<Reading, Stop>
-    ensures reads { OnlyReads D.reads_as D.may_leave D.moment D.left_since disk.old disk.new }
-    ensures exact { IfOk result (λ reading. IfSome (D.reads_as disk.old)
-        (λ file. IsReading file cell_text.now room reading)) }
-    ensures small { IfOk result IsSmall }
-    ensures few { IfOk result (IsFew room) }
-    ensures stable { OnOk result (IfSome (D.reads_as disk.new) (λ file. Only file (D.may_leave disk.new))) }
-    ensures ok { OnOk result (D.faults disk.new ≡ D.faults disk.old) }
-    ensures device { IsErrOf result Stop.Device → Rose (D.faults disk.old) (D.faults disk.new) }
-    ensures memory { IsErrOf result Stop.Memory → D.faults disk.new ≡ D.faults disk.old }
-{
-    disk.sync()?;
-    let len = disk.len()?;
-    if len == 0 {
-        return Ok(Reading::Blank(BlankForm::Short));
-    }
-    let kept = with_piece(alloc, disk, 0, len, &[])?;
-    let size = match read_head(&kept, len) {
-        Head::Blank(form) => return Ok(Reading::Blank(form)),
-        Head::Faulty(why) => return Ok(Reading::Faulty(why)),
-        Head::Open(size) => u64::from(size),
-    };
-    match compare(alloc, disk, len, kept, size, cell_text)? {
-        Compared::Differs(at) => Ok(Reading::Faulty(JournalFault::OtherCell { at })),
-        Compared::Same(window) => match walk(alloc, disk, len, TEXT_AT + size, window, room)? {
-            Walked::Faulty(why) => Ok(Reading::Faulty(why)),
-            Walked::Closed { gate, grants } => Ok(Reading::Found { gate, grants }),
-        },
+    let mut grants = List::new(alloc);
+    match scan(alloc, disk, cell_text, room, &mut grants) {
+        Scanned::Fresh(blank) => Opened::Fresh(blank),
+        Scanned::Found(journal) => Opened::Found { journal, grants },
+        Scanned::Refused { disk, why } => Opened::Refused { disk, why },
+        Scanned::Device { disk } => Opened::Device { disk },
+        Scanned::Memory { disk } => Opened::Memory { disk },
     }
 }

@@ -1,15 +1,15 @@
 //! The walk over the gates of a file, with a part of a record kept from one piece to the next.
-ghost use Rattle.std.specs.Prelude.{◌≡◌, ◌+◌, IfOk, OnOk, IsErrOf};
+ghost use Rattle.std.specs.Prelude.{◌≡◌, ◌+◌, [], IfOk, OnOk, IsErrOf};
 ghost use Rattle.outside_io.specs.Causes.{Rose};
 ghost use Rattle.shift_recovery.specs.Reads.{OnlyReads};
 ghost use Rattle.shift_recovery.specs.Windows.{IsAt, Shows};
-ghost use Rattle.shift_recovery.specs.Walked.{IsWalkFrom, IsFew};
+ghost use Rattle.shift_recovery.specs.Walked.{IsWalkFrom};
 
 use crate::faults::{JournalFault, Stop};
 use crate::gates::gate_in;
 use crate::pieces::{PIECE, with_piece};
+use crate::takers::Taker;
 use crate::texts::Window;
-use cell_base::{Grant, List};
 use move_journal::ENTRY_SIZE;
 use outside_io::Disk;
 use std::alloc::Global;
@@ -17,25 +17,26 @@ use std::alloc::Global;
 /// What came of the walk over the gates.
 #[derive(Drop)]
 pub(crate) enum Walked {
-    /// The grants, and where the closed gate stands.
-    Closed { gate: u64, grants: List<Grant> },
+    /// Where the closed gate stands, and how many grants come before it.
+    Closed { gate: u64, count: u64 },
     Faulty(JournalFault),
 }
 
-/// Walks from the gate at an offset to the first closed one, and collects at most so many grants.
-pub(crate) fn walk<D: Disk>(
+/// Walks from the gate at an offset to the first closed one, and hands on at most so many grants.
+pub(crate) fn walk<D: Disk, T: Taker>(
     alloc: Global,
     disk: &mut D,
     len: u64,
     first: u64,
     window: Window,
     room: u64,
+    taker: &mut T,
 ) -> Result<Walked, Stop>
     requires window { IsAt first len window.at window.used window.kept.items }
     requires shows { Shows (D.reads_as disk.old) first len window.at window.used window.kept.items }
+    requires none { T.took taker.old first [] taker.old }
     ensures reads { OnlyReads D.reads_as D.may_leave D.moment D.left_since disk.old disk.new }
-    ensures walked { IfOk result (IsWalkFrom (D.reads_as disk.old) first room) }
-    ensures few { IfOk result (IsFew room) }
+    ensures walked { IfOk result (IsWalkFrom (D.reads_as disk.old) first room T.took taker.old taker.new) }
     ensures ok { OnOk result (D.faults disk.new ≡ D.faults disk.old) }
     ensures device { IsErrOf result Stop.Device → Rose (D.faults disk.old) (D.faults disk.new) }
     ensures memory { IsErrOf result Stop.Memory → D.faults disk.new ≡ D.faults disk.old }
@@ -46,7 +47,7 @@ pub(crate) fn walk<D: Disk>(
         mut used,
     } = window;
     let mut gate = first;
-    let mut grants = List::new(alloc);
+    let mut count = 0;
     'gates: loop {
         match gate_in(&kept[used..], gate, at == len) {
             None => {
@@ -55,14 +56,15 @@ pub(crate) fn walk<D: Disk>(
                 at += PIECE.min(len - at);
             }
             Some(Err(why)) => return Ok(Walked::Faulty(why)),
-            Some(Ok(None)) => return Ok(Walked::Closed { gate, grants }),
+            Some(Ok(None)) => return Ok(Walked::Closed { gate, count }),
             Some(Ok(Some(grant))) => {
-                if grants.len() == room {
+                if count == room {
                     return Ok(Walked::Faulty(JournalFault::Long { len: room + 1 }));
                 }
-                grants.try_push(grant)?;
+                taker.take(gate, grant)?;
                 used += ENTRY_SIZE as usize;
                 gate += ENTRY_SIZE;
+                count += 1;
             }
         }
     }

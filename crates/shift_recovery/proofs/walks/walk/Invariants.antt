@@ -1,6 +1,7 @@
--- So far grants were found, and what is found from the gate on comes after them.
+-- So far grants were taken, and what is found from the gate on comes after them.
 use Rattle.std.specs.Prelude.{IfSome}
-use Rattle.std.proofs.Common.{◌≡◌, ◌+◌, ◌-◌, ◌*◌, ◌≤◌, length, drop}
+use Rattle.std.proofs.Common.{◌≡◌, ◌+◌, ◌-◌, ◌*◌, ◌≤◌, List, length, drop}
+use Rattle.cell_base.specs.declared.shifts.Grant.{Grant}
 use Rattle.shift_recovery.specs.Readings.{grants_from}
 use Rattle.shift_recovery.specs.Reads.{OnlyReads}
 use Rattle.shift_recovery.specs.Walked.{with_grants}
@@ -10,13 +11,16 @@ use Rattle.shift_recovery.proofs.walks.walk.Given as goal
 abbrev pub invariant-gates : goal.invariant-gates
 invariant-gates g l = record {
   reads : OnlyReads g.D.Disk.reads_as g.D.Disk.may_leave g.D.Disk.moment g.D.Disk.left_since l.fn.disk l.disk;
-  count : g.D.Disk.faults l.disk ≡ g.D.Disk.faults l.fn.disk;
+  faults : g.D.Disk.faults l.disk ≡ g.D.Disk.faults l.fn.disk;
   window : IsAt l.gate l.len l.at l.used l.kept.items;
   shows : Shows (g.D.Disk.reads_as l.fn.disk) l.gate l.len l.at l.used l.kept.items;
-  gate_is : l.gate ≡ l.first + 17 * length l.grants;
-  within : length l.grants ≤ l.room;
+  grants : List Grant;
+  taken : g.T.Taker.took l.fn.taker l.first grants l.taker;
+  counted : l.count ≡ length grants;
+  gate_is : l.gate ≡ l.first + 17 * length grants;
+  within : length grants ≤ l.room;
   walked : IfSome (g.D.Disk.reads_as l.fn.disk) (λ file. grants_from l.room l.room l.first (drop l.first file)
-      ≡ with_grants l.grants (grants_from l.room (l.room - length l.grants) l.gate (drop l.gate file)));
+      ≡ with_grants grants (grants_from l.room (l.room - length grants) l.gate (drop l.gate file)));
 }
 
 abbrev pub decreases-gates : goal.decreases-gates

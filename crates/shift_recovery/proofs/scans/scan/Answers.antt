@@ -1,6 +1,6 @@
 -- What the calls of a journal may leave is found, whatever the answer is.
 use Rattle.shift_recovery.proofs.Standing.{stands_found}
-use Rattle.shift_recovery.proofs.recoveries.recover.Goals as goal
+use Rattle.shift_recovery.proofs.scans.scan.Goals as goal
 
 pub returns-in-Ok-clause-stands : goal.returns-in-Ok-clause-stands
 returns-in-Ok-clause-stands g c file grants = stands_found file c.args.cell_text.now c.args.room grants
