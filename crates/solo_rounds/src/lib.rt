@@ -20,5 +20,5 @@ mod runs;
 
 pub use counts::{asks_of, steps_of};
 pub use progress::Progress;
-pub use rounds::solo;
-pub use runs::{SoloRun, run_rounds};
+pub use rounds::Rounds;
+pub use runs::{SoloRun, run_rounds, solo};
