@@ -1,5 +1,5 @@
 -- One stage more, or the sink failed at its line.
-use Rattle.std.proofs.Common.{◌≡◌, ℕ, List, arith, length, subst, ◌∙◌}
+use Rattle.std.proofs.Common.{◌≡◌, ℕ, arith, length, subst, ◌∙◌}
 use Rattle.std.specs.List.{flat_map, range_with_len}
 use Rattle.outside_io.specs.Puts.{TookAll, TookSome, sink_told}
 use Rattle.cell_base.specs.Stages.{stages}

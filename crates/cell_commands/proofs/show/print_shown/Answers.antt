@@ -1,7 +1,7 @@
 -- One resource more, or the sink failed in its lines.
-use Rattle.std.proofs.Common.{◌≡◌, ℕ, List, ap, arith, length, subst, ◌∙◌}
+use Rattle.std.proofs.Common.{◌≡◌, ℕ, ap, arith, length, subst, ◌∙◌}
 use Rattle.std.specs.List.{flat_map, range_with_len}
-use Rattle.outside_io.specs.Puts.{TookAll, TookSome, sink_told}
+use Rattle.outside_io.specs.Puts.{TookAll, sink_told}
 use Rattle.cell_base.specs.declared.cells.Cell.{Cell}
 use Rattle.refusal_reason.specs.Shown.{resource_lines}
 use Rattle.cell_commands.proofs.Showing.{group_failed, group_taken}
