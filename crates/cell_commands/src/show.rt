@@ -1,27 +1,31 @@
 //! `show CELL`: the resources of a cell, each with the stages of its neighborhood.
-ghost use Rattle.std.specs.Prelude.{◌≡◌, IfOk};
-ghost use Rattle.std.specs.List.{All, concat};
-ghost use Rattle.refusal_reason.specs.Shown.{IsLine, show_lines};
-ghost use Rattle.cell_walks.specs.Clauses.{Ends, IsAllowed, IsDelivered, disk_told, files_told, no_disk, observed, sink_told};
-ghost use Rattle.cell_commands.specs.Show.{show, shown_outcome};
+ghost use Rattle.std.specs.Prelude.{◌≡◌, ◌<◌, length, IfOk, OnErr, OnOk};
+ghost use Rattle.cell_base.specs.Neighborhoods.{masks_of, neighborhood};
+ghost use Rattle.cell_base.specs.Numbers.{IsNumber};
+ghost use Rattle.cell_base.specs.Fits.{CellFits};
+ghost use Rattle.refusal_reason.specs.Shown.{resource_lines, show_lines, stage_lines};
+ghost use Rattle.cell_walks.specs.Clauses.{Ends, HasCause, IsAllowed, IsDelivered, TookAll, TookSome};
+ghost use Rattle.cell_walks.specs.Clauses.{disk_told, files_told, no_disk, observed, sink_told};
+ghost use Rattle.cell_commands.specs.Show.{member_lines, show, shown_outcome};
 
-use admission_core::Core;
-use cell_base::List;
-use cell_texts::{CommandEnd, print_text, read_cell};
+use cell_base::{Cell, NoMemory, ResId};
+use cell_texts::{CommandEnd, print_line, read_cell};
 use cell_walks::{EarlyEnd, Status, finish_early};
-use outside_io::{Disk, Files, Sink};
-use refusal_reason::laws::show_lines_are_lines;
-use refusal_reason::show_text;
+use outside_io::{Disk, Failed, Files, Sink};
+use record_text::Line;
+use refusal_reason::{resource_line, write_member};
+use route_table::{StageNo, StageTable};
 use std::alloc::Global;
+use upstream_sets::Upstream;
 
-// What is printed of the cell of a core.
+// What is shown: the stages of a cell, and to which resources they lead.
 #[derive(Drop)]
 struct Shown {
-    core: Core,
-    text: List<u8>,
+    table: StageTable,
+    upstream: Upstream,
 }
 
-/// Runs `show CELL`.
+/// Runs `show CELL`. All memory is taken before the first line is printed, and each line is printed as it is made.
 pub fn run_show<F: Files, K: Sink, D: Disk>(
     alloc: Global,
     files: &mut F,
@@ -43,35 +47,110 @@ pub fn run_show<F: Files, K: Sink, D: Disk>(
 fn shown_of_files<F: Files>(alloc: Global, files: &mut F, cell: &str) -> Result<Shown, EarlyEnd>
     ensures allowed { let files = files_told F.holds F.is_sound F.faults files.old files.new in
         IsAllowed (observed files no_disk) (show cell.now) (shown_outcome result) }
-    ensures text { IfOk result (λ shown. shown.text ≡ concat (show_lines shown.core.cell)) }
-    ensures lines { IfOk result (λ shown. All IsLine (show_lines shown.core.cell)) }
+    ensures masks { IfOk result (λ shown. shown.upstream ≡ masks_of shown.table) }
 {
     match read_cell(alloc, files, cell) {
-        Ok(held) => match Core::open(alloc, held.cell) {
-            Ok(core) => match show_text(alloc, &core) {
-                Ok(text) => {
-                    show_lines_are_lines(core.cell());
-                    Ok(Shown { core, text })
-                }
-                Err(_) => Err(EarlyEnd::WantOfMemory),
-            },
+        Ok(held) => match shown_of(alloc, &held.cell) {
+            Ok(shown) => Ok(shown),
             Err(_) => Err(EarlyEnd::WantOfMemory),
         },
         Err(end) => Err(end),
     }
 }
 
+// What is shown of a cell.
+fn shown_of(alloc: Global, cell: &Cell) -> Result<Shown, NoMemory>
+    requires { CellFits cell.now }
+    ensures cell { IfOk result (λ shown. shown.table ≡ cell.now) }
+    ensures masks { IfOk result (λ shown. shown.upstream ≡ masks_of shown.table) }
+{
+    let table = StageTable::new(alloc, cell)?;
+    let upstream = Upstream::new(alloc, &table)?;
+    Ok(Shown { table, upstream })
+}
+
 // Prints the lines, or the early end, and answers the status.
 fn print_made<K: Sink>(out: &mut K, made: Result<Shown, EarlyEnd>) -> Status
-    requires text { IfOk made (λ shown. shown.text ≡ concat (show_lines shown.core.cell)) }
-    requires lines { IfOk made (λ shown. All IsLine (show_lines shown.core.cell)) }
+    requires { IfOk made (λ shown. shown.upstream ≡ masks_of shown.table) }
     ensures { IsDelivered (sink_told K.taken K.was_put K.faults out.old out.new) (shown_outcome made) result }
 {
     match made {
-        Ok(shown) => match print_text(out, shown.text.as_slice()) {
+        Ok(shown) => match print_shown(out, &shown) {
             Ok(()) => Status::Done,
             Err(_) => Status::SinkFault,
         },
         Err(end) => finish_early(out, end),
+    }
+}
+
+// Prints each resource with its neighborhood, up to the first line that the sink doesn't take.
+fn print_shown<K: Sink>(out: &mut K, shown: &Shown) -> Result<(), Failed>
+    requires { shown.now.upstream ≡ masks_of shown.now.table }
+    ensures whole { OnOk result (TookAll (sink_told K.taken K.was_put K.faults out.old out.new) (show_lines shown.now.table)) }
+    ensures part { OnErr result (TookSome (sink_told K.taken K.was_put K.faults out.old out.new) (show_lines shown.now.table)) }
+    ensures cause { HasCause (K.faults out.old) (K.faults out.new) result }
+{
+    for r in 0..shown.table.cell().resources.len() {
+        if let Err(failed) = print_resource(out, shown, ResId(r as u16)) {
+            return Err(failed);
+        }
+    }
+    Ok(())
+}
+
+// Prints the line of a resource, and those of its neighborhood.
+fn print_resource<K: Sink>(out: &mut K, shown: &Shown, r: ResId) -> Result<(), Failed>
+    requires masks { shown.now.upstream ≡ masks_of shown.now.table }
+    requires resource { r.0 < length shown.now.table.resources }
+    ensures whole { OnOk result (TookAll (sink_told K.taken K.was_put K.faults out.old out.new) (resource_lines shown.now.table r.0)) }
+    ensures part { OnErr result (TookSome (sink_told K.taken K.was_put K.faults out.old out.new) (resource_lines shown.now.table r.0)) }
+    ensures cause { HasCause (K.faults out.old) (K.faults out.new) result }
+{
+    if let Err(failed) = print_line(out, &resource_line(shown.table.cell(), r)) {
+        return Err(failed);
+    }
+    print_members(out, shown, r)
+}
+
+// Prints the line of each stage of a neighborhood.
+fn print_members<K: Sink>(out: &mut K, shown: &Shown, r: ResId) -> Result<(), Failed>
+    requires masks { shown.now.upstream ≡ masks_of shown.now.table }
+    requires resource { r.0 < length shown.now.table.resources }
+    ensures whole { OnOk result (TookAll (sink_told K.taken K.was_put K.faults out.old out.new)
+        (stage_lines shown.now.table (neighborhood shown.now.table r.0))) }
+    ensures part { OnErr result (TookSome (sink_told K.taken K.was_put K.faults out.old out.new)
+        (stage_lines shown.now.table (neighborhood shown.now.table r.0))) }
+    ensures cause { HasCause (K.faults out.old) (K.faults out.new) result }
+{
+    let mut line = Line::new();
+    for stage in 0..shown.table.stages() {
+        if let Err(failed) = print_member(out, &mut line, shown, StageNo(stage), r) {
+            return Err(failed);
+        }
+    }
+    Ok(())
+}
+
+// Prints the line of a stage, if it is of the neighborhood.
+fn print_member<K: Sink>(
+    out: &mut K,
+    line: &mut Line,
+    shown: &Shown,
+    stage: StageNo,
+    r: ResId,
+) -> Result<(), Failed>
+    requires masks { shown.now.upstream ≡ masks_of shown.now.table }
+    requires stage { IsNumber shown.now.table stage.0 }
+    requires resource { r.0 < length shown.now.table.resources }
+    ensures whole { OnOk result
+        (TookAll (sink_told K.taken K.was_put K.faults out.old out.new) (member_lines shown.now.table r.0 stage.0)) }
+    ensures part { OnErr result
+        (TookSome (sink_told K.taken K.was_put K.faults out.old out.new) (member_lines shown.now.table r.0 stage.0)) }
+    ensures cause { HasCause (K.faults out.old) (K.faults out.new) result }
+{
+    if write_member(line, &shown.table, &shown.upstream, stage, r) {
+        print_line(out, line)
+    } else {
+        Ok(())
     }
 }

@@ -3,7 +3,7 @@
 //! A request that is refused for a full neighborhood is told the resource and two numbers. `explain` names the jobs that
 //! stand in that neighborhood, as many as the resource has units; each other refusal needs no job. `show_text` is the text
 //! of a cell's resources, each with the stages of its neighborhood, and `first_line` gives out its lines one by one;
-//! `resource_line` and `write_stage` make them alone:
+//! `resource_line`, `write_stage` and `write_member` make them alone:
 //!
 //! ```text
 //! if let Reply::Refused(why) = core.decide(&request) {
@@ -19,7 +19,7 @@ mod reasons;
 mod shown;
 
 pub use reasons::explain;
-pub use shown::{first_line, resource_line, show_text, write_stage};
+pub use shown::{first_line, resource_line, show_text, write_member, write_stage};
 
 #[cfg(test)]
 mod tests;

@@ -7,3 +7,4 @@ mod Ran
 mod RunSessions
 pub mod RunTold
 mod Soloing
+mod Printing

@@ -1,9 +1,7 @@
 -- How the outcomes of `run` come about.
 use Rattle.std.specs.Prelude.{IfSome}
-use Rattle.std.proofs.Common.{◌≡◌, inl, inr, ℕ, true, false, List, [], All, Option, Some, None, Result, Ok, Err, refl, sym, ap, ◌∙◌, subst}
+use Rattle.std.proofs.Common.{◌≡◌, ℕ, false, List, Option, Result, Ok, Err, refl, sym, ap, ◌∙◌, subst}
 use Rattle.outside_io.specs.Files.{Names}
-use Rattle.cell_base.specs.declared.cells.Cell.{Cell}
-use Rattle.cell_base.specs.declared.shifts.Entry.{Entry}
 use Rattle.cell_base.specs.declared.shifts.Grant.{Grant}
 use Rattle.cell_base.specs.declared.shifts.Shift.{Shift}
 use Rattle.cell_base.specs.Fits.{ShiftFits}
@@ -13,7 +11,7 @@ use Rattle.durable_cell.specs.DurableState.{DurableState}
 use Rattle.durable_cell.specs.Openings.{fresh}
 use Rattle.shift_recovery.specs.Replayed.{AreDue, opened_as}
 use Rattle.shift_file.specs.Walk.{shift_of}
-use Rattle.cell_walks.specs.Allowed.{AtOpening, ByMemory, ByRefusal, IsAllowed, IsEndedAt, JournalOpened}
+use Rattle.cell_walks.specs.Allowed.{ByMemory, ByRefusal, IsAllowed, IsEndedAt, JournalOpened}
 use Rattle.cell_walks.specs.Allowed.{NotOpened, Opened, Passed, Stopped, Unasked, AllowsFrom}
 use Rattle.cell_walks.specs.DiskTold.{DiskTold, IsUntouched, disk_told}
 use Rattle.cell_walks.specs.Observed.{File, FilesTold, Observed, Shows, files_told, observed}

@@ -1,24 +1,17 @@
 -- Each session of a history without a halt went through its script.
 use mathlib.Core.List.{IsPrefix}
-use Rattle.std.specs.Prelude.{Some, None, ◌||◌}
 use Rattle.std.proofs.Common.{◌≡◌, ◌⊎◌, inl, inr, ℕ, ◌*◌, ◌<◌, ◌≤◌, ◌==◌, Bool, true, false, cond, List}
 use Rattle.std.proofs.Common.{[], ◌∷◌, ◌++◌, length, All, refl, sym, ap, ◌∙◌, subst, arith, length-take}
 use Rattle.std.proofs.lemmas.Bool.{cond-true, or_parts, or_from, cases_lt, eq-eqb, true≢false}
-use Rattle.std.proofs.lemmas.Option.{same_Some}
 use Rattle.std.proofs.lemmas.List.Elements.{All-nil, All-cons}
-use Rattle.cell_base.specs.declared.cells.Cell.{Cell}
-use Rattle.cell_base.specs.declared.requests.Part.{Part}
-use Rattle.cell_base.specs.declared.requests.Told.{Told}
-use Rattle.cell_base.specs.declared.requests.Told.TheVariants.{Answered, Halted}
 use Rattle.cell_base.specs.declared.shifts.Entry.{Entry}
 use Rattle.cell_base.specs.declared.shifts.Grant.{Grant}
 use Rattle.cell_base.specs.declared.shifts.Shift.{Shift}
 use Rattle.cell_base.specs.Fits.{steps_of}
-use Rattle.cell_base.specs.Histories.{IsLegal, IsToldRightly, entries_of, state_after_entry, was_halted}
+use Rattle.cell_base.specs.Histories.{entries_of, was_halted}
 use Rattle.cell_base.specs.Rounds.{IsSession}
 use Rattle.cell_base.specs.Scripts.{IsTrace, IsWholeTrace, begin_at, holds_halt, script_of, first_step}
 use Rattle.solo_rounds.proofs.Traces.{holds_halt-entries_of}
-use Rattle.durable_cell.specs.Asked.{halted_in}
 use Rattle.cell_base.specs.Starts.{AreFirstSteps}
 use Rattle.shift_commands.specs.Run.{EachSession}
 use Rattle.shift_commands.specs.JournalRuns.{HasGone}

@@ -1,17 +1,15 @@
 -- How the outcomes of `solo` come about.
-use Rattle.std.specs.List.{concat}
-use Rattle.std.proofs.Common.{◌≡◌, ℕ, List, [], length, All, Option, Ok, ap, refl, sym, subst, ◌∙◌}
+use Rattle.std.proofs.Common.{◌≡◌, ℕ, List, [], length, Option, Ok, refl}
 use Rattle.outside_io.specs.Files.{Names}
 use Rattle.cell_base.specs.declared.cells.Cell.{Cell}
-use Rattle.cell_base.specs.declared.requests.Part.{Part}
 use Rattle.cell_base.specs.declared.shifts.Entry.{Entry}
 use Rattle.cell_base.specs.declared.shifts.Shift.{Shift}
 use Rattle.cell_base.specs.Fits.{CellFits, ShiftFits}
 use Rattle.cell_base.specs.Histories.{after}
 use Rattle.cell_base.specs.Plans.{plan_of}
+use Rattle.cell_base.specs.Rounds.{IsRoundRobin}
 use Rattle.cell_texts.specs.Blocks.{planned_block}
 use Rattle.cell_texts.proofs.BlockTexts.{planned_text}
-use Rattle.record_text.specs.Fitting.{EntryFits}
 use Rattle.shift_file.specs.Walk.{shift_of}
 use Rattle.cell_walks.specs.Allowed.{ByMemory, IsAllowed, IsEndedAt, Passed, Stopped, Unasked}
 use Rattle.cell_walks.specs.DiskTold.{no_disk}
@@ -23,40 +21,23 @@ use Rattle.cell_walks.specs.declared.early_end.EarlyEnd.TheVariants.{WantOfMemor
 use Rattle.cell_walks.proofs.Steps.{ended_at, ended_after, none_done, shown_before}
 use Rattle.cell_texts.specs.Tests.{KnownCell, cell_file, cell_reads, shift_file}
 use Rattle.shift_commands.specs.Solo.{IsSoloRecord, IsSoloShift, solo}
-use Rattle.shift_commands.specs.SoloRuns.{lines_of_run}
-use Rattle.solo_rounds.specs.SoloRuns.{IsSoloRun}
-use Rattle.solo_rounds.specs.declared.runs.SoloRun.{SoloRun}
-use Rattle.shift_commands.proofs.Rounds.{rounds_drain, rounds_fit, rounds_unhalted}
+use Rattle.shift_commands.proofs.Rounds.{rounds_drain, rounds_unhalted}
 
-module _ (cell : Cell) (shift : Shift) (run : SoloRun) (is : IsSoloRun cell shift run) where
-  -- the lines of a run are those of its history and of the plan after it
-  lines_are : let behind = after cell [] run.history.items in
-      lines_of_run run ≡ planned_block cell shift.number 0 run.history.items (length behind) (plan_of cell behind)
-  lines_are =
-      let history : List Entry = run.history.items in
-      ap (λ (c : Cell). planned_block c run.number 0 history (length run.core.parts) (plan_of c run.core.parts)) is.on
-      ∙ ap (λ (n : ℕ). planned_block cell n 0 history (length run.core.parts) (plan_of cell run.core.parts)) is.numbered
-      ∙ ap (λ (parts : List Part). planned_block cell shift.number 0 history (length parts) (plan_of cell parts)) is.left
+-- the lines of the history and of the plan after it are those of the record of the shift
+module _ (cell : Cell) (shift : Shift) (fits : CellFits cell) (shift_fits : ShiftFits cell shift) (history : List Entry)
+    (rounds : IsRoundRobin cell [] shift history) where
+  abbrev pub record_lines : List (List ℕ)
+  record_lines = let left = after cell [] history in planned_block cell shift.number 0 history (length left) (plan_of cell left)
 
-  -- and so are those of the record of its shift
-  solo_record : CellFits cell → ShiftFits cell shift → IsSoloRecord cell shift (lines_of_run run)
-  solo_record fits shift_fits =
-      let history : List Entry = run.history.items in
-      record {
-        history = history;
-        rounds = is.rounds;
-        drains = rounds_drain cell fits shift history shift_fits is.rounds;
-        printed = lines_are;
-        text = ap concat lines_are
-            ∙ planned_text cell [] shift.number 0 history (plan_of cell (after cell [] history))
-            (rounds_unhalted cell fits shift history shift_fits is.rounds);
-      }
-
-  -- its entries fit
-  pub run_fits : CellFits cell → ShiftFits cell shift → All (EntryFits run.core.cell) run.history.items
-  run_fits fits shift_fits =
-      subst (λ (on : Cell). All (EntryFits on) run.history.items) (sym is.on)
-      (rounds_fit cell fits shift run.history.items shift_fits is.rounds)
+  pub solo_record : IsSoloRecord cell shift record_lines
+  solo_record = record {
+    history = history;
+    rounds = rounds;
+    drains = rounds_drain cell fits shift history shift_fits rounds;
+    printed = refl;
+    text = planned_text cell [] shift.number 0 history (plan_of cell (after cell [] history))
+        (rounds_unhalted cell fits shift history shift_fits rounds);
+  }
 
 module _ {F : Type 0} (holds : F → Option Names) (is_sound : F → Type 0) (faults : F → ℕ) (cell shift_name : List ℕ) where
   abbrev ran : KnownCell → Shift → Walk
@@ -85,13 +66,13 @@ module _ {F : Type 0} (holds : F → Option Names) (is_sound : F → Type 0) (fa
     pub solo_starved : IsAllowed (observed (files_told holds is_sound faults old new) no_disk) (solo cell shift_name) (early WantOfMemory)
     solo_starved = Passed held shows (Stopped WantOfMemory (ByMemory refl) (refl, none_done))
 
-    -- both were, and the shift ran
-    pub solo_ran : (shift : Shift) (run : SoloRun)
+    -- both were, and each record of the shift is an answer
+    pub solo_ran : (shift : Shift) (lines : List (List ℕ))
         → Shows (files_told holds is_sound faults mid new) (File shift_name) (λ bytes. shift_of held.cell bytes ≡ Ok shift)
-        → CellFits held.cell → ShiftFits held.cell shift → IsSoloRun held.cell shift run
-        → IsAllowed (observed (files_told holds is_sound faults old new) no_disk) (solo cell shift_name) (done (lines_of_run run))
-    solo_ran shift run read fits shift_fits is =
+        → IsSoloRecord held.cell shift lines
+        → IsAllowed (observed (files_told holds is_sound faults old new) no_disk) (solo cell shift_name) (done lines)
+    solo_ran shift lines read is =
         Passed held shows
         (Passed shift
         (shown_before holds is_sound faults old mid new same (File shift_name) (λ bytes. shift_of held.cell bytes ≡ Ok shift) read)
-        ((lines_of_run run, solo_record held.cell shift run is fits shift_fits, refl), none_done))
+        ((lines, is, refl), none_done))

@@ -6,9 +6,9 @@ pub use Rattle.shift_recovery.specs.Replayed.{AreDue}
 pub use Rattle.cell_lock.specs.Openings.{opening_of}
 pub use Rattle.cell_lock.specs.Standing.{new_passes}
 pub use Rattle.cell_sessions.specs.Starting.{AreBegun}
-pub use Rattle.record_text.specs.Fitting.{EntryFits}
+pub use Rattle.solo_rounds.specs.Asking.{AreAsking, AreReady}
 pub use Rattle.cell_walks.specs.Allowed.{StandsForAdded}
 pub use Rattle.shift_commands.specs.JournalRuns.{HasStarted, IsAfterSessions, IsRunOnJournal}
 pub use Rattle.shift_commands.specs.Run.{IsShiftRun, run}
-pub use Rattle.shift_commands.specs.Solo.{solo}
-pub use Rattle.shift_commands.specs.SoloRuns.{lines_of_run, solo_outcome}
+pub use Rattle.shift_commands.specs.Solo.{IsSoloRecord, solo}
+pub use Rattle.shift_commands.specs.SoloRuns.{AreBrokenOff, ArePrinted, IsAtStart, IsSoloDelivered}

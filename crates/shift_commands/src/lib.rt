@@ -4,6 +4,7 @@
 //! outcome that the walk allows.
 #![tactic(auto)]
 
+mod playing;
 mod run;
 mod sessions;
 mod solo;

@@ -14,7 +14,7 @@ use Rattle.cell_base.specs.declared.shifts.Shift.{Shift}
 use Rattle.cell_base.specs.Fits.{RequestFits, ShiftFits, steps_of}
 use Rattle.cell_base.specs.Scripts.{Progress, begin_at, progress_after, script_of}
 use Rattle.solo_rounds.proofs.Ends.{same_everywhere}
-use Rattle.solo_rounds.specs.Underway.{progress_at, script_asks_left, asks_left, IsReady}
+use Rattle.solo_rounds.specs.Underway.{progress_at, script_asks_left, asks_left, CanGoOn, IsReady}
 
 -- a grant and a refusal each take one from what is left
 after_grant : (len step patience refusals : ℕ) → step < len → refusals < patience
@@ -90,3 +90,9 @@ ready_at_start cell shift spare first is fits room =
       within = λ k inside. rw (same_everywhere {X = Progress} 64 k (begin_at 0)) (record { step = omega arith; refusals = omega arith });
       room = rw (asks_left-replicate shift.patience shift.scripts 64 fits.sessions.1) room;
     })
+
+pub can_go_on_at_start : (cell : Cell) (shift : Shift) (first : Progress) → first ≡ begin_at 0 → ShiftFits cell shift
+    → CanGoOn shift (replicate 64 first) × (asks_left shift.patience shift.scripts (replicate 64 first) ≤ steps_of shift * shift.patience)
+can_go_on_at_start cell shift first is fits =
+    let ready = ready_at_start cell shift (steps_of shift * shift.patience) first is fits (omega arith) in
+    (record { count = ready.count; within = ready.within; room = omega arith }, ready.room)

@@ -1,5 +1,5 @@
 -- A session that goes on has a step to ask, and there is room for its ask.
-use Rattle.std.proofs.Common.{◌≡◌, ℕ, ◌+◌, ◌<◌, ◌≤◌, Some, List, length, slice_get, slice_set, get_or, refl, ap, ◌∙◌}
+use Rattle.std.proofs.Common.{◌≡◌, ℕ, ◌+◌, ◌-◌, ◌<◌, ◌≤◌, Some, List, length, slice_get, slice_set, get_or, refl, ap, ◌∙◌}
 use Rattle.std.proofs.Common.{sym, subst, inl, inr, ⊎_elim, arith, length-set, get_or-set_same, get_or-set_other}
 use Rattle.std.proofs.lemmas.Bool.{cases_eq, cases_lt}
 use Rattle.std.proofs.lemmas.List.{get_or_default}
@@ -11,7 +11,7 @@ use Rattle.cell_base.specs.declared.requests.Reply.TheVariants.{Granted, Refused
 use Rattle.cell_base.specs.declared.requests.Told.TheVariants.{Answered}
 use Rattle.cell_base.specs.declared.shifts.Shift.{Shift}
 use Rattle.cell_base.specs.Scripts.{Progress, begin_at, progress_after, HasEnded, script_of}
-use Rattle.solo_rounds.specs.Underway.{progress_at, script_asks_left, asks_left, IsWithinScript, IsReady}
+use Rattle.solo_rounds.specs.Underway.{progress_at, script_asks_left, asks_left, CanGoOn, HasEndedAt, IsWithinScript, IsReady}
 use Rattle.solo_rounds.proofs.Counting.{script_asks_left-falls, asks_left-set, script_at}
 
 module _ (script : List Request) (patience : ℕ) (at : Progress) (within : IsWithinScript script patience at)
@@ -59,6 +59,16 @@ goes_on {shift} {progress} {spare} {k} {script} ready within is few d going =
       going = going;
     }
 
+-- the same of a session that has not ended where it stands
+pub goes_on_there : {shift : Shift} {progress : List Progress} {spare k : ℕ} {script : List Request} → IsReady shift progress spare
+    → k < length shift.scripts → slice_get shift.scripts k ≡ Some script → length shift.scripts ≤ MAX_SESSIONS → (d : Progress)
+    → (HasEndedAt shift progress k → ⊥) → GoesOn shift progress spare k script (get_or progress k d)
+goes_on_there {shift} {progress} {spare} {k} {script} ready within is few d going =
+    let room : k < length progress = omega (arith, ready.count) in
+    goes_on ready within is few d (λ ended. going
+    (subst (λ s. HasEnded s shift.patience (progress_at progress k)) (sym (script_at shift k script is))
+    (subst (λ (p : Progress). HasEnded script shift.patience p) (sym (get_or_default progress k (begin_at 0) d room)) ended)))
+
 module _ {shift : Shift} {progress : List Progress} {spare k : ℕ} {script : List Request} {at : Progress}
     (goes : GoesOn shift progress spare k script at) where
   within_script : IsWithinScript script shift.patience at
@@ -104,6 +114,13 @@ module _ {shift : Shift} {progress : List Progress} {spare k : ℕ} {script : Li
         there : (j : ℕ) → j < length shift.scripts → (j ≡ k → ⊥)
             → IsWithinScript (script_of shift (j + 1)) shift.patience (progress_at (slice_set progress k next) j)
         there j inside other = rw (get_or-set_other progress k j next (begin_at 0) other) (goes.ready.within j inside)
+
+  -- and can go on with room for no more asks than are left then
+  pub can_go_on : (next : Progress) (reply : Reply) → next ≡ progress_after at (Answered reply)
+      → CanGoOn shift (slice_set progress k next)
+  can_go_on next reply told =
+      let after = ready_next next reply told (spare - 1) (omega (arith, asks_left-falls next reply told, goes.ready.room)) in
+      record { count = after.count; within = after.within; room = omega arith }
 
   -- something is left of it, so there is room
   pub room_for_ask : 0 < spare

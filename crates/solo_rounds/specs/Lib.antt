@@ -1,3 +1,5 @@
 -- What the contracts cite.
+pub mod Clauses
 pub mod Underway
 pub mod SoloRuns
+pub mod Asking

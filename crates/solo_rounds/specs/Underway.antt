@@ -1,6 +1,6 @@
 -- Rounds that are under way.
-use Rattle.std.specs.Prelude.{◌≡◌, ℕ, ◌+◌, ◌-◌, ◌*◌, ◌<◌, ◌≤◌, nat_lt, if◌then◌else◌, false}
-use Rattle.std.specs.Prelude.{Some, List, [], ◌∷◌, ◌++◌, length, slice_get, slice_index_or}
+use Rattle.std.specs.Prelude.{◌≡◌, ◌⊎◌, ℕ, ◌+◌, ◌-◌, ◌*◌, ◌<◌, ◌≤◌, nat_lt, if◌then◌else◌, false}
+use Rattle.std.specs.Prelude.{Some, List, [], ◌∷◌, length, slice_get, slice_index_or}
 use Rattle.std.specs.List.{All, AllPairs}
 use Rattle.cell_base.specs.declared.limits.TheConstants.{MAX_SESSIONS}
 use Rattle.cell_base.specs.declared.cells.Cell.{Cell}
@@ -16,11 +16,10 @@ use Rattle.cell_base.specs.Rounds.{Precedes, turns_after, IsSession}
 use Rattle.admission_core.specs.CoreState.{CoreState}
 
 -- a session asks its present step: the outcome is told, and the session goes on by it
-pub record AsksStep (old new : CoreState) (session : ℕ) (script : List Request) (at next : Progress)
-    (before later : List Entry) : Type 0 where
+pub record AsksStep (old new : CoreState) (session : ℕ) (script : List Request) (at next : Progress) (asked : Entry) : Type 0 where
   pub request : Request
   pub step : slice_get script at.step ≡ Some request
-  pub entry : later ≡ before ++ record { session = session; request = request; told = Answered (reply_to old.cell old.parts request) } ∷ []
+  pub entry : asked ≡ record { session = session; request = request; told = Answered (reply_to old.cell old.parts request) }
   pub state : new ≡ record old { parts = state_after old.cell old.parts request }
   pub goes_on : next ≡ progress_after at (Answered (reply_to old.cell old.parts request))
 
@@ -49,6 +48,10 @@ pub record IsReady (shift : Shift) (progress : List Progress) (spare : ℕ) : Ty
   pub within : (k : ℕ) → k < length shift.scripts → IsWithinScript (script_of shift (k + 1)) shift.patience (progress_at progress k)
   pub room : asks_left shift.patience shift.scripts progress ≤ spare
 
+-- the same with room for no more than that
+abbrev pub CanGoOn : Shift → List Progress → Type 0
+CanGoOn shift progress = IsReady shift progress (asks_left shift.patience shift.scripts progress)
+
 -- session k + 1 has ended
 abbrev pub HasEndedAt : Shift → List Progress → ℕ → Type 0
 HasEndedAt shift progress k = HasEnded (script_of shift (k + 1)) shift.patience (progress_at progress k)
@@ -56,6 +59,18 @@ HasEndedAt shift progress k = HasEnded (script_of shift (k + 1)) shift.patience 
 -- the first n sessions have ended
 abbrev pub HaveEnded : Shift → List Progress → ℕ → Type 0
 HaveEnded shift progress n = (k : ℕ) → k < n → HasEndedAt shift progress k
+
+-- the sessions from one place up to another have ended
+abbrev pub HaveEndedFrom : Shift → List Progress → ℕ → ℕ → Type 0
+HaveEndedFrom shift progress from to = (k : ℕ) → from ≤ k → k < to → HasEndedAt shift progress k
+
+-- session k + 1 goes on, and those that would have their turn before it have ended: those from place `next` up to it, or those from there
+-- to the last and from the first up to it
+pub record IsNextGoing (shift : Shift) (progress : List Progress) (next k : ℕ) : Type 0 where
+  pub within : k < length shift.scripts
+  pub going : HasEndedAt shift progress k → ⊥
+  pub before : (next ≤ k) × HaveEndedFrom shift progress next k
+      ⊎ HaveEndedFrom shift progress next (length shift.scripts) × HaveEndedFrom shift progress 0 k
 
 -- the entries of session k + 1 bring it where it stands. In turn number `turn` the first `done` sessions have had their asks, so
 -- a session that goes on has asked once in each turn

@@ -1,114 +1,142 @@
-//! The sessions of a shift in rounds, on one thread.
-ghost use Rattle.std.specs.Prelude.{◌≡◌, ℕ, ◌+◌, ◌*◌, ◌<◌, ◌≤◌, List, [], length, All};
-ghost use Rattle.std.specs.Bool.{OnTrue, OnFalse};
-ghost use Rattle.cell_base.specs.declared.requests.Part.{Part};
-ghost use Rattle.cell_base.specs.declared.limits.TheConstants.{MAX_STEPS, MAX_PATIENCE};
-ghost use Rattle.cell_base.specs.Histories.{after};
-ghost use Rattle.cell_base.specs.Rounds.{IsRoundRobin};
-ghost use Rattle.cell_base.specs.Fits.{RequestFits, ShiftFits, steps_of};
-ghost use Rattle.solo_rounds.specs.Underway.{AsksStep, IsReady, IsUnderway, HaveEnded, asks_left, HasEndedAt};
+//! The rounds of the sessions of a shift, one ask at a time.
+ghost use Rattle.std.specs.Prelude.{◌≡◌, ℕ, ◌+◌, ◌*◌, ◌<◌, ◌≤◌, List, [], ◌∷◌, ◌++◌, length, All, IfSome, IfNone};
+ghost use Rattle.solo_rounds.specs.Clauses.{Cell, CoreState, Entry, IsRoundRobin, MAX_PATIENCE, MAX_SESSIONS, MAX_STEPS, Part, RequestFits};
+ghost use Rattle.solo_rounds.specs.Clauses.{Shift, ShiftFits, steps_of};
+ghost use Rattle.solo_rounds.specs.Underway.{AsksStep, CanGoOn, HasEndedAt, HaveEnded, HaveEndedFrom, IsNextGoing, IsUnderway, asks_left};
+ghost use Rattle.solo_rounds.specs.Asking.{AreAsking, AreReady, asks_left_in};
 
 use crate::progress::Progress;
 use admission_core::Core;
-use cell_base::{Entry, List, MAX_SESSIONS, Request, Shelf, Shift, Told};
+use cell_base::{Entry, List, MAX_SESSIONS, Request, Shift, Told};
 
 const SESSIONS: usize = MAX_SESSIONS as usize;
 
-/// In each round every session that has not ended asks once, in the order of their numbers, until all have ended. Session `k`
-/// has script `k - 1`. It takes no memory.
-pub fn solo(core: &mut Core, shift: &Shift, history: &mut Shelf<Entry>)
-    requires shift { ShiftFits core.old.cell shift.now }
-    requires empty { history.old.items ≡ [] }
-    requires room { steps_of shift.now * shift.now.patience ≤ history.old.spare }
-    ensures rounds { IsRoundRobin core.old.cell core.old.parts shift.now history.new.items }
-    ensures state { core.new ≡ record core.old { parts = after core.old.cell core.old.parts history.new.items } }
-{
-    let mut progress = [Progress::begin_at(0); SESSIONS];
-    'rounds: loop {
-        if !round(core, shift, &mut progress, history) {
-            return;
+/// Where the sessions of a shift stand, and which of them has its turn next. Session `k` has script `k - 1`, and stands at place `k - 1`.
+#[derive(Drop)]
+pub struct Rounds {
+    progress: [Progress; SESSIONS],
+    next: u64,
+}
+
+impl Rounds {
+    /// No session has asked yet, and the first has its turn.
+    pub fn begin() -> Rounds
+        ensures ready { (cell : Cell) (shift : Shift) → ShiftFits cell shift → AreReady shift result }
+        ensures room { (cell : Cell) (shift : Shift) → ShiftFits cell shift
+            → asks_left_in shift result ≤ steps_of shift * shift.patience }
+        ensures begun { (core : CoreState) (shift : Shift) → AreAsking shift core core.parts [] result }
+    {
+        Rounds {
+            progress: [Progress::begin_at(0); SESSIONS],
+            next: 0,
         }
     }
-}
 
-/// A turn of all sessions, in the order of their numbers. Gives whether one of them asked.
-fn round(
-    core: &mut Core,
-    shift: &Shift,
-    progress: &mut [Progress; SESSIONS],
-    history: &mut Shelf<Entry>,
-) -> bool
-    requires shift { ShiftFits core.old.cell shift.now }
-    requires ready { IsReady shift.now progress.old history.old.spare }
-    ensures cell { core.new.cell ≡ core.old.cell }
-    ensures ready { IsReady shift.now progress.new history.new.spare }
-    ensures underway { (start : List Part) (turn : ℕ)
-        → IsUnderway shift.now core.old.cell start core.old.parts history.old.items progress.old turn 0
-        → IsUnderway shift.now core.old.cell start core.new.parts history.new.items progress.new (turn + 1) 0 }
-    ensures asked { OnTrue result
-        (asks_left shift.now.patience shift.now.scripts progress.new
-        < asks_left shift.now.patience shift.now.scripts progress.old) }
-    ensures ended { OnFalse result (HaveEnded shift.now progress.new (length shift.now.scripts)) }
-{
-    let mut asked = false;
-    for k in 0..shift.scripts.len() {
-        asked = take_turn(core, shift, k, progress, history) || asked;
+    /// The next session that has not ended asks its present step; where all have ended, none does. It takes no memory.
+    pub fn ask(&mut self, core: &mut Core, shift: &Shift) -> Option<Entry>
+        requires shift { ShiftFits core.old.cell shift.now }
+        requires ready { AreReady shift.now self.old }
+        ensures cell { core.new.cell ≡ core.old.cell }
+        ensures ready { AreReady shift.now self.new }
+        ensures fewer { IfSome result (λ _. asks_left_in shift.now self.new < asks_left_in shift.now self.old) }
+        ensures asked { (start : List Part) (history : List Entry) → AreAsking shift.now core.old start history self.old
+            → IfSome result (λ entry. AreAsking shift.now core.new start (history ++ entry ∷ []) self.new) }
+        ensures ended { (start : List Part) (history : List Entry) → AreAsking shift.now core.old start history self.old
+            → IfNone result (IsRoundRobin core.old.cell start shift.now history × (core.new ≡ core.old)) }
+    {
+        match next_going(&self.progress, self.next, shift) {
+            Some(k) => {
+                let entry = take_turn(core, shift, k, &mut self.progress);
+                self.next = k + 1;
+                Some(entry)
+            }
+            None => None,
+        }
     }
-    asked
+
+    /// Each session asks on to its end, and nobody is told.
+    pub fn ask_rest(&mut self, core: &mut Core, shift: &Shift)
+        requires shift { ShiftFits core.old.cell shift.now }
+        requires ready { AreReady shift.now self.old }
+        ensures rounds { (start : List Part) (history : List Entry) → AreAsking shift.now core.old start history self.old
+            → (rest : List Entry) × IsRoundRobin core.old.cell start shift.now (history ++ rest) }
+    {
+        while let Some(_entry) = self.ask(core, shift) {}
+    }
 }
 
-/// Session `k + 1` has its turn: unless it has ended, it asks once. Gives whether it asked.
-fn take_turn(
-    core: &mut Core,
-    shift: &Shift,
-    k: u64,
-    progress: &mut [Progress; SESSIONS],
-    history: &mut Shelf<Entry>,
-) -> bool
+// The next session that has not ended, from place `next` on, and then from the first one on.
+fn next_going(progress: &[Progress; SESSIONS], next: u64, shift: &Shift) -> Option<u64>
+    requires few { length shift.now.scripts ≤ MAX_SESSIONS }
+    requires next { next ≤ length shift.now.scripts }
+    ensures going { IfSome result (IsNextGoing shift.now progress.now next) }
+    ensures none { IfNone result (HaveEnded shift.now progress.now (length shift.now.scripts)) }
+{
+    match first_going(progress, shift, next, shift.scripts.len()) {
+        Some(k) => Some(k),
+        None => first_going(progress, shift, 0, next),
+    }
+}
+
+// The first session that has not ended, of those from one place up to another.
+fn first_going(progress: &[Progress; SESSIONS], shift: &Shift, from: u64, to: u64) -> Option<u64>
+    requires few { length shift.now.scripts ≤ MAX_SESSIONS }
+    requires from { from ≤ to }
+    requires to { to ≤ length shift.now.scripts }
+    ensures before { IfSome result (λ k. (from ≤ k) × (k < to) × HaveEndedFrom shift.now progress.now from k) }
+    ensures going { IfSome result (λ k. HasEndedAt shift.now progress.now k → ⊥) }
+    ensures none { IfNone result (HaveEndedFrom shift.now progress.now from to) }
+{
+    for k in from..to {
+        let script = shift.scripts.get(k);
+        let at = progress[k as usize];
+        if !at.has_ended(script, shift.patience) {
+            return Some(k);
+        }
+    }
+    None
+}
+
+// Session `k + 1`, which has not ended, asks its present step.
+fn take_turn(core: &mut Core, shift: &Shift, k: u64, progress: &mut [Progress; SESSIONS]) -> Entry
     requires shift { ShiftFits core.old.cell shift.now }
     requires session { k < length shift.now.scripts }
-    requires ready { IsReady shift.now progress.old history.old.spare }
+    requires ready { CanGoOn shift.now progress.old }
+    requires going { HasEndedAt shift.now progress.old k → ⊥ }
     ensures cell { core.new.cell ≡ core.old.cell }
-    ensures ready { IsReady shift.now progress.new history.new.spare }
-    ensures underway { (start : List Part) (turn : ℕ)
-        → IsUnderway shift.now core.old.cell start core.old.parts history.old.items progress.old turn k
-        → IsUnderway shift.now core.old.cell start core.new.parts history.new.items progress.new turn (k + 1) }
-    ensures asked { OnTrue result
-        (asks_left shift.now.patience shift.now.scripts progress.new
-        < asks_left shift.now.patience shift.now.scripts progress.old) }
-    ensures passed { OnFalse result (HasEndedAt shift.now progress.old k × (progress.new ≡ progress.old)) }
+    ensures ready { CanGoOn shift.now progress.new }
+    ensures fewer { asks_left shift.now.patience shift.now.scripts progress.new
+        < asks_left shift.now.patience shift.now.scripts progress.old }
+    ensures underway { (start : List Part) (history : List Entry) (turn : ℕ)
+        → IsUnderway shift.now core.old.cell start core.old.parts history progress.old turn k
+        → IsUnderway shift.now core.old.cell start core.new.parts (history ++ result ∷ []) progress.new turn (k + 1) }
 {
     let script = shift.scripts.get(k);
     let at = progress[k as usize];
-    if at.has_ended(script, shift.patience) {
-        return false;
-    }
-    progress[k as usize] = ask_step(core, k as u16 + 1, script, at, history);
-    true
+    let (entry, next) = ask_step(core, k as u16 + 1, script, at);
+    progress[k as usize] = next;
+    entry
 }
 
-/// A session asks its present step, and goes on by the reply.
+// A session asks its present step, and goes on by the reply.
 fn ask_step(
     core: &mut Core,
     session: u16,
     script: &List<Request>,
     at: Progress,
-    history: &mut Shelf<Entry>,
-) -> Progress
+) -> (Entry, Progress)
     requires step { at.step < length script.now }
     requires few { length script.now ≤ MAX_STEPS }
     requires refusals { at.refusals < MAX_PATIENCE }
     requires script { All (RequestFits core.old.cell) script.now }
-    requires room { 0 < history.old.spare }
-    ensures asks { AsksStep core.old core.new session script.now at result history.old.items history.new.items }
-    ensures room { history.new.spare + 1 ≡ history.old.spare }
+    ensures { AsksStep core.old core.new session script.now at result.1 result.0 }
 {
     let request = *script.get(at.step());
     let reply = core.ask(&request);
-    history.push(Entry {
+    let entry = Entry {
         session,
         request,
         told: Told::Answered(reply),
-    });
-    at.after(reply)
+    };
+    (entry, at.after(reply))
 }

@@ -1,8 +1,7 @@
 -- The cell is read, and then it is shown.
-use Rattle.std.proofs.Common.{ap, refl}
+use Rattle.std.proofs.Common.{refl}
 use Rattle.cell_walks.specs.Allowed.{ByMemory}
 use Rattle.cell_walks.specs.declared.early_end.EarlyEnd.TheVariants.{WantOfMemory}
-use Rattle.admission_core.specs.CoreState.{CoreState}
 use Rattle.cell_walks.specs.Observed.{files_told}
 use Rattle.cell_texts.specs.Tests.{known}
 use Rattle.cell_commands.proofs.Showing.{show_done, show_unread}
@@ -13,15 +12,10 @@ returns-clause-allowed g c =
     show_unread (files_told g.F.Files.holds g.F.Files.is_sound g.F.Files.faults c.args.files.now c.read_cell.new.files) c.args.cell.now
     c.in-Err.end c.in-Err.ensures.ended
 
-pub returns-in-Ok-show_text-clause-allowed : goal.returns-in-Ok-show_text-clause-allowed
-returns-in-Ok-show_text-clause-allowed g c =
+pub returns-in-Ok-shown_of-clause-allowed : goal.returns-in-Ok-shown_of-clause-allowed
+returns-in-Ok-shown_of-clause-allowed g c =
     show_done (files_told g.F.Files.holds g.F.Files.is_sound g.F.Files.faults c.args.files.now c.read_cell.new.files) c.args.cell.now
-    (known c.in-Ok.held) _ c.in-Ok.ensures.read (ap (λ (core : CoreState). core.cell) c.in-Ok-open.ensures)
-
-pub returns-in-Ok-open-clause-allowed : goal.returns-in-Ok-open-clause-allowed
-returns-in-Ok-open-clause-allowed g c =
-    show_unread (files_told g.F.Files.holds g.F.Files.is_sound g.F.Files.faults c.args.files.now c.read_cell.new.files) c.args.cell.now
-    WantOfMemory (ByMemory refl)
+    (known c.in-Ok.held) _ c.in-Ok.ensures.read c.in-Ok-shown_of.ensures.cell
 
 pub returns-in-Ok-clause-allowed : goal.returns-in-Ok-clause-allowed
 returns-in-Ok-clause-allowed g c =

@@ -1,0 +1,34 @@
+-- One more has asked, or all have ended.
+use Rattle.std.proofs.Common.{◌∷◌, [], ◌++◌, ◌∙◌, append_assoc, List, subst}
+use Rattle.cell_base.specs.declared.cells.Cell.{Cell}
+use Rattle.cell_base.specs.declared.shifts.Entry.{Entry}
+use Rattle.cell_base.specs.Rounds.{IsRoundRobin}
+use Rattle.solo_rounds.specs.Asking.{AreAsking}
+use Rattle.solo_rounds.proofs.rounds.Rounds.ask_rest.Goals as goal
+
+pub loop-entry-preserved : goal.loop-entry-preserved
+loop-entry-preserved c =
+    let known = c.loop-entry.invariant in
+    record {
+      cell = c.in-Some.ensures.cell ∙ known.cell;
+      ready = c.in-Some.ensures.ready;
+      asking = λ start history begun.
+          let so_far = known.asking start history begun in (
+            so_far.0 ++ c.in-Some._entry ∷ [],
+            subst (λ (entries : List Entry). AreAsking c.args.shift.now c.ask.new.core start entries c.ask.new.self)
+                (append_assoc history so_far.0 (c.in-Some._entry ∷ []))
+                (c.in-Some.ensures.asked start (history ++ so_far.0) so_far.1),
+          );
+    }
+
+pub returns : goal.returns
+returns c =
+    let known = c.loop-entry.invariant in
+    record {
+      rounds = λ start history begun.
+          let so_far = known.asking start history begun in (
+            so_far.0,
+            subst (λ (cell : Cell). IsRoundRobin cell start c.args.shift.now (history ++ so_far.0)) known.cell
+                (c.in_default.ensures.ended start (history ++ so_far.0) so_far.1).0,
+          );
+    }
