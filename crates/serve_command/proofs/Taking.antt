@@ -32,7 +32,7 @@ module _ {D : Type 0} where
   abbrev pub TakenSo : Cell → List Grant → ℕ → List ℕ → List (List ℕ) → Server D → LinesState → Type 0
   TakenSo cell grants number text given server lines =
       (group : List (List ℕ)) × IsAnsweredGroup cell grants number (map (ask_of cell) group) server
-          × AreLinesSoFar text (given ++ group) lines
+      × AreLinesSoFar text (given ++ group) lines
 
   pub begins : (server : Server D) → HasNoGroup server → (grants : List Grant) (text : List ℕ) (given : List (List ℕ)) (lines : LinesState)
       → StandsAt grants server → AreLinesSoFar text given lines → TakenSo server.live.cell grants server.asked text given server lines
@@ -51,7 +51,7 @@ module _ {D : Type 0} where
 
   module _ (cell : Cell) (grants : List Grant) (number : ℕ) (text : List ℕ) (given group : List (List ℕ)) (mid : Server D)
       (is : IsAnsweredGroup cell grants number (map (ask_of cell) group) mid) (line : List ℕ) (ask : Ask) (ask_is : ask
-          ≡ ask_of cell line) where
+      ≡ ask_of cell line) where
     pub one_more : (new : Server D) (lines : LinesState)
         → IsAskAnswered mid.live.cell (grants ++ since cell grants (map (ask_of cell) group)) mid ask new
         → TakesOneLine mid new → AreLinesSoFar text (given ++ group ++ line ∷ []) lines → TakenSo cell grants number text given new lines

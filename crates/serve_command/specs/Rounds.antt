@@ -39,7 +39,7 @@ AreGroupLines cell grants text given group lines true =
 abbrev pub IsGroupOfLines : {D : Type 0} → Cell → List Grant → ℕ → List ℕ → List (List ℕ) → Server D → LinesState → Bool → Type 0
 IsGroupOfLines cell grants number text given server lines full =
     (group : List (List ℕ)) × IsAnsweredGroup cell grants number (map (ask_of cell) group) server
-        × AreGroupLines cell grants text given group lines full
+    × AreGroupLines cell grants text given group lines full
 
 -- The server stands after these grants, and so does its disk, with this cell text.
 pub record StandsAfter {D : Type 0} (reads_as : D → Option (List ℕ)) (may_leave : D → List ℕ → Type 0) (cell_text : List ℕ)

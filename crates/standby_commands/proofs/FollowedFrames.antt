@@ -95,7 +95,7 @@ module _ {D : Type 0} (old new : FollowerState D) (opening : List Grant) (first_
           parted = has.parted;
           taken = taken_is has.first has.followed;
           refused = subst (λ (gs : List Grant). IsFrameRefused old.durable.cell (delivered_all gs has.first) has.bytes stop.why)
-            first_is why;
+              first_is why;
           status = ap (λ (s : Option Stop). (ended_by run.core s).status) is ∙ told.0;
           pieces = (λ i. acks_are has.first has.followed i
               ++ (ap (λ (s : Option Stop). (ended_by run.core s).pieces) is ∙ told.1

@@ -76,4 +76,4 @@ pub record HasPrefixOfFirst (cell : Cell) (world : World) : Type 0 where
 abbrev pub FollowingLaw : Cell → Type 0
 FollowingLaw cell =
     (world : World) (events : List Event) → IsStart cell world → ArePossible cell world events
-        → HasPrefixOfFirst cell (after_events world events)
+    → HasPrefixOfFirst cell (after_events world events)
