@@ -3,8 +3,8 @@ ghost use Rattle.std.specs.Prelude.{◌≡◌, ◌≤◌, ◌⊎◌, ℕ, [], le
 ghost use Rattle.outside_io.specs.Files.{IsReadOf};
 ghost use Rattle.cell_walks.specs.Clauses.{File, IsEndedAt, IsNotOpened, IsOnlyRead, IsUnread, ShowsFile, disk_told, files_told};
 ghost use Rattle.cell_walks.specs.declared.early_end.EarlyEnd.TheVariants.{WantOfMemory};
-ghost use Rattle.cell_texts.specs.Clauses.{CellFits, GrantsFit, IsAfterGrants, IsFound, IsJudgedFile, IsReplayed, MAX_CELL_BYTES, ShiftFits};
-ghost use Rattle.cell_texts.specs.Clauses.{cell_file, cell_reads, known, record_file, shift_file, shift_of, to_read};
+ghost use Rattle.cell_texts.specs.Clauses.{CellFits, GrantsFit, IsAfterGrants, IsFound, IsJudgedFile, IsReplayed, MAX_CELL_BYTES};
+ghost use Rattle.cell_texts.specs.Clauses.{ShiftFits, cell_file, cell_reads, known, record_file, shift_file, shift_of, to_read};
 
 use crate::refusals::{at_cell_fault, at_journal_fault, at_record_fault, at_shift_fault};
 use admission_core::Core;

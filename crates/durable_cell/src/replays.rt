@@ -23,7 +23,8 @@ pub(crate) struct Replay<K> {
 }
 
 impl<K: Taker> Taker for Replay<K> {
-    ghost took = { λ start first grants now. HasReplayed start.core first grants now.core now.stray × K.took start.kept first grants now.kept };
+    ghost took = { λ start first grants now. HasReplayed start.core first grants now.core now.stray
+        × K.took start.kept first grants now.kept };
 
     fn take(&mut self, at: u64, grant: Grant) -> Result<(), NoMemory> {
         self.stray = replay_one(&mut self.core, self.stray, at, &grant);

@@ -29,7 +29,8 @@ impl<D: Disk> Stored<D> {
 
     /// The number of its grants.
     pub fn count(&self) -> u64
-        ensures { (text : Sequence ℕ) (grants : Sequence Grant) → IsStored D.reads_as D.may_leave text grants self.now → result ≡ length grants }
+        ensures { (text : Sequence ℕ) (grants : Sequence Grant) → IsStored D.reads_as D.may_leave text grants self.now
+            → result ≡ length grants }
     {
         match self {
             Stored::Nothing(_) => 0,

@@ -1,6 +1,7 @@
 -- What stands at a gate in the window stands at it in the file.
 use Rattle.std.specs.Prelude.{Option, Some, Result, Ok, Err}
-use Rattle.std.proofs.Common.{◌≡◌, ◌+◌, ◌-◌, ◌≤◌, ◌≢◌, ◌∙◌, ◌++◌, ◌∷◌, [], ℕ, List, length, drop, take, ap, refl, arith, length-take, length-drop}
+use Rattle.std.proofs.Common.{◌≡◌, ◌+◌, ◌-◌, ◌≤◌, ◌≢◌, ◌∙◌, ◌++◌, ◌∷◌, [], ℕ}
+use Rattle.std.proofs.Common.{List, length, drop, take, ap, refl, arith, length-take, length-drop}
 use Rattle.std.proofs.lemmas.List.{length_push}
 use Rattle.shift_recovery.specs.declared.faults.JournalFault.{JournalFault}
 use Rattle.shift_recovery.specs.declared.faults.JournalFault.TheVariants.{Long}
@@ -106,7 +107,8 @@ gates-preserved g c =
       gate_is = omega (arith, v.gate_is, size);
       within = omega (arith, size, v.within, other);
       walked = where_told _ (λ file. grants_from c.args.room c.args.room c.args.first (drop c.args.first file) ≡
-          with_grants new (grants_from c.args.room (c.args.room - length new) (c.gates.gate + 17) (drop (c.gates.gate + 17) file))) (λ file is.
+          with_grants new (grants_from c.args.room (c.args.room - length new) (c.gates.gate + 17)
+          (drop (c.gates.gate + 17) file))) (λ file is.
           walk_step file grants new grant c.args.room c.args.first c.gates.gate refl
           v.within other
           (gate_known file c.gates.kept.items c.deref.result.now c.gates.gate c.gates.at c.gates.used c.args.len _
