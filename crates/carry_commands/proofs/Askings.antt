@@ -13,10 +13,10 @@ use Rattle.durable_cell.specs.DurableState.{DurableState, first_parts, parts}
 use Rattle.durable_cell.specs.declared.fault.AskFault.{AskFault}
 use Rattle.durable_cell.specs.declared.fault.AskFault.TheVariants as fault
 use Rattle.durable_cell.proofs.Halts.{halted_at-none}
-use Rattle.cell_texts.specs.Recorded.{IsFresh}
-use Rattle.cell_texts.proofs.HaltedHistories.{none_halted}
-use Rattle.cell_texts.specs.AskedSteps.{HaltsIn, after_steps, drained, drained_to, step_entry, step_grant}
-use Rattle.cell_texts.proofs.AskedSteps.{after_drained, drained_unhalted}
+use Rattle.journal_texts.specs.Recorded.{IsFresh}
+use Rattle.journal_texts.proofs.HaltedHistories.{none_halted}
+use Rattle.journal_texts.specs.AskedSteps.{HaltsIn, after_steps, drained, drained_to, step_entry, step_grant}
+use Rattle.journal_texts.proofs.AskedSteps.{after_drained, drained_unhalted}
 use Rattle.carry_commands.proofs.Granting.{granted_at}
 
 module _ {D : Type 0} (old : DurableState D) where

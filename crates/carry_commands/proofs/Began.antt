@@ -17,9 +17,10 @@ use Rattle.cell_walks.specs.Outcomes.{early}
 use Rattle.cell_walks.specs.Walks.{Opens, Tests, Walk}
 use Rattle.cell_walks.specs.declared.early_end.EarlyEnd.{EarlyEnd}
 use Rattle.cell_walks.proofs.Steps.{ended_after, ended_at, shown_before}
-use Rattle.cell_texts.specs.Recorded.{recorded_or_early}
-use Rattle.cell_texts.specs.Tests.{KnownCell, cell_file, cell_reads, to_add}
-use Rattle.cell_texts.specs.declared.recorded.Recorded.{Recorded}
+use Rattle.journal_texts.specs.Recorded.{recorded_or_early}
+use Rattle.cell_texts.specs.Tests.{KnownCell, cell_file, cell_reads}
+use Rattle.journal_texts.specs.Tests.{to_add}
+use Rattle.journal_texts.specs.declared.recorded.Recorded.{Recorded}
 use Rattle.carry_commands.specs.Begin.{begin, goes_on}
 use Rattle.carry_commands.specs.Beginning.{EndsBeforeJournal, HasBegun, IsBegunOnJournal, IsGrantedStart, StartRefused, StartStarved}
 use Rattle.carry_commands.specs.Refusals.{other_start, start_refused}

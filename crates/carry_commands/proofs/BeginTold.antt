@@ -18,10 +18,10 @@ use Rattle.cell_walks.specs.Observed.{Observed}
 use Rattle.cell_walks.specs.Outcomes.{Outcome}
 use Rattle.cell_walks.specs.Promises.{IsAnswered}
 use Rattle.cell_walks.proofs.Walked.{always_weaker, now_weaker}
-use Rattle.cell_texts.specs.Records.{IsHalted, IsRecorded}
+use Rattle.journal_texts.specs.Records.{IsHalted, IsRecorded}
 use Rattle.cell_texts.specs.Tests.{KnownCell}
-use Rattle.cell_texts.specs.AskedSteps.{AllGranted, HaltsAt, step_grant}
-use Rattle.cell_texts.proofs.AskedSteps.{grants-drained, grants-drained_to, last_asked}
+use Rattle.journal_texts.specs.AskedSteps.{AllGranted, HaltsAt, step_grant}
+use Rattle.journal_texts.proofs.AskedSteps.{grants-drained, grants-drained_to, last_asked}
 use Rattle.carry_commands.specs.Begin.{begin, requests_left}
 use Rattle.carry_commands.specs.BeginTold.{IsBegunWhole, IsHaltedBegin, StandsForFirstOf}
 use Rattle.carry_commands.specs.Starts.{ArePrefix, start_grants}

@@ -23,9 +23,10 @@ use Rattle.carry_commands.specs.Carried.{carried}
 use Rattle.carry_commands.specs.declared.refusals.CarryFault.{CarryFault}
 use Rattle.cell_walks.specs.declared.early_end.EarlyEnd.{EarlyEnd}
 use Rattle.cell_walks.proofs.Steps.{ended_after, ended_at, shown_before}
-use Rattle.cell_texts.specs.JournalReads.{IsAfterGrants}
-use Rattle.cell_texts.specs.Tests.{KnownCell, cell_file, cell_reads, to_read}
-use Rattle.cell_texts.specs.declared.readers.AfterGrants.{AfterGrants}
+use Rattle.journal_texts.specs.JournalReads.{IsAfterGrants}
+use Rattle.cell_texts.specs.Tests.{KnownCell, cell_file, cell_reads}
+use Rattle.journal_texts.specs.Tests.{to_read}
+use Rattle.journal_texts.specs.declared.readers.AfterGrants.{AfterGrants}
 use Rattle.carry_commands.specs.Carry.{IsCarried, carried_over, carries, carry}
 use Rattle.carry_commands.specs.Carrying.{CarryRefused, CarryStarved, EndsAfter, EndsAtCarry, HasCarried}
 use Rattle.carry_commands.specs.Carrying.{HasCarriedAfter, NotCarried, Unopened, carry_outcome}

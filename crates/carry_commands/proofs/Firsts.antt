@@ -8,7 +8,7 @@ use Rattle.cell_base.specs.declared.requests.Request.{Request}
 use Rattle.cell_base.specs.declared.shifts.Grant.{Grant}
 use Rattle.cell_base.specs.Histories.{after_requests, all_granted, replay, requests_of}
 use Rattle.cell_texts.specs.Parting.{same_place}
-use Rattle.cell_texts.specs.AskedSteps.{step_grant}
+use Rattle.journal_texts.specs.AskedSteps.{step_grant}
 use Rattle.carry_commands.specs.Starts.{ArePrefix, IsOtherStart, granted_start, start_grants}
 use Rattle.carry_commands.proofs.Granting.{all_granted_so, granted_later}
 

@@ -6,8 +6,9 @@ use Rattle.cell_base.specs.declared.shifts.Grant.{Grant}
 use Rattle.durable_cell.specs.declared.replays.TheConstants.{MAX_ROOM}
 use Rattle.cell_walks.specs.Outcomes.{Outcome}
 use Rattle.cell_walks.specs.Walks.{Walk, Tests, Opens, Answers}
-use Rattle.cell_texts.specs.Tests.{KnownCell, cell_file, to_add}
-use Rattle.cell_texts.specs.AskedSteps.{AreAsked}
+use Rattle.cell_texts.specs.Tests.{KnownCell, cell_file}
+use Rattle.journal_texts.specs.Tests.{to_add}
+use Rattle.journal_texts.specs.AskedSteps.{AreAsked}
 use Rattle.carry_commands.specs.Starts.{begun, grants_start, start_file}
 
 -- the requests that are not granted yet

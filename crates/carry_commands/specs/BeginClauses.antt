@@ -9,4 +9,4 @@ pub use Rattle.cell_walks.specs.Allowed.{StandsForAdded}
 pub use Rattle.carry_commands.specs.Begin.{begin}
 pub use Rattle.carry_commands.specs.Beginning.{EndsBeforeJournal, HasBegun, IsBegunOnJournal, IsGrantedStart, IsRefusedStart}
 pub use Rattle.carry_commands.specs.Starts.{ArePrefix, IsOtherStart, granted_start, start_file}
-pub use Rattle.cell_texts.specs.AskedSteps.{AreAsked, IsAskedIn, step_grant}
+pub use Rattle.journal_texts.specs.AskedSteps.{AreAsked, IsAskedIn, step_grant}

@@ -9,9 +9,10 @@ use Rattle.cell_walks.specs.DiskTold.{DiskTold}
 use Rattle.cell_walks.specs.Walks.{refusal_of}
 use Rattle.cell_walks.specs.declared.early_end.EarlyEnd.{EarlyEnd}
 use Rattle.cell_walks.specs.declared.early_end.EarlyEnd.TheVariants.{WantOfMemory, Refused}
-use Rattle.cell_texts.specs.Recorded.{recorded_outcome}
-use Rattle.cell_texts.specs.Tests.{KnownCell, to_add}
-use Rattle.cell_texts.specs.declared.recorded.Recorded.{Recorded}
+use Rattle.journal_texts.specs.Recorded.{recorded_outcome}
+use Rattle.cell_texts.specs.Tests.{KnownCell}
+use Rattle.journal_texts.specs.Tests.{to_add}
+use Rattle.journal_texts.specs.declared.recorded.Recorded.{Recorded}
 use Rattle.carry_commands.specs.Begin.{IsBegun}
 use Rattle.record_text.specs.Fitting.{RefusalFits}
 use Rattle.carry_commands.specs.Refusals.{IsOfPlace, other_start, start_refused}

@@ -12,7 +12,8 @@ use Rattle.cell_walks.specs.Outcomes.{Outcome, done}
 use Rattle.cell_walks.specs.Walks.{Test, Walk, Tests, Opens, Answers}
 use Rattle.cell_walks.specs.declared.early_end.Subject.TheVariants.{Command}
 use Rattle.cell_texts.specs.OneWay.{once, reads_by}
-use Rattle.cell_texts.specs.Tests.{KnownCell, cell_file, to_read}
+use Rattle.cell_texts.specs.Tests.{KnownCell, cell_file}
+use Rattle.journal_texts.specs.Tests.{to_read}
 use Rattle.carry_commands.specs.Carried.{carried}
 use Rattle.carry_commands.specs.Refusals.{carry_refused}
 use Rattle.carry_commands.specs.Starts.{IsTakenOnBlank}

@@ -20,7 +20,7 @@ use Rattle.cell_walks.specs.declared.early_end.Subject.TheVariants.{Command, Inp
 use Rattle.cell_texts.specs.OneWay.{once, reads_by}
 use Rattle.cell_texts.specs.Parting.{Longer, longer}
 use Rattle.cell_texts.specs.RecordReads.{record_line}
-use Rattle.cell_texts.specs.AskedSteps.{step_grant}
+use Rattle.journal_texts.specs.AskedSteps.{step_grant}
 use Rattle.carry_commands.specs.Refusals.{other_start, start_refused}
 use Rattle.carry_commands.specs.declared.refusals.StartFault.{StartFault}
 

@@ -2,15 +2,15 @@
 ghost use Rattle.std.specs.Prelude.{◌≡◌, ◌≤◌, length, true, IfOk};
 ghost use Rattle.std.specs.List.{All};
 ghost use Rattle.cell_walks.specs.Clauses.{disk_told};
-ghost use Rattle.cell_texts.specs.Clauses.{EntriesFit, IsFresh, recorded_outcome};
+ghost use Rattle.journal_texts.specs.Clauses.{EntriesFit, IsFresh, recorded_outcome};
 ghost use Rattle.carry_commands.specs.BeginClauses.{AreAsked, AreDue, HasBegun, IsAskedIn, IsGrantedStart, IsPlacing, KeepsHistory};
 ghost use Rattle.carry_commands.specs.BeginClauses.{MAX_START_LINES, StandsForAdded, all_granted, first_parts};
 
 use crate::refusals::at_other_start;
 use crate::starts::first_other;
 use cell_base::Request;
-use cell_texts::{Closed, Made, Recorded, give_back, record_of};
 use durable_cell::Durable;
+use journal_texts::{Closed, Made, Recorded, give_back, record_of};
 use outside_io::Disk;
 
 /// Asks the requests that the journal does not hold yet; or gives the disk back with the early end, where the journal holds other grants.

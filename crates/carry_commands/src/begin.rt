@@ -2,14 +2,16 @@
 ghost use Rattle.std.specs.Prelude.{◌≤◌, length, IfOk};
 ghost use Rattle.std.specs.List.{All};
 ghost use Rattle.cell_walks.specs.Clauses.{Ends, IsAllowed, disk_told, files_told, observed, sink_told};
-ghost use Rattle.cell_texts.specs.Clauses.{CellFits, EntriesFit, MAX_CELL_BYTES, known, recorded_or_early};
+ghost use Rattle.cell_texts.specs.Clauses.{CellFits, MAX_CELL_BYTES, known};
+ghost use Rattle.journal_texts.specs.Clauses.{EntriesFit, recorded_or_early};
 ghost use Rattle.carry_commands.specs.BeginClauses.{IsBegunOnJournal, IsGrantedStart, IsPlacing, MAX_START_LINES, begin};
 
 use crate::asking::begin_opened;
 use crate::starts::{check_start, read_start_file};
 use cell_base::Request;
-use cell_texts::{CellFile, CommandEnd, Made, Recorded, open_journal, print_recorded, read_cell};
+use cell_texts::{CellFile, CommandEnd, read_cell};
 use durable_cell::MAX_ROOM;
+use journal_texts::{Made, Recorded, open_journal, print_recorded};
 use outside_io::{Disk, Files, Sink};
 use start_file::MAX_START_LINES;
 use std::alloc::Global;

@@ -3,13 +3,15 @@ ghost use Rattle.std.specs.Prelude.{◌≤◌, length, map, IfOk, IfErr, OnOk, O
 ghost use Rattle.std.specs.List.{All};
 ghost use Rattle.cell_walks.specs.Clauses.{Ends, HasCause, IsAllowed, IsDelivered, IsOnlyRead, TookAll};
 ghost use Rattle.cell_walks.specs.Clauses.{TookSome, disk_told, files_told, observed, sink_told};
-ghost use Rattle.cell_texts.specs.Clauses.{MAX_CELL_BYTES, known, to_read};
+ghost use Rattle.cell_texts.specs.Clauses.{MAX_CELL_BYTES, known};
+ghost use Rattle.journal_texts.specs.Clauses.{to_read};
 ghost use Rattle.carry_commands.specs.CarryClauses.{CellFits, EndsAfter, HasCarriedAfter, IsPlacing, carry, carry_outcome, place_line};
 
 use crate::carrying::{Carried, carry_parts};
 use cell_base::{Cell, Request};
-use cell_texts::{CellFile, CommandEnd, Made, print_line, read_cell, read_journal};
+use cell_texts::{CellFile, CommandEnd, print_line, read_cell};
 use cell_walks::{EarlyEnd, Status, finish_early};
+use journal_texts::{Made, read_journal};
 use outside_io::{Disk, Failed, Files, Sink};
 use start_file::place_line;
 use std::alloc::Global;

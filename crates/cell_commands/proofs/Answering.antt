@@ -16,7 +16,8 @@ use Rattle.cell_walks.specs.Walks.{Opens, Tests, end_with}
 use Rattle.cell_walks.specs.declared.early_end.EarlyEnd.{EarlyEnd}
 use Rattle.cell_walks.specs.declared.early_end.Subject.TheVariants.{Input}
 use Rattle.cell_walks.proofs.Steps.{ended_at, ended_at_opening, ended_by_fault}
-use Rattle.cell_texts.specs.Tests.{KnownCell, cell_file, cell_reads, step, step_fault_line, to_read}
+use Rattle.cell_texts.specs.Tests.{KnownCell, cell_file, cell_reads, step, step_fault_line}
+use Rattle.journal_texts.specs.Tests.{to_read}
 use Rattle.cell_commands.specs.Why.{IsAnswerAfter, IsAnswerOf, answer_lines, explained, jobs_counted, why, why_lines, why_outcome}
 use Rattle.cell_commands.specs.declared.why.Answer.{Answer}
 

@@ -20,8 +20,8 @@ use Rattle.durable_cell.specs.declared.fault.AskFault.{AskFault}
 use Rattle.durable_cell.specs.declared.fault.AskFault.TheVariants as fault
 use Rattle.durable_cell.proofs.Grown.{no_halt_yet}
 use Rattle.cell_base.proofs.Histories.{after-push}
-use Rattle.cell_texts.specs.AskedSteps.{HaltsIn, drained_to, step_entry, after_steps, step_grant}
-use Rattle.cell_texts.specs.Recorded.{IsFresh}
+use Rattle.journal_texts.specs.AskedSteps.{HaltsIn, drained_to, step_entry, after_steps, step_grant}
+use Rattle.journal_texts.specs.Recorded.{IsFresh}
 use Rattle.cell_commands.specs.declared.drain.TheConstants.{MAX_PLAN}
 
 -- these steps were granted, and those of the plan at the present state are left

@@ -9,7 +9,7 @@ use Rattle.cell_walks.specs.Outcomes.{early}
 use Rattle.cell_walks.specs.Walks.{Tests}
 use Rattle.cell_walks.specs.declared.early_end.EarlyEnd.{EarlyEnd}
 use Rattle.cell_walks.proofs.Steps.{ended_after, ended_at, none_done, shown_before}
-use Rattle.cell_texts.specs.JudgedFiles.{IsJudgedFile}
+use Rattle.cell_commands.specs.JudgedFiles.{IsJudgedFile}
 use Rattle.cell_texts.specs.RecordReads.{record_reads}
 use Rattle.cell_texts.specs.Tests.{KnownCell, cell_file, cell_reads, record_file}
 use Rattle.cell_commands.specs.Check.{check, checked_outcome, judged, verdict_outcome}

@@ -22,13 +22,13 @@ use Rattle.cell_walks.specs.Observed.{Observed}
 use Rattle.cell_walks.specs.Outcomes.{Outcome}
 use Rattle.cell_walks.specs.Promises.{IsAnswered}
 use Rattle.cell_walks.proofs.Walked.{always_weaker, now_weaker}
-use Rattle.cell_texts.specs.Records.{IsHalted, IsRecorded}
+use Rattle.journal_texts.specs.Records.{IsHalted, IsRecorded}
 use Rattle.cell_texts.specs.Tests.{KnownCell}
-use Rattle.cell_texts.proofs.Fitting.{replay_admitted}
-use Rattle.cell_texts.specs.AskedSteps.{AllGranted, HaltsAt, step_grant}
+use Rattle.journal_texts.proofs.Replays.{replay_admitted}
+use Rattle.journal_texts.specs.AskedSteps.{AllGranted, HaltsAt, step_grant}
 use Rattle.cell_commands.specs.Drain.{drain}
 use Rattle.cell_commands.specs.DrainTold.{IsEmptied, IsHaltedDrain, StandsForSome}
-use Rattle.cell_texts.proofs.AskedSteps.{after_drained, grants-drained, grants-drained_to, last_asked}
+use Rattle.journal_texts.proofs.AskedSteps.{after_drained, grants-drained, grants-drained_to, last_asked}
 
 module _ (disk : DiskTold) (cell : Cell) (text : List ℕ) (opening : List Grant) (outcome : Outcome) (fits : CellFits cell)
     (due : AreDue cell opening) (left : StandsForAdded disk text opening outcome.added outcome.unsure) where

@@ -6,4 +6,5 @@ pub mod DrainTold
 pub mod Draining
 pub mod PlanSteps
 pub mod Planning
+pub mod RecordCuts
 pub mod Showing

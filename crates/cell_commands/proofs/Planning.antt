@@ -16,11 +16,12 @@ use Rattle.cell_walks.specs.Walks.{Opens}
 use Rattle.cell_walks.specs.declared.early_end.EarlyEnd.{EarlyEnd}
 use Rattle.cell_walks.proofs.Steps.{ended_at, ended_at_opening}
 use Rattle.cell_texts.specs.Blocks.{block_of, planned_block}
-use Rattle.cell_texts.specs.JournalReads.{IsAfterGrants}
-use Rattle.cell_texts.specs.Tests.{KnownCell, cell_file, cell_reads, to_read}
-use Rattle.cell_texts.specs.declared.readers.AfterGrants.{AfterGrants}
+use Rattle.journal_texts.specs.JournalReads.{IsAfterGrants}
+use Rattle.cell_texts.specs.Tests.{KnownCell, cell_file, cell_reads}
+use Rattle.journal_texts.specs.Tests.{to_read}
+use Rattle.journal_texts.specs.declared.readers.AfterGrants.{AfterGrants}
 use Rattle.cell_texts.proofs.BlockTexts.{planned_text}
-use Rattle.cell_texts.proofs.Fitting.{replay_admitted}
+use Rattle.journal_texts.proofs.Replays.{replay_admitted}
 use Rattle.cell_commands.specs.Plan.{IsPlanned, plan, plan_outcome, planned}
 
 -- the block of the plan is that of the record of no entries

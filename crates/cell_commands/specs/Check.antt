@@ -10,7 +10,7 @@ use Rattle.cell_walks.specs.declared.early_end.EarlyEnd.{EarlyEnd}
 use Rattle.cell_walks.specs.declared.status.Status.{Status}
 use Rattle.cell_walks.specs.declared.status.Status.TheVariants.{Done, Denied}
 use Rattle.cell_texts.specs.Tests.{KnownCell, cell_file, record_file}
-use Rattle.cell_texts.specs.Texts.{verdict_text}
+use Rattle.cell_commands.specs.Verdicts.{verdict_text}
 
 -- the status of a verdict
 abbrev pub verdict_status : Verdict → Status

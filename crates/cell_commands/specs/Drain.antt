@@ -7,8 +7,9 @@ use Rattle.cell_base.specs.Plans.{plan_of}
 use Rattle.durable_cell.specs.declared.replays.TheConstants.{MAX_ROOM}
 use Rattle.cell_walks.specs.Outcomes.{Outcome}
 use Rattle.cell_walks.specs.Walks.{Walk, Tests, Opens, Answers}
-use Rattle.cell_texts.specs.AskedSteps.{AreAsked}
-use Rattle.cell_texts.specs.Tests.{cell_file, to_add}
+use Rattle.journal_texts.specs.AskedSteps.{AreAsked}
+use Rattle.cell_texts.specs.Tests.{cell_file}
+use Rattle.journal_texts.specs.Tests.{to_add}
 
 -- the steps of the plan after these grants were asked
 abbrev pub IsDrained : Cell → List Grant → Outcome → Type 0

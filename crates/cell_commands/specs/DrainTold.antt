@@ -12,7 +12,7 @@ use Rattle.record_text.specs.Records.{text_of_record}
 use Rattle.cell_walks.specs.DiskTold.{DiskTold, IsAlways, IsNow}
 use Rattle.cell_walks.specs.Outcomes.{Outcome}
 use Rattle.cell_walks.specs.declared.status.Status.TheVariants.{Done, DeviceFault}
-use Rattle.cell_texts.specs.AskedSteps.{drained, drained_to, step_grant}
+use Rattle.journal_texts.specs.AskedSteps.{drained, drained_to, step_grant}
 
 -- the file stands for the grants and for a prefix of these steps
 abbrev pub StandsForSome : List ℕ → List Grant → List Request → List ℕ → Type 0

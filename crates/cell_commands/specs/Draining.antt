@@ -12,8 +12,9 @@ use Rattle.durable_cell.specs.declared.replays.TheConstants.{MAX_ROOM}
 use Rattle.cell_walks.specs.Allowed.{AtOpening}
 use Rattle.cell_walks.specs.DiskTold.{DiskTold}
 use Rattle.cell_walks.specs.Outcomes.{Outcome, early}
-use Rattle.cell_texts.specs.AskedSteps.{IsAskedIn}
-use Rattle.cell_texts.specs.Tests.{KnownCell, to_add}
+use Rattle.journal_texts.specs.AskedSteps.{IsAskedIn}
+use Rattle.cell_texts.specs.Tests.{KnownCell}
+use Rattle.journal_texts.specs.Tests.{to_add}
 
 -- each step of the plan was granted, or one halted
 abbrev pub IsDrainedIn : {D : Type 0} → DurableState D → DurableState D → Type 0

@@ -2,6 +2,8 @@ pub mod Check
 pub mod Drain
 pub mod DrainTold
 pub mod Draining
+pub mod JudgedFiles
 pub mod Plan
 pub mod Show
+pub mod Verdicts
 pub mod Why

@@ -10,8 +10,9 @@ use Rattle.cell_walks.specs.Outcomes.{Outcome, done, early}
 use Rattle.cell_walks.specs.Walks.{Walk, Tests, Opens, Answers}
 use Rattle.cell_walks.specs.declared.early_end.EarlyEnd.{EarlyEnd}
 use Rattle.cell_texts.specs.Blocks.{block_of, planned_block}
-use Rattle.cell_texts.specs.Tests.{KnownCell, cell_file, to_read}
-use Rattle.cell_texts.specs.declared.readers.AfterGrants.{AfterGrants}
+use Rattle.cell_texts.specs.Tests.{KnownCell, cell_file}
+use Rattle.journal_texts.specs.Tests.{to_read}
+use Rattle.journal_texts.specs.declared.readers.AfterGrants.{AfterGrants}
 
 -- The record of no shift after these grants is printed: the plan of the state that they leave, which drains that state.
 pub record IsPlanned (cell : Cell) (grants : List Grant) (outcome : Outcome) : Type 0 where

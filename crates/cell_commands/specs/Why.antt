@@ -19,7 +19,8 @@ use Rattle.cell_walks.specs.Outcomes.{Outcome, done, early}
 use Rattle.cell_walks.specs.Walks.{Journal, Walk, Tests, Opens, Answers}
 use Rattle.cell_walks.specs.declared.early_end.EarlyEnd.{EarlyEnd}
 use Rattle.cell_texts.specs.Blocks.{Lines}
-use Rattle.cell_texts.specs.Tests.{KnownCell, cell_file, step, to_read}
+use Rattle.cell_texts.specs.Tests.{KnownCell, cell_file, step}
+use Rattle.journal_texts.specs.Tests.{to_read}
 use Rattle.cell_texts.specs.Texts.{job_line}
 use Rattle.cell_commands.specs.declared.why.Answer.{Answer}
 

@@ -3,7 +3,8 @@ ghost use Rattle.std.specs.Prelude.{◌≡◌};
 ghost use Rattle.cell_walks.specs.Clauses.{Ends, IsAllowed, IsDelivered, IsTaken, disk_told, files_told, no_disk, observed, sink_told};
 ghost use Rattle.cell_commands.specs.Check.{check, checked_outcome, verdict_status};
 
-use cell_texts::{CommandEnd, check_record, read_cell, verdict_line};
+use crate::verdicts::{check_record, verdict_line};
+use cell_texts::{CommandEnd, read_cell};
 use cell_walks::{EarlyEnd, Status, finish, finish_early};
 use outside_io::{Disk, Files, Sink};
 use shift_checker::Verdict;

@@ -1,16 +1,15 @@
 //! `drain CELL JOURNAL`: the steps of the plan after the grants of the journal, asked one by one, each grant written to it.
 ghost use Rattle.std.specs.Prelude.{◌≡◌, ◌≤◌, length, IfOk};
 ghost use Rattle.cell_walks.specs.Clauses.{Ends, IsAllowed, disk_told, files_told, observed, sink_told};
-ghost use Rattle.cell_texts.specs.Clauses.{CellFits, EntriesFit, IsFresh, MAX_CELL_BYTES, known, recorded_or_early, recorded_outcome};
+ghost use Rattle.cell_texts.specs.Clauses.{CellFits, MAX_CELL_BYTES, known};
+ghost use Rattle.journal_texts.specs.Clauses.{EntriesFit, IsFresh, recorded_or_early, recorded_outcome};
 ghost use Rattle.cell_commands.specs.Draining.{AreDue, IsAdmitted, IsDrainOf, IsDrained, IsDrainedIn};
 ghost use Rattle.cell_commands.specs.Draining.{KeepsHistory, StandsForAdded, drain, first_parts};
 ghost use Rattle.cell_commands.specs.declared.drain.TheConstants.{MAX_PLAN};
 
-use cell_texts::{
-    CellFile, Closed, CommandEnd, Made, Recorded, open_journal, print_recorded, read_cell,
-    record_of,
-};
+use cell_texts::{CellFile, CommandEnd, read_cell};
 use durable_cell::{Durable, MAX_ROOM};
+use journal_texts::{Closed, Made, Recorded, open_journal, print_recorded, record_of};
 use outside_io::{Disk, Files, Sink};
 use std::alloc::Global;
 

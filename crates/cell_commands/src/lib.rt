@@ -9,6 +9,7 @@ mod check;
 mod drain;
 mod plan;
 mod show;
+mod verdicts;
 mod why;
 
 pub use check::run_check;

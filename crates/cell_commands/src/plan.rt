@@ -2,8 +2,9 @@
 ghost use Rattle.cell_walks.specs.Clauses.{Ends, IsAllowed, IsDelivered, disk_told, files_told, observed, sink_told};
 ghost use Rattle.cell_commands.specs.Plan.{plan, plan_outcome};
 
-use cell_texts::{AfterGrants, CommandEnd, Made, print_block, read_cell, read_journal};
+use cell_texts::{CommandEnd, print_block, read_cell};
 use cell_walks::{EarlyEnd, Status, finish_early};
+use journal_texts::{AfterGrants, Made, read_journal};
 use outside_io::{Disk, Files, Sink};
 use std::alloc::Global;
 

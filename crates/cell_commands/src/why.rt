@@ -4,15 +4,15 @@ ghost use Rattle.record_text.specs.Fitting.{ToldFits};
 ghost use Rattle.cell_walks.specs.Clauses.{Ends, HasCause, IsAllowed, IsDelivered, IsNotOpened, IsOnlyRead};
 ghost use Rattle.cell_walks.specs.Clauses.{TookAll, TookSome, disk_told, files_told, observed, sink_told};
 ghost use Rattle.cell_walks.specs.declared.early_end.EarlyEnd.TheVariants.{WantOfMemory};
-ghost use Rattle.cell_texts.specs.Clauses.{Answered, CellFits, MAX_CELL_BYTES, RequestFits, job_line, known, to_read};
+ghost use Rattle.cell_texts.specs.Clauses.{Answered, CellFits, MAX_CELL_BYTES, RequestFits, job_line, known};
+ghost use Rattle.journal_texts.specs.Clauses.{to_read};
 ghost use Rattle.cell_commands.specs.Why.{IsAnswerAfter, IsAnswerOf, answer_lines, why, why_outcome};
 
 use admission_core::Core;
 use cell_base::{JobId, List, Reply, Request};
-use cell_texts::{
-    CellFile, CommandEnd, Made, at_step_fault, job_line, print_line, read_cell, read_journal,
-};
+use cell_texts::{CellFile, CommandEnd, at_step_fault, job_line, print_line, read_cell};
 use cell_walks::{EarlyEnd, Status, finish_early};
+use journal_texts::{Made, read_journal};
 use outside_io::{Disk, Failed, Files, Sink};
 use record_text::reply_line;
 use refusal_reason::explain;

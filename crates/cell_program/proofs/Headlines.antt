@@ -11,9 +11,9 @@ use Rattle.cell_walks.specs.declared.status.Status.{Status}
 use Rattle.cell_walks.specs.declared.status.Status.TheVariants.{Done, Denied, NoCommand, ReadFault, CellRefused}
 use Rattle.cell_walks.specs.declared.status.Status.TheVariants.{InputRefused, JournalRefused, DeviceFault}
 use Rattle.cell_walks.specs.declared.status.Status.TheVariants.{SinkFault, NoMemory, CommandRefused}
-use Rattle.shift_commands.specs.Run.{run}
-use Rattle.shift_commands.specs.RunTold.{IsHaltedRun, IsWholeRun}
-use Rattle.shift_commands.proofs.RunTold.{is_halted, is_whole}
+use Rattle.run_command.specs.Run.{run}
+use Rattle.run_command.specs.RunTold.{IsHaltedRun, IsWholeRun}
+use Rattle.run_command.proofs.RunTold.{is_halted, is_whole}
 use Rattle.cell_program.specs.Headline.{Headline, IsRunOf}
 
 -- ---- numbers of statuses

@@ -14,9 +14,10 @@ use Rattle.cell_walks.specs.Promises.{IsCut, StandsWith}
 use Rattle.cell_walks.specs.Statuses.{status_number}
 use Rattle.cell_walks.specs.declared.early_end.EarlyEnd.{EarlyEnd}
 use Rattle.cell_walks.specs.declared.early_end.EarlyEnd.TheVariants.{DeviceFailed}
-use Rattle.cell_texts.specs.Tests.{KnownCell, cell_reads, to_add}
-use Rattle.shift_commands.specs.Run.{run_room}
-use Rattle.shift_commands.specs.RunTold.{IsHaltedRun, IsWholeRun}
+use Rattle.cell_texts.specs.Tests.{KnownCell, cell_reads}
+use Rattle.journal_texts.specs.Tests.{to_add}
+use Rattle.run_command.specs.Run.{run_room}
+use Rattle.run_command.specs.RunTold.{IsHaltedRun, IsWholeRun}
 
 -- The files stand for a cell and a shift, and the journal for grants after which the sessions of the shift start; and this is so of the
 -- disk, of these, and of the outcome.

@@ -9,8 +9,8 @@ use Rattle.cell_commands.specs.Drain.{drain}
 use Rattle.cell_commands.specs.Plan.{plan}
 use Rattle.cell_commands.specs.Show.{show}
 use Rattle.cell_commands.specs.Why.{why}
-use Rattle.shift_commands.specs.Run.{run}
-use Rattle.shift_commands.specs.Solo.{solo}
+use Rattle.run_command.specs.Run.{run}
+use Rattle.solo_command.specs.Solo.{solo}
 use Rattle.make_command.specs.Make.{make}
 use Rattle.carry_commands.specs.Begin.{begin}
 use Rattle.carry_commands.specs.Carry.{carry}

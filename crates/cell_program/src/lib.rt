@@ -12,7 +12,6 @@
 //! ```
 #![tactic(auto)]
 
-mod disk_laws;
 mod serving;
 mod top;
 mod words;

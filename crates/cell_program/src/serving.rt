@@ -5,9 +5,9 @@ ghost use Rattle.cell_walks.specs.Observed.{observed_with};
 ghost use Rattle.serve_command.specs.Serve.{serve};
 ghost use Rattle.cell_program.specs.Promised.{PromisesAt};
 
-use crate::disk_laws::reads_an_image;
 use crate::top::Ended;
 use cell_texts::CommandEnd;
+use cell_walks::reads_an_image;
 use outside_io::{Disk, Files, Sink, Source};
 use serve_command::run_serve;
 use std::alloc::Global;

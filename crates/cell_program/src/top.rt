@@ -6,19 +6,19 @@ ghost use Rattle.cell_program.specs.Deciding.{option_and_then, string_bytes, tas
 ghost use Rattle.cell_program.specs.Headline.{Headline};
 ghost use Rattle.cell_program.specs.Promised.{FollowsAll, PromisesAt};
 
-use crate::disk_laws::{leaves_only_now, reads_an_image};
 use crate::words::{Command, command_of};
 use carry_commands::{run_begin, run_carry};
 use cell_commands::{run_check, run_drain, run_plan, run_show, run_why};
 use cell_texts::{CommandEnd, print_usage};
-use cell_walks::Status;
+use cell_walks::{Status, leaves_only_now, reads_an_image};
 use hybrid_command::run_hybrid;
 use look_commands::{run_grants, run_parts};
 use make_command::run_make;
 use order_commands::{run_advise, run_arrange};
 use outside_io::{Disk, Files, Pace, Sink};
 use queue_command::run_queue;
-use shift_commands::{run_on_journal, run_solo};
+use run_command::run_on_journal;
+use solo_command::run_solo;
 use standby_commands::{run_feed, run_follow};
 use std::alloc::Global;
 use std::sync::Wait;

@@ -12,8 +12,6 @@ use Rattle.toml_walk.specs.declared.faults.DocumentFault.TheVariants.{TooMany}
 use Rattle.cell_base.specs.Faults.{◌>>=◌}
 use Rattle.cell_file.specs.Faults.{looked}
 use Rattle.cell_file.specs.Walk.{cell_of, cell_of_text}
-use Rattle.shift_checker.specs.declared.verdict.Verdict.{Verdict}
-use Rattle.shift_checker.specs.Judging.{IsVerdictOn}
 use Rattle.shift_file.specs.Walk.{shift_of}
 use Rattle.cell_base.specs.declared.shifts.Shift.{Shift}
 use Rattle.toml_walk.specs.Outcomes.{GivesOr}
@@ -23,20 +21,12 @@ use Rattle.cell_file.specs.declared.faults.CellFault.TheVariants.{Memory as Cell
 use Rattle.shift_file.specs.declared.reading.TheConstants.{MAX_SHIFT_BYTES}
 use Rattle.shift_file.specs.declared.faults.ShiftFault.{ShiftFault}
 use Rattle.shift_file.specs.declared.faults.ShiftFault.TheVariants.{Memory as ShiftMemory}
-use Rattle.record_text.specs.BadLines.{IsRecordOf, RefusedAt}
-use Rattle.record_text.specs.declared.blocks.Block.{Block}
-use Rattle.record_text.specs.declared.record.TheConstants.{MAX_RECORD_BYTES}
-use Rattle.record_text.specs.declared.record.RecordFault.{RecordFault}
-use Rattle.record_text.specs.declared.record.RecordFault.TheVariants.{Bad, Memory as RecordMemory}
-use Rattle.cell_base.specs.Fits.{CellFits}
 use Rattle.cell_walks.specs.Allowed.{ByMemory, IsEndedAt}
 use Rattle.cell_walks.specs.Observed.{FilesTold, ShowsFile}
 use Rattle.cell_walks.specs.Walks.{end_with}
 use Rattle.cell_walks.specs.declared.early_end.Subject.TheVariants.{Cell as OfCell, Input}
 use Rattle.cell_walks.proofs.Steps.{ended_by_fault}
-use Rattle.cell_texts.specs.JudgedFiles.{IsJudgedFile}
-use Rattle.cell_texts.specs.RecordReads.{record_line, record_reads}
-use Rattle.cell_texts.specs.Tests.{cell_fault_line, cell_file, cell_reads, record_file, shift_fault_line, shift_file, with_text}
+use Rattle.cell_texts.specs.Tests.{cell_fault_line, cell_file, cell_reads, shift_fault_line, shift_file, with_text}
 
 too_many : (most : ℕ) (bytes : List ℕ) → most < length bytes → short most bytes ≡ Err (TooMany (top Whole) (most + 1))
 unfolding short
@@ -79,7 +69,7 @@ cell_short cell bytes is = elim (cases_lt MAX_CELL_BYTES (length bytes)) [
 ]
 
 -- a file that is cut off is too long
-uncut : (most : ℕ) (bytes : List ℕ) → length (take (most + 1) bytes) ≤ most → take (most + 1) bytes ≡ bytes
+pub uncut : (most : ℕ) (bytes : List ℕ) → length (take (most + 1) bytes) ≤ most → take (most + 1) bytes ≡ bytes
 uncut most bytes short = elim (cases_lt most (length bytes)) [
   | inl long ↦ absurd (omega (arith, long, short, length-take (most + 1) bytes))
   | inr fits ↦ take_all (most + 1) bytes (omega (arith, fits))
@@ -158,37 +148,3 @@ module _ (files : FilesTold) (name read : List ℕ) where
       ended_by_fault files (shift_file cell name) fault
       (held_of_read (λ bytes. shift_of cell bytes ≡ Err fault) MAX_SHIFT_BYTES (λ bytes so. sym (shift_of-take cell bytes) ∙ so)
       files.names name read is (sym walk))
-
--- ---- records
-
-record_uncut : (cell : Cell) (blocks : List Block) (bytes : List ℕ) → IsRecordOf cell (take (MAX_RECORD_BYTES + 1) bytes) blocks
-    → IsRecordOf cell bytes blocks
-record_uncut cell blocks bytes is =
-    subst (λ (read : List ℕ). IsRecordOf cell read blocks) (uncut MAX_RECORD_BYTES bytes is.short) is
-
-bad_uncut : (cell : Cell) (line : ℕ) (bytes : List ℕ) → RefusedAt cell (take (MAX_RECORD_BYTES + 1) bytes) (Bad line)
-    → RefusedAt cell bytes (Bad line)
-bad_uncut cell line bytes (inl long) = inl (omega (arith, long.0, length-take (MAX_RECORD_BYTES + 1) bytes), long.1)
-bad_uncut cell line bytes (inr bad) =
-    subst (λ (read : List ℕ). RefusedAt cell read (Bad line)) (uncut MAX_RECORD_BYTES bytes bad.0) (inr bad)
-
-module _ (files : FilesTold) (name read : List ℕ) (cell : Cell) (is : IsReadOf files.names name MAX_RECORD_BYTES read) where
-  -- the bytes that were read are the text of these blocks, and so is the file
-  blocks_read : (blocks : List Block) → CellFits cell → IsRecordOf cell read blocks
-      → ShowsFile files name (λ bytes. record_reads cell bytes (Ok blocks))
-  blocks_read blocks fits written =
-      held_of_read (λ bytes. record_reads cell bytes (Ok blocks)) MAX_RECORD_BYTES
-      (λ bytes so. (so.0, record_uncut cell blocks bytes so.1)) files.names name read is (fits, written)
-
-  -- so the verdict on the bytes is that on the file
-  pub blocks_judged : (verdict : Verdict) → CellFits cell → IsVerdictOn cell read verdict → IsJudgedFile files cell name verdict
-  blocks_judged verdict fits is =
-      record { blocks = is.blocks; shown = blocks_read is.blocks fits is.written; judged = is.judged }
-
-  -- or a line of them is bad
-  pub blocks_refused : (fault : RecordFault) → RefusedAt cell read fault
-      → IsEndedAt files (record_file cell name) (end_with Input (record_line fault))
-  blocks_refused RecordMemory refused = ByMemory refl
-  blocks_refused (Bad line) refused =
-      ended_by_fault files (record_file cell name) (Bad line)
-      (held_of_read (λ bytes. RefusedAt cell bytes (Bad line)) MAX_RECORD_BYTES (bad_uncut cell line) files.names name read is refused)

@@ -1,41 +1,9 @@
--- What was done to a disk, by what its calls say.
-use Rattle.std.specs.Prelude.{IfSome, IsSomeAnd, ⊤}
-use Rattle.std.proofs.Common.{◌⊎◌, inl, inr, ℕ, List, [], Option, Some, None, refl}
-use Rattle.outside_io.specs.Disk.{LeavesOnly, Turns}
-use Rattle.durable_cell.specs.Made.{IsUnmade}
-use Rattle.move_journal.specs.Journals.{StandsFor}
-use Rattle.shift_recovery.specs.Reads.{OnlyReads}
-use Rattle.cell_walks.specs.DiskTold.{AddsNothing, IsOnlyRead, IsUntouched, disk_told}
-
-module _ (before now : Option (List ℕ)) where
-  -- what a disk that tells shows
-  pub now_told : (leaves : List ℕ → Type 0) (P Q : List ℕ → Type 0) → ((file : List ℕ) → P file → Q file) → Turns before now (λ _ _. ⊤)
-      → IfSome now (λ file. P file × ((left : List ℕ) → leaves left → P left))
-      → IfSome before (λ _. IsSomeAnd now (λ file. Q file × ((left : List ℕ) → leaves left → Q left)))
-  now_told leaves P Q weaker tells shows = by_told before now tells shows
-    where
-      by_told : (before now : Option (List ℕ)) → Turns before now (λ _ _. ⊤)
-          → IfSome now (λ file. P file × ((left : List ℕ) → leaves left → P left))
-          → IfSome before (λ _. IsSomeAnd now (λ file. Q file × ((left : List ℕ) → leaves left → Q left)))
-      by_told None now tells shows = tt
-      by_told (Some old) None tells shows = absurd tells
-      by_told (Some old) (Some file) tells shows = (weaker file shows.0, λ left is. weaker left (shows.1 left is))
-
-  -- and what it might have left
-  pub always_told : (left : List ℕ → Type 0) (Only : Type 0) (P Q : List ℕ → Type 0) → ((file : List ℕ) → P file → Q file)
-      → (Only → (file : List ℕ) → left file → P file) → Turns before now (λ _ _. ⊤) → IfSome now (λ _. Only)
-      → IfSome before (λ _. (file : List ℕ) → left file → Q file)
-  always_told left Only P Q weaker each tells only = by_told before now tells only
-    where
-      by_told : (before now : Option (List ℕ)) → Turns before now (λ _ _. ⊤) → IfSome now (λ _. Only)
-          → IfSome before (λ _. (file : List ℕ) → left file → Q file)
-      by_told None now tells only = tt
-      by_told (Some old) None tells only = absurd tells
-      by_told (Some old) (Some file) tells only = λ f is. weaker f (each only f is)
+-- A disk to which nothing was done.
+use Rattle.std.proofs.Common.{ℕ, List, Option, refl}
+use Rattle.cell_walks.specs.DiskTold.{IsUntouched, disk_told}
 
 module _ {D : Type 0} (reads_as : D → Option (List ℕ)) (may_leave : D → List ℕ → Type 0) (moment : D → ℕ)
     (left_since : D → ℕ → List ℕ → Type 0) (faults : D → ℕ) where
-  -- nothing
   pub untouched : (disk : D) → ((file : List ℕ) → left_since disk (moment disk) file → may_leave disk file)
       → IsUntouched (disk_told reads_as may_leave moment left_since faults disk disk)
   untouched disk only_now = record {
@@ -44,26 +12,3 @@ module _ {D : Type 0} (reads_as : D → Option (List ℕ)) (may_leave : D → Li
     leaves = (λ file left. left, λ file left. left);
     any_moment = only_now;
   }
-
-  -- reads
-  pub only_read : (old new : D) → OnlyReads reads_as may_leave moment left_since old new
-      → IsOnlyRead (disk_told reads_as may_leave moment left_since faults old new)
-  only_read old new reads = record { reads = reads.same; leaves = reads.outcomes; any_moment = reads.any_moment.each }
-
-  -- reads, or a journal that could not be made on a blank disk
-  pub adds_nothing : (old new : D) (text : List ℕ)
-      → OnlyReads reads_as may_leave moment left_since old new ⊎ IsUnmade reads_as may_leave moment left_since old text new
-      → AddsNothing text (disk_told reads_as may_leave moment left_since faults old new)
-  adds_nothing old new text (inl reads) = inl (only_read old new reads)
-  adds_nothing old new text (inr unmade) = inr (record {
-    blank = unmade.blank;
-    now = now_told (reads_as old) (reads_as new) (may_leave new) (λ file. StandsFor file text []) (λ file. StandsFor file text [])
-        (λ file is. is) unmade.tells unmade.stands;
-    any_moment = by_told (reads_as old) unmade.any_moment;
-  })
-    where
-      by_told : (told : Option (List ℕ))
-          → IfSome told (λ _. LeavesOnly moment left_since old new (λ file. may_leave old file ⊎ StandsFor file text []))
-          → IfSome told (λ _. (left : List ℕ) → left_since new (moment old) left → may_leave old left ⊎ StandsFor left text [])
-      by_told None only = tt
-      by_told (Some file) only = only.each

@@ -11,14 +11,11 @@ use Rattle.cell_base.specs.declared.requests.Reply.TheVariants.{Granted, Refused
 use Rattle.cell_base.specs.declared.requests.Told.{Told}
 use Rattle.cell_base.specs.declared.requests.Told.TheVariants.{Answered, Halted}
 use Rattle.cell_base.specs.declared.shifts.Entry.{Entry}
-use Rattle.cell_base.specs.declared.shifts.Grant.{Grant}
 use Rattle.cell_base.specs.Fits.{CellFits, RequestFits}
-use Rattle.cell_base.specs.Histories.{IsLegal, IsToldRightly, after, after_requests, replay, requests_of, state_after_entry}
-use Rattle.cell_base.specs.Outcomes.{reply_to, state_after}
+use Rattle.cell_base.specs.Histories.{IsLegal, IsToldRightly, after, state_after_entry}
+use Rattle.cell_base.specs.Outcomes.{reply_to}
 use Rattle.cell_base.specs.Policy.{IsAdmitted}
 use Rattle.policy_laws.proofs.Admission.{admission_law, saturation_law}
-use Rattle.policy_laws.proofs.States.{IsAdmitted-empty}
-use Rattle.shift_recovery.specs.Replayed.{AreDue}
 use Rattle.record_text.specs.Fitting.{EntryFits, ToldFits, RefusalFits}
 
 module _ (cell : Cell) (fits : CellFits cell) where
@@ -68,18 +65,3 @@ module _ (cell : Cell) (fits : CellFits cell) where
       let Fits : Entry → Type 0 = λ e. RequestFits cell e.request in
       admitted_after (state_after_entry cell parts entry.request entry.told) entries
       (stays parts entry.request entry.told admitted (All-head Fits entry entries fit)) (All-tail Fits entry entries fit)
-
-  -- ---- grants
-
-  admitted_replayed : (parts : List Part) (grants : List Grant) → IsAdmitted cell parts
-      → All (λ (grant : Grant). RequestFits cell grant.request) grants → IsAdmitted cell (after_requests cell parts (requests_of grants))
-  admitted_replayed parts [] admitted fit = admitted
-  admitted_replayed parts (grant ∷ grants) admitted fit =
-      let Fits : Grant → Type 0 = λ g. RequestFits cell g.request in
-      admitted_replayed (state_after cell parts grant.request) grants
-      ((admission_law cell fits parts admitted).request grant.request (All-head Fits grant grants fit))
-      (All-tail Fits grant grants fit)
-
-  -- the state after the grants of a journal is admitted
-  pub replay_admitted : (grants : List Grant) → AreDue cell grants → IsAdmitted cell (replay cell grants)
-  replay_admitted grants due = admitted_replayed [] grants (IsAdmitted-empty cell) due.fit

@@ -1,26 +1,24 @@
--- The faults of files and journals by number, each with its place and its count, as their lines show them. Want of memory has none.
+-- The faults of files by number, each with its place and its count, as their lines show them. Want of memory has none.
 use Rattle.std.specs.Prelude.{ℕ, Option, Some, None}
 use Rattle.cell_base.specs.declared.places.Place.{Place}
 use Rattle.cell_file.specs.declared.faults.CellFault.{CellFault}
 use Rattle.cell_file.specs.declared.faults.CellFault.TheVariants as cell
 use Rattle.shift_file.specs.declared.faults.ShiftFault.{ShiftFault}
 use Rattle.shift_file.specs.declared.faults.ShiftFault.TheVariants as shift
-use Rattle.shift_recovery.specs.declared.faults.JournalFault.{JournalFault}
-use Rattle.shift_recovery.specs.declared.faults.JournalFault.TheVariants as journal
 use Rattle.cell_texts.specs.declared.findings.Finding.{Finding}
 
--- | Number | cell file    | shift file  | journal      |
--- |      1 | NotToml      | NotToml     | NotAJournal  |
--- |      2 | WrongKey     | WrongKey    | OtherCell    |
--- |      3 | WrongKind    | WrongKind   | Damaged      |
--- |      4 | BadName      | BadStep     | Long         |
--- |      5 | BadNumber    | BadNumber   | other shift  |
--- |      6 | Repeated     | UnknownName |              |
--- |      7 | UnknownName  | Empty       |              |
--- |      8 | TooMany      | TooMany     |              |
--- |      9 | Empty        | TooLong     |              |
--- |     10 | MixedOrders  | TooManyAsks |              |
--- |     11 | TooManyUnits |             |              |
+-- | Number | cell file    | shift file  |
+-- |      1 | NotToml      | NotToml     |
+-- |      2 | WrongKey     | WrongKey    |
+-- |      3 | WrongKind    | WrongKind   |
+-- |      4 | BadName      | BadStep     |
+-- |      5 | BadNumber    | BadNumber   |
+-- |      6 | Repeated     | UnknownName |
+-- |      7 | UnknownName  | Empty       |
+-- |      8 | TooMany      | TooMany     |
+-- |      9 | Empty        | TooLong     |
+-- |     10 | MixedOrders  | TooManyAsks |
+-- |     11 | TooManyUnits |             |
 
 -- a fault without place and count
 abbrev pub plain : ℕ → Finding
@@ -66,14 +64,3 @@ shift_finding (shift.TooMany place count) = Some (counted_at 8 place count)
 shift_finding (shift.TooLong count) = Some (counted 9 count)
 shift_finding (shift.TooManyAsks count) = Some (counted 10 count)
 shift_finding shift.Memory = None
-
--- the fault of a journal
-abbrev pub journal_finding : JournalFault → Finding
-journal_finding journal.NotAJournal = plain 1
-journal_finding (journal.OtherCell offset) = counted 2 offset
-journal_finding (journal.Damaged offset) = counted 3 offset
-journal_finding (journal.Long length) = counted 4 length
-
--- a grant in it is another shift's, of a session
-abbrev pub other_shift_finding : ℕ → Finding
-other_shift_finding session = counted 5 session

@@ -1,15 +1,9 @@
-pub mod AskedSteps
 pub mod Blocks
 pub mod Clauses
 pub mod FaultNumbers
-pub mod JournalReads
-pub mod JudgedFiles
 pub mod Numbers
 pub mod OneWay
 pub mod Parting
 pub mod RecordReads
-pub mod Recorded
-pub mod Records
-pub mod Starting
 pub mod Tests
 pub mod Texts

@@ -1,4 +1,4 @@
--- What the files, the words and the journal of a command read as: their tests.
+-- What the files and the words of a command read as: their tests.
 use Rattle.std.specs.Prelude.{codes, ℕ, List, Option, Some, Result, Ok, Err}
 use Rattle.std.specs.Option.{option_map}
 use Rattle.cell_base.specs.declared.cells.Cell.{Cell}
@@ -6,18 +6,16 @@ use Rattle.cell_base.specs.declared.requests.Request.{Request}
 use Rattle.cell_base.specs.declared.shifts.Shift.{Shift}
 use Rattle.cell_file.specs.Walk.{cell_of}
 use Rattle.cell_file.specs.declared.faults.CellFault.{CellFault}
-use Rattle.durable_cell.specs.declared.replays.TheConstants.{MAX_ROOM}
 use Rattle.record_text.specs.declared.blocks.Block.{Block}
 use Rattle.record_text.specs.declared.record.RecordFault.{RecordFault}
 use Rattle.shift_file.specs.Walk.{shift_of}
 use Rattle.shift_file.specs.declared.faults.ShiftFault.{ShiftFault}
-use Rattle.shift_recovery.specs.declared.faults.JournalFault.{JournalFault}
 use Rattle.step_text.specs.Steps.{step_of}
 use Rattle.step_text.specs.declared.faults.StepFault.{StepFault}
 use Rattle.cell_walks.specs.Observed.{File, Word}
-use Rattle.cell_walks.specs.Walks.{Journal, Test, ToAdd, ToRead}
+use Rattle.cell_walks.specs.Walks.{Test}
 use Rattle.cell_walks.specs.declared.early_end.Subject.TheVariants.{Cell as OfCell, Input}
-use Rattle.cell_texts.specs.FaultNumbers.{cell_finding, journal_finding, shift_finding}
+use Rattle.cell_texts.specs.FaultNumbers.{cell_finding, shift_finding}
 use Rattle.cell_texts.specs.Texts.{refusal_text, step_refused}
 use Rattle.cell_texts.specs.declared.readers.CellFile.{CellFile}
 use Rattle.cell_texts.specs.OneWay.{reads_by, once}
@@ -104,18 +102,3 @@ step cell word = record {
   one_way = once (step_of cell);
   line = step_fault_line;
 }
-
--- ---- the journal
-
--- the line of a fault of a journal
-abbrev pub journal_line : JournalFault → List ℕ
-journal_line why = refusal_text (codes "journal") (journal_finding why)
-
--- the journal of a cell, which is only read, status 6
-abbrev pub to_read : KnownCell → Journal
-to_read held =
-    record { purpose = ToRead; cell = held.cell; text = held.text; room = MAX_ROOM; line = journal_line }
-
--- the same with room for so many grants, which may grow
-abbrev pub to_add : KnownCell → ℕ → Journal
-to_add held room = record { purpose = ToAdd; cell = held.cell; text = held.text; room = room; line = journal_line }

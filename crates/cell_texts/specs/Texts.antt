@@ -10,10 +10,6 @@ use Rattle.cell_base.specs.declared.places.Field.{Field}
 use Rattle.cell_base.specs.declared.places.Field.TheVariants.{Whole, Version, Resources, JobTypes, Name, Capacity, Order, Route, Next}
 use Rattle.cell_base.specs.declared.places.Field.TheVariants.{Number, Patience, Sessions, Steps, Job, Kind, Path, Machine, Turns}
 use Rattle.record_text.specs.Lines.{line_of}
-use Rattle.shift_checker.specs.declared.verdict.Verdict.{Verdict}
-use Rattle.shift_checker.specs.declared.verdict.Verdict.TheVariants.{Yes, No}
-use Rattle.shift_checker.specs.declared.verdict.Why.{Why}
-use Rattle.shift_checker.specs.declared.verdict.Why.TheVariants.{After, Reply, Left, Step, Parts}
 use Rattle.cell_texts.specs.declared.findings.Finding.{Finding}
 
 -- ---- places
@@ -83,21 +79,6 @@ bad_line_text line = line_of (codes "record" ∷ codes "refused" ∷ decimal lin
 -- the line of a word that is no step
 abbrev pub step_refused : List ℕ
 step_refused = codes "step refused" ++ 10 ∷ []
-
--- ---- verdicts
-
--- why a line of a record fails
-abbrev pub why_word : Why → List ℕ
-why_word After = codes "after"
-why_word Reply = codes "reply"
-why_word Left = codes "left"
-why_word Step = codes "step"
-why_word Parts = codes "parts"
-
--- the line of a verdict
-abbrev pub verdict_text : Verdict → List ℕ
-verdict_text Yes = codes "yes" ++ 10 ∷ []
-verdict_text (No line why) = line_of (codes "no" ∷ decimal line ∷ why_word why ∷ [])
 
 -- ---- jobs
 

@@ -1,12 +1,10 @@
 //! What a refusal tells: a number for the fault, and its place and its count where it has them.
 ghost use Rattle.std.specs.Prelude.{◌≡◌};
-ghost use Rattle.cell_texts.specs.FaultNumbers.{at, cell_finding, counted, counted_at, journal_finding};
-ghost use Rattle.cell_texts.specs.FaultNumbers.{other_shift_finding, plain, shift_finding};
+ghost use Rattle.cell_texts.specs.FaultNumbers.{at, cell_finding, counted, counted_at, plain, shift_finding};
 
 use cell_base::Place;
 use cell_file::CellFault;
 use shift_file::ShiftFault;
-use shift_recovery::JournalFault;
 
 /// A fault as its line shows it. Faults are numbered from 1 for each kind of file.
 #[derive(Clone, Copy, Debug, PartialEq, Eq)]
@@ -17,8 +15,8 @@ pub struct Finding {
 }
 
 impl Finding {
-    // A fault without place and count.
-    fn plain(number: u8) -> Finding
+    /// A fault without place and count.
+    pub fn plain(number: u8) -> Finding
         ensures { result ≡ plain number }
     {
         Finding {
@@ -39,8 +37,8 @@ impl Finding {
         }
     }
 
-    // A fault with a count, or with one offset.
-    fn counted(number: u8, count: u64) -> Finding
+    /// A fault with a count, or with one offset.
+    pub fn counted(number: u8, count: u64) -> Finding
         ensures { result ≡ counted number count }
     {
         Finding {
@@ -98,24 +96,5 @@ impl Finding {
             ShiftFault::TooManyAsks { count } => Finding::counted(10, count),
             ShiftFault::Memory => return None,
         })
-    }
-
-    /// The fault of a journal.
-    pub fn of_journal(fault: JournalFault) -> Finding
-        ensures { result ≡ journal_finding fault }
-    {
-        match fault {
-            JournalFault::NotAJournal => Finding::plain(1),
-            JournalFault::OtherCell { at } => Finding::counted(2, at),
-            JournalFault::Damaged { at } => Finding::counted(3, at),
-            JournalFault::Long { len } => Finding::counted(4, len),
-        }
-    }
-
-    /// A grant of the journal is another shift's, of this session.
-    pub fn of_other_shift(session: u16) -> Finding
-        ensures { result ≡ other_shift_finding session }
-    {
-        Finding::counted(5, u64::from(session))
     }
 }

@@ -3,13 +3,11 @@ ghost use Rattle.std.specs.Prelude.{◌≡◌, ◌+◌, ◌≤◌, ◌++◌, [],
 ghost use Rattle.std.specs.Option.{option_map, option_map_or};
 ghost use Rattle.record_text.specs.Spaced.{spaced};
 ghost use Rattle.cell_texts.specs.Texts.{bad_line_text, field_word, field_words, finding_words, item_words, job_line, number_words};
-ghost use Rattle.cell_texts.specs.Texts.{place_words, refusal_text, section_word, step_refused, verdict_text, why_word};
-ghost use Rattle.shift_checker.specs.declared.verdict.Verdict.TheVariants.{No};
+ghost use Rattle.cell_texts.specs.Texts.{place_words, refusal_text, section_word, step_refused};
 
 use crate::findings::Finding;
 use cell_base::{Field, JobId, Place, Section};
 use record_text::Line;
-use shift_checker::{Verdict, Why};
 
 /// The line of a job that stands in the way of a request.
 pub fn job_line(job: JobId) -> Line
@@ -46,38 +44,6 @@ pub fn step_line() -> Line
     ensures { result ≡ step_refused }
 {
     Line::of_word(b"step refused").end()
-}
-
-/// The line of a verdict.
-pub fn verdict_line(verdict: &Verdict) -> Line
-    ensures { result ≡ verdict_text verdict.now }
-{
-    match verdict {
-        Verdict::Yes => Line::of_word(b"yes").end(),
-        Verdict::No { line, why } => no_line(*line, *why),
-    }
-}
-
-fn no_line(number: u32, why: Why) -> Line
-    ensures { result ≡ verdict_text (No number why) }
-{
-    let mut line = Line::of_word(b"no");
-    line.number(number);
-    line.word(why_word(why));
-    line.end()
-}
-
-fn why_word(why: Why) -> &'static [u8]
-    ensures word { result.now ≡ why_word why }
-    ensures len { length result.now ≤ 5 }
-{
-    match why {
-        Why::After => b"after",
-        Why::Reply => b"reply",
-        Why::Left => b"left",
-        Why::Step => b"step",
-        Why::Parts => b"parts",
-    }
 }
 
 fn add_finding(line: &mut Line, finding: &Finding)

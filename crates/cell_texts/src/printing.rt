@@ -1,12 +1,11 @@
 //! Lines on their way to the sink, each one `put`.
 ghost use Rattle.std.specs.Prelude.{◌≡◌, [], ◌∷◌, map, OnOk, OnErr};
-ghost use Rattle.std.specs.List.{All, concat};
+ghost use Rattle.std.specs.List.{All};
 ghost use Rattle.cell_base.specs.Plans.{plan_of};
-ghost use Rattle.refusal_reason.specs.Shown.{IsLine};
 ghost use Rattle.record_text.specs.Fitting.{EntryFits};
 ghost use Rattle.cell_walks.specs.Clauses.{HasCause, IsDelivered, TookAll, TookSome, printed, sink_told};
 ghost use Rattle.cell_walks.specs.declared.status.Status.TheVariants.{NoCommand};
-ghost use Rattle.cell_texts.specs.Blocks.{Lines, block_of, entry_line, left_in_core, step_line, history_lines, plan_lines};
+ghost use Rattle.cell_texts.specs.Blocks.{block_of, entry_line, left_in_core, step_line, history_lines, plan_lines};
 
 use admission_core::Core;
 use cell_base::{Cell, Entry};
@@ -14,7 +13,6 @@ use cell_walks::Status;
 use drain_planner::Drainer;
 use outside_io::{Failed, Sink};
 use record_text::{Line, head_line, left_line, plan_line, write_entry, write_step};
-use refusal_reason::first_line;
 
 /// Puts one line.
 pub fn print_line<K: Sink>(out: &mut K, line: &Line) -> Result<(), Failed>
@@ -35,25 +33,6 @@ pub fn print_lines<K: Sink>(out: &mut K, lines: &[Line]) -> Result<(), Failed>
         if let Err(failed) = print_line(out, line) {
             return Err(failed);
         }
-    }
-    Ok(())
-}
-
-/// Puts each line of a text, up to the first that the sink doesn't take.
-pub fn print_text<K: Sink>(out: &mut K, text: &[u8]) -> Result<(), Failed>
-    ensures whole { (lines : Lines) → All IsLine lines → text.now ≡ concat lines
-        → OnOk result (TookAll (sink_told K.taken K.was_put K.faults out.old out.new) lines) }
-    ensures part { (lines : Lines) → All IsLine lines → text.now ≡ concat lines
-        → OnErr result (TookSome (sink_told K.taken K.was_put K.faults out.old out.new) lines) }
-    ensures cause { HasCause (K.faults out.old) (K.faults out.new) result }
-{
-    let mut rest = text;
-    while !rest.is_empty() {
-        let (line, more) = first_line(rest);
-        if let Err(failed) = out.put(line) {
-            return Err(failed);
-        }
-        rest = more;
     }
     Ok(())
 }

@@ -1,35 +1,22 @@
-//! The files, the words and the journal of a command, tested.
-ghost use Rattle.std.specs.Prelude.{◌≡◌, ◌≤◌, ◌⊎◌, ℕ, [], length, IfOk, IfErr, OnOk};
+//! The files of a command, read and tested.
+ghost use Rattle.std.specs.Prelude.{◌≡◌, ◌≤◌, ◌⊎◌, length, IfOk, IfErr, OnOk};
 ghost use Rattle.outside_io.specs.Files.{IsReadOf};
-ghost use Rattle.cell_walks.specs.Clauses.{File, IsEndedAt, IsNotOpened, IsOnlyRead, IsUnread, ShowsFile, disk_told, files_told};
+ghost use Rattle.cell_walks.specs.Clauses.{File, IsEndedAt, IsUnread, ShowsFile, files_told};
 ghost use Rattle.cell_walks.specs.declared.early_end.EarlyEnd.TheVariants.{WantOfMemory};
-ghost use Rattle.cell_texts.specs.Clauses.{CellFits, GrantsFit, IsAfterGrants, IsFound, IsJudgedFile, IsReplayed, MAX_CELL_BYTES};
-ghost use Rattle.cell_texts.specs.Clauses.{ShiftFits, cell_file, cell_reads, known, record_file, shift_file, shift_of, to_read};
+ghost use Rattle.cell_texts.specs.Clauses.{CellFits, MAX_CELL_BYTES, ShiftFits, cell_file, cell_reads, known, shift_file, shift_of};
 
-use crate::refusals::{at_cell_fault, at_journal_fault, at_record_fault, at_shift_fault};
-use admission_core::Core;
-use cell_base::{Cell, Grant, List, Shift};
+use crate::refusals::{at_cell_fault, at_shift_fault};
+use cell_base::{Cell, Shift};
 use cell_file::MAX_CELL_BYTES;
 use cell_walks::{EarlyEnd, Status};
-use durable_cell::{MAX_ROOM, Resumed, resume};
-use outside_io::{Disk, FileFail, Files};
-use record_text::MAX_RECORD_BYTES;
-use shift_checker::{Verdict, check_text};
+use outside_io::{FileFail, Files};
 use shift_file::MAX_SHIFT_BYTES;
-use shift_recovery::{Taker, Unkept};
 use std::alloc::Global;
 
 /// How a command ended, and the disk that was handed in.
 #[derive(Drop)]
 pub struct CommandEnd<D> {
     pub status: Status,
-    pub disk: D,
-}
-
-/// What is to be answered, or the early end in its place, and the disk that was handed in.
-#[derive(Drop)]
-pub struct Made<T, D> {
-    pub made: Result<T, EarlyEnd>,
     pub disk: D,
 }
 
@@ -40,22 +27,8 @@ pub struct CellFile {
     pub text: Vec<u8>,
 }
 
-/// A core in the state after grants, and how many these are.
-#[derive(Drop)]
-pub struct AfterGrants {
-    pub core: Core,
-    pub grants: u64,
-}
-
-/// The grants of a journal, and a core in the state after them.
-#[derive(Drop)]
-pub struct Found {
-    pub core: Core,
-    pub grants: List<Grant>,
-}
-
-// Reads a file, cut after one byte more than the limit.
-fn read_named<F: Files>(
+/// Reads a file, cut after one byte more than the limit.
+pub fn read_named<F: Files>(
     alloc: Global,
     files: &mut F,
     name: &str,
@@ -117,123 +90,5 @@ pub fn read_shift<F: Files>(
     match shift_file::read_shift(alloc, cell, &bytes) {
         Ok(shift) => Ok(shift),
         Err(fault) => Err(at_shift_fault(fault)),
-    }
-}
-
-/// The verdict on a record file of this cell, or the end in its place. Beside the bytes of the file there is one block of it
-/// at a time.
-pub fn check_record<F: Files>(
-    alloc: Global,
-    files: &mut F,
-    cell: &Cell,
-    name: &str,
-) -> Result<Verdict, EarlyEnd>
-    requires { CellFits cell.now }
-    ensures judged { IfOk result (IsJudgedFile (files_told F.holds F.is_sound F.faults files.old files.new) cell.now name.now) }
-    ensures ended { IfErr result (IsEndedAt (files_told F.holds F.is_sound F.faults files.old files.new) (record_file cell.now name.now)) }
-{
-    let bytes = match read_named(alloc, files, name, MAX_RECORD_BYTES as u32) {
-        Ok(bytes) => bytes,
-        Err(end) => return Err(end),
-    };
-    match check_text(alloc, cell, &bytes) {
-        Ok(verdict) => Ok(verdict),
-        Err(fault) => Err(at_record_fault(fault)),
-    }
-}
-
-/// The state after the grants of the cell that stand on a disk, or the end in its place. It only reads, and keeps no list of the grants.
-pub fn read_journal<D: Disk>(alloc: Global, held: CellFile, disk: D) -> Made<AfterGrants, D>
-    requires fits { CellFits held.cell }
-    requires short { length held.text.items ≤ MAX_CELL_BYTES }
-    ensures read { IfOk result.made (IsAfterGrants
-        (disk_told D.reads_as D.may_leave D.moment D.left_since D.faults disk result.disk) (to_read (known held))) }
-    ensures ended { IfErr result.made (IsNotOpened
-        (disk_told D.reads_as D.may_leave D.moment D.left_since D.faults disk result.disk) (to_read (known held))) }
-    ensures only_read { IsOnlyRead (disk_told D.reads_as D.may_leave D.moment D.left_since D.faults disk result.disk) }
-{
-    let Made { made, disk } = replay_journal(alloc, held, disk, Unkept);
-    let made = match made {
-        Ok(replayed) => Ok(AfterGrants {
-            core: replayed.core,
-            grants: replayed.count,
-        }),
-        Err(end) => Err(end),
-    };
-    Made { made, disk }
-}
-
-/// The grants of the cell that stand on a disk, with the state after them, or the end in their place. It only reads.
-pub fn find_grants<D: Disk>(alloc: Global, held: CellFile, disk: D) -> Made<Found, D>
-    requires fits { CellFits held.cell }
-    requires short { length held.text.items ≤ MAX_CELL_BYTES }
-    ensures found { IfOk result.made (IsFound
-        (disk_told D.reads_as D.may_leave D.moment D.left_since D.faults disk result.disk) (to_read (known held))) }
-    ensures fit { IfOk result.made GrantsFit }
-    ensures ended { IfErr result.made (IsNotOpened
-        (disk_told D.reads_as D.may_leave D.moment D.left_since D.faults disk result.disk) (to_read (known held))) }
-    ensures only_read { IsOnlyRead (disk_told D.reads_as D.may_leave D.moment D.left_since D.faults disk result.disk) }
-{
-    let Made { made, disk } = replay_journal(alloc, held, disk, List::new(alloc));
-    match made {
-        Ok(replayed) => Made {
-            made: Ok(Found {
-                core: replayed.core,
-                grants: replayed.kept,
-            }),
-            disk,
-        },
-        Err(end) => Made {
-            made: Err(end),
-            disk,
-        },
-    }
-}
-
-/// A core in the state after the grants of a journal, how many these are, and what is kept of them.
-#[derive(Drop)]
-pub(crate) struct Replayed<K> {
-    core: Core,
-    count: u64,
-    kept: K,
-}
-
-// The state after the grants of the cell that stand on a disk, which somebody takes, or the end in its place.
-fn replay_journal<D: Disk, K: Taker + Drop>(
-    alloc: Global,
-    held: CellFile,
-    disk: D,
-    kept: K,
-) -> Made<Replayed<K>, D>
-    requires fits { CellFits held.cell }
-    requires none { (first : ℕ) → K.took kept first [] kept }
-    ensures replayed { IfOk result.made (IsReplayed
-        (disk_told D.reads_as D.may_leave D.moment D.left_since D.faults disk result.disk) (to_read (known held)) K.took kept) }
-    ensures ended { IfErr result.made (IsNotOpened
-        (disk_told D.reads_as D.may_leave D.moment D.left_since D.faults disk result.disk) (to_read (known held))) }
-    ensures only_read { IsOnlyRead (disk_told D.reads_as D.may_leave D.moment D.left_since D.faults disk result.disk) }
-{
-    let CellFile { cell, text } = held;
-    match resume(alloc, cell, &text, disk, MAX_ROOM, kept) {
-        Resumed::Open { core, stored, kept } => Made {
-            made: Ok(Replayed {
-                core,
-                count: stored.count(),
-                kept,
-            }),
-            disk: stored.into_disk(),
-        },
-        Resumed::Refused { disk, why } => Made {
-            made: Err(at_journal_fault(why)),
-            disk,
-        },
-        Resumed::Device { disk } => Made {
-            made: Err(EarlyEnd::DeviceFailed),
-            disk,
-        },
-        Resumed::Memory { disk } => Made {
-            made: Err(EarlyEnd::WantOfMemory),
-            disk,
-        },
     }
 }

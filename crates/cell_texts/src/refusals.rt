@@ -1,11 +1,10 @@
 //! The end of a command at a fault, with its line.
-ghost use Rattle.std.specs.Prelude.{◌≡◌, ◌≤◌, length, Some};
+ghost use Rattle.std.specs.Prelude.{◌≡◌, ◌≤◌, length};
 ghost use Rattle.std.specs.Option.{option_map};
 ghost use Rattle.cell_walks.specs.Walks.{end_with};
-ghost use Rattle.cell_walks.specs.declared.early_end.Subject.TheVariants.{Cell, Input, Journal};
+ghost use Rattle.cell_walks.specs.declared.early_end.Subject.TheVariants.{Cell, Input};
 ghost use Rattle.cell_texts.specs.RecordReads.{record_line};
-ghost use Rattle.cell_texts.specs.Starting.{other_shift};
-ghost use Rattle.cell_texts.specs.Tests.{cell_fault_line, journal_line, shift_fault_line, step_fault_line};
+ghost use Rattle.cell_texts.specs.Tests.{cell_fault_line, shift_fault_line, step_fault_line};
 ghost use Rattle.cell_texts.specs.Texts.{refusal_text};
 
 use crate::findings::Finding;
@@ -14,11 +13,10 @@ use cell_file::CellFault;
 use cell_walks::{EarlyEnd, Refusal, Subject};
 use record_text::RecordFault;
 use shift_file::ShiftFault;
-use shift_recovery::JournalFault;
 use step_text::StepFault;
 
-// The end at a finding in a file of this kind; without one it is want of memory.
-fn at_finding(subject: Subject, file: &[u8], finding: Option<Finding>) -> EarlyEnd
+/// The end at a finding in a file of this kind, which is a word of 7 bytes at most; without one it is want of memory.
+pub fn at_finding(subject: Subject, file: &[u8], finding: Option<Finding>) -> EarlyEnd
     requires { length file.now ≤ 7 }
     ensures { result ≡ end_with subject (option_map (refusal_text file.now) finding) }
 {
@@ -67,22 +65,4 @@ pub fn at_step_fault(fault: StepFault) -> EarlyEnd
         subject: Subject::Input,
         line: step_line(),
     })
-}
-
-/// The end at a fault of a journal.
-pub fn at_journal_fault(why: JournalFault) -> EarlyEnd
-    ensures { result ≡ end_with Journal (Some (journal_line why)) }
-{
-    at_finding(Subject::Journal, b"journal", Some(Finding::of_journal(why)))
-}
-
-/// The end at a grant of another shift in a journal, of this session.
-pub fn at_other_shift(session: u16) -> EarlyEnd
-    ensures { result ≡ end_with Journal (Some (other_shift session)) }
-{
-    at_finding(
-        Subject::Journal,
-        b"journal",
-        Some(Finding::of_other_shift(session)),
-    )
 }

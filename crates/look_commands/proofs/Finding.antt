@@ -17,11 +17,12 @@ use Rattle.cell_walks.specs.Walks.{Opens}
 use Rattle.cell_walks.specs.declared.early_end.EarlyEnd.{EarlyEnd}
 use Rattle.cell_walks.proofs.Steps.{ended_at, ended_at_opening}
 use Rattle.cell_texts.specs.Blocks.{block_of as lines_of_block, planned_block}
-use Rattle.cell_texts.specs.JournalReads.{IsFound}
-use Rattle.cell_texts.specs.declared.readers.Found.{Found}
-use Rattle.cell_texts.specs.Tests.{KnownCell, cell_file, cell_reads, to_read}
+use Rattle.journal_texts.specs.JournalReads.{IsFound}
+use Rattle.journal_texts.specs.declared.readers.Found.{Found}
+use Rattle.cell_texts.specs.Tests.{KnownCell, cell_file, cell_reads}
+use Rattle.journal_texts.specs.Tests.{to_read}
 use Rattle.cell_texts.proofs.BlockTexts.{planned_text}
-use Rattle.cell_texts.proofs.Fitting.{replay_admitted}
+use Rattle.journal_texts.proofs.Replays.{replay_admitted}
 use Rattle.look_commands.specs.Grants.{IsListed, grants, grants_outcome, history_of, listed}
 use Rattle.look_commands.proofs.Right.{after_is, grants_right, none_halts}
 

@@ -19,7 +19,8 @@ use Rattle.cell_walks.specs.Outcomes.{done, early}
 use Rattle.cell_walks.specs.Walks.{Opens}
 use Rattle.cell_walks.specs.declared.early_end.EarlyEnd.{EarlyEnd}
 use Rattle.cell_walks.proofs.Steps.{ended_at, ended_at_opening}
-use Rattle.cell_texts.specs.Tests.{KnownCell, cell_file, cell_reads, to_read}
+use Rattle.cell_texts.specs.Tests.{KnownCell, cell_file, cell_reads}
+use Rattle.journal_texts.specs.Tests.{to_read}
 use Rattle.cell_texts.proofs.Delivered.{failed_first, failed_then, rest_at, took_both}
 use Rattle.look_commands.specs.Parts.{IsStandingAfter, located, part_line, parts, parts_lines}
 use Rattle.look_commands.specs.Parts.{parts_on, parts_outcome, resource_lines, resource_words}

@@ -24,7 +24,7 @@ use Rattle.record_text.specs.declared.blocks.Tail.{Tail}
 use Rattle.record_text.specs.declared.blocks.Tail.TheVariants.{Halted, Planned}
 use Rattle.record_text.proofs.Exact.{same_text}
 use Rattle.cell_texts.specs.RecordReads.{record_reads}
-use Rattle.cell_texts.proofs.Fitting.{replay_admitted}
+use Rattle.journal_texts.proofs.Replays.{replay_admitted}
 use Rattle.shift_checker.specs.Judging.{judge}
 use Rattle.shift_checker.specs.declared.verdict.Verdict.TheVariants.{Yes}
 use Rattle.look_commands.specs.Grants.{GrantInRange, block_of_grants, entry_of, history_of}

@@ -17,8 +17,9 @@ use Rattle.cell_walks.specs.Outcomes.{Outcome, done, early}
 use Rattle.cell_walks.specs.Walks.{Walk, Tests, Opens, Answers}
 use Rattle.cell_walks.specs.declared.early_end.EarlyEnd.{EarlyEnd}
 use Rattle.cell_texts.specs.Blocks.{Lines, block_of as lines_of_block, entry_line, planned_block}
-use Rattle.cell_texts.specs.Tests.{KnownCell, cell_file, to_read}
-use Rattle.cell_texts.specs.declared.readers.Found.{Found}
+use Rattle.cell_texts.specs.Tests.{KnownCell, cell_file}
+use Rattle.journal_texts.specs.Tests.{to_read}
+use Rattle.journal_texts.specs.declared.readers.Found.{Found}
 
 -- ---- grants as a record
 

@@ -18,7 +18,8 @@ use Rattle.cell_walks.specs.Outcomes.{Outcome, done, early}
 use Rattle.cell_walks.specs.Walks.{Journal, Walk, Tests, Opens, Answers}
 use Rattle.cell_walks.specs.declared.early_end.EarlyEnd.{EarlyEnd}
 use Rattle.cell_texts.specs.Blocks.{Lines}
-use Rattle.cell_texts.specs.Tests.{KnownCell, cell_file, to_read}
+use Rattle.cell_texts.specs.Tests.{KnownCell, cell_file}
+use Rattle.journal_texts.specs.Tests.{to_read}
 use Rattle.look_commands.specs.declared.parts.Standing.{Standing}
 
 -- ---- the lines of a state

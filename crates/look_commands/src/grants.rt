@@ -1,12 +1,13 @@
 //! `grants CELL JOURNAL`: the grants of the journal as one record, with the plan that empties the cell after them.
 ghost use Rattle.std.specs.Prelude.{IfOk};
 ghost use Rattle.cell_walks.specs.Clauses.{Ends, IsAllowed, IsDelivered, disk_told, files_told, observed, sink_told};
-ghost use Rattle.cell_texts.specs.Clauses.{GrantsFit};
+ghost use Rattle.journal_texts.specs.Clauses.{GrantsFit};
 ghost use Rattle.look_commands.specs.Grants.{grants, grants_outcome};
 
 use crate::listing::print_found;
-use cell_texts::{CommandEnd, Found, Made, find_grants, read_cell};
+use cell_texts::{CommandEnd, read_cell};
 use cell_walks::{EarlyEnd, Status, finish_early};
+use journal_texts::{Found, Made, find_grants};
 use outside_io::{Disk, Files, Sink};
 use std::alloc::Global;
 

@@ -2,12 +2,14 @@
 ghost use Rattle.std.specs.Prelude.{◌≡◌, map, OnOk, OnErr};
 ghost use Rattle.std.specs.List.{All};
 ghost use Rattle.cell_walks.specs.Clauses.{HasCause, TookAll, TookSome, sink_told};
-ghost use Rattle.cell_texts.specs.Clauses.{GrantsFit, RequestFits};
+ghost use Rattle.journal_texts.specs.Clauses.{GrantsFit};
+ghost use Rattle.cell_texts.specs.Clauses.{RequestFits};
 ghost use Rattle.cell_texts.specs.Blocks.{history_lines};
 ghost use Rattle.look_commands.specs.Grants.{found_lines, grant_line, history_of};
 
 use cell_base::{Cell, Entry, Grant, Reply, Told};
-use cell_texts::{Found, print_left, print_line};
+use cell_texts::{print_left, print_line};
+use journal_texts::Found;
 use outside_io::{Failed, Sink};
 use record_text::{Line, head_line, write_entry};
 

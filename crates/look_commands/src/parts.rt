@@ -3,14 +3,16 @@ ghost use Rattle.std.specs.Prelude.{◌≡◌, ◌≤◌, length, IfOk, IfErr};
 ghost use Rattle.cell_walks.specs.Clauses.{Ends, IsAllowed, IsDelivered, IsNotOpened, IsOnlyRead};
 ghost use Rattle.cell_walks.specs.Clauses.{disk_told, files_told, observed, sink_told};
 ghost use Rattle.cell_walks.specs.declared.early_end.EarlyEnd.TheVariants.{WantOfMemory};
-ghost use Rattle.cell_texts.specs.Clauses.{CellFits, MAX_CELL_BYTES, known, to_read};
+ghost use Rattle.cell_texts.specs.Clauses.{CellFits, MAX_CELL_BYTES, known};
+ghost use Rattle.journal_texts.specs.Clauses.{to_read};
 ghost use Rattle.look_commands.specs.Parts.{IsStandingAfter, parts, parts_outcome};
 
 use crate::locating::print_parts;
 use admission_core::Core;
 use cell_base::{List, Part};
-use cell_texts::{CellFile, CommandEnd, Made, read_cell, read_journal};
+use cell_texts::{CellFile, CommandEnd, read_cell};
 use cell_walks::{EarlyEnd, Status, finish_early};
+use journal_texts::{Made, read_journal};
 use outside_io::{Disk, Files, Sink};
 use std::alloc::Global;
 

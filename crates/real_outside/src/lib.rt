@@ -1,9 +1,9 @@
 //! The real outside: files of the system, a journal's file, standard input and output and the clock, as the traits of `outside_io`
-//! want them.
+//! want them; and the words of the command line.
 //!
-//! The program `wishkabe` hands these to its top call, and nothing else uses them. Proved of each is that its calls are safe and return,
-//! and that a call answers a failure only where its count of faults rose. None tells what it holds, since no proof knows what a
-//! file does: that bytes go where they are meant to is tested, here and by `checks/real-outside`.
+//! The programs `wishkabe` and `solo_program` hand these to their top calls, and nothing else uses them. Proved of each is that its calls
+//! are safe and return, and that a call answers a failure only where its count of faults rose. None tells what it holds, since no proof
+//! knows what a file does: that bytes go where they are meant to is tested, here and by `checks/real-outside`.
 //!
 //! ```text
 //! let mut files = DirFiles::new(&rt, false);
@@ -25,16 +25,18 @@ mod progress;
 mod regular_files;
 mod rest_pace;
 mod seen_sink;
+mod words;
 
 pub use dir_files::DirFiles;
 pub use failure::Failure;
 pub use file_disk::FileDisk;
 pub use in_source::InSource;
 pub use journal_file::Purpose;
-pub use out_sink::OutSink;
+pub use out_sink::{OUT_BUFFER, OutSink};
 pub use regular_files::RegularFiles;
 pub use rest_pace::RestPace;
 pub use seen_sink::{Seen, SeenSink};
+pub use words::words_after_name;
 
 #[cfg(test)]
 mod tests;

@@ -7,6 +7,9 @@ use crate::failure::Failure;
 use outside_io::{Failed, Sink};
 use std::io::{self, Write};
 
+/// The bytes that standard output gathers for one write.
+pub const OUT_BUFFER: usize = 65536;
+
 /// A writer that takes the program's lines. It tells nothing of what it took; `faults` counts the calls that failed, and
 /// stays at its last value.
 #[derive(Drop)]

@@ -17,7 +17,8 @@ use Rattle.cell_walks.specs.Walks.{Answers, Opens}
 use Rattle.cell_walks.specs.declared.early_end.EarlyEnd.{EarlyEnd}
 use Rattle.cell_walks.specs.declared.status.Status.{Status}
 use Rattle.cell_walks.proofs.Steps.{ended_at}
-use Rattle.cell_texts.specs.Tests.{KnownCell, cell_file, cell_reads, to_add}
+use Rattle.cell_texts.specs.Tests.{KnownCell, cell_file, cell_reads}
+use Rattle.journal_texts.specs.Tests.{to_add}
 use Rattle.serve_command.specs.Conversing.{IsServedAfter, IsServedOnJournal}
 use Rattle.serve_command.specs.Serve.{IsServed, serve}
 use Rattle.serve_command.specs.declared.command.TheConstants.{MAX_SERVED}

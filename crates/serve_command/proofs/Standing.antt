@@ -17,7 +17,7 @@ use Rattle.live_cell.specs.Openings.{IsOpened}
 use Rattle.move_journal.specs.Disks.{Shows}
 use Rattle.cell_walks.specs.Allowed.{StandsForAdded}
 use Rattle.cell_walks.specs.DiskTold.{disk_told}
-use Rattle.cell_texts.proofs.Disks.{now_told}
+use Rattle.journal_texts.proofs.Disks.{now_told}
 use Rattle.serve_command.specs.Conversing.{IsLeftWith}
 use Rattle.serve_command.specs.Rounds.{Moves}
 

@@ -15,7 +15,8 @@ use Rattle.cell_walks.specs.Allowed.{AtOpening, StandsForAdded}
 use Rattle.cell_walks.specs.DiskTold.{DiskTold}
 use Rattle.cell_walks.specs.Outcomes.{IsDelivered, Outcome, early}
 use Rattle.cell_walks.specs.declared.status.Status.{Status}
-use Rattle.cell_texts.specs.Tests.{KnownCell, to_add}
+use Rattle.cell_texts.specs.Tests.{KnownCell}
+use Rattle.journal_texts.specs.Tests.{to_add}
 use Rattle.serve_command.specs.Answers.{since}
 use Rattle.serve_command.specs.Asks.{ask_of}
 use Rattle.serve_command.specs.Rounds.{StandsAfter}

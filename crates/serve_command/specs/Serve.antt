@@ -15,7 +15,8 @@ use Rattle.cell_walks.specs.Walks.{Walk, Tests, Opens, Answers}
 use Rattle.cell_walks.specs.declared.early_end.EarlyEnd.TheVariants.{NotRead}
 use Rattle.cell_walks.specs.declared.status.Status.TheVariants.{Done, DeviceFault, JournalRefused, ReadFault, SinkFault}
 use Rattle.cell_texts.specs.Blocks.{Lines, left_lines}
-use Rattle.cell_texts.specs.Tests.{cell_file, journal_line, to_add}
+use Rattle.cell_texts.specs.Tests.{cell_file}
+use Rattle.journal_texts.specs.Tests.{journal_line, to_add}
 use Rattle.serve_command.specs.Answers.{added_by, answers, halted_line, since}
 use Rattle.serve_command.specs.Serving.{IsJournalFull}
 use Rattle.serve_command.specs.Asks.{asks_of}

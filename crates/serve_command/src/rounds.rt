@@ -10,9 +10,10 @@ use crate::asks::read_ask;
 use crate::command::MAX_SERVED;
 use crate::replies::GROUP_LINES;
 use crate::server::Server;
-use cell_texts::{at_journal_fault, print_line, print_lines};
+use cell_texts::{print_line, print_lines};
 use cell_walks::{Status, finish, finish_early};
 use input_lines::InputLines;
+use journal_texts::at_journal_fault;
 use outside_io::{Disk, Sink};
 use shift_recovery::JournalFault;
 

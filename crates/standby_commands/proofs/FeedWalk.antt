@@ -21,7 +21,8 @@ use Rattle.cell_walks.specs.declared.early_end.EarlyEnd.{EarlyEnd}
 use Rattle.cell_walks.specs.declared.early_end.EarlyEnd.TheVariants.{Refused}
 use Rattle.cell_walks.proofs.Steps.{ended_at}
 use Rattle.cell_texts.specs.Numbers.{number}
-use Rattle.cell_texts.specs.Tests.{KnownCell, cell_file, cell_reads, to_read}
+use Rattle.cell_texts.specs.Tests.{KnownCell, cell_file, cell_reads}
+use Rattle.journal_texts.specs.Tests.{to_read}
 use Rattle.standby_link.specs.Frames.{Feeding}
 use Rattle.standby_commands.specs.Feed.{EndsFeeding, HasFed, HasTooFew, IsFeeding, TooFew, Unopened}
 use Rattle.standby_commands.specs.Feed.{fed_from, feed, feed_of, feed_outcome, within}

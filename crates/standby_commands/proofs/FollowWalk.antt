@@ -18,7 +18,8 @@ use Rattle.cell_walks.specs.declared.early_end.EarlyEnd.{EarlyEnd}
 use Rattle.cell_walks.specs.declared.early_end.EarlyEnd.TheVariants.{WantOfMemory}
 use Rattle.cell_walks.specs.declared.status.Status.{Status}
 use Rattle.cell_walks.proofs.Steps.{ended_after, ended_at, shown_before}
-use Rattle.cell_texts.specs.Tests.{KnownCell, cell_file, cell_reads, to_add}
+use Rattle.cell_texts.specs.Tests.{KnownCell, cell_file, cell_reads}
+use Rattle.journal_texts.specs.Tests.{to_add}
 use Rattle.standby_commands.specs.Follow.{follow, stands_by}
 use Rattle.standby_commands.specs.Following.{HasFollowedOn, IsFollowAllowed, IsFollowedOnJournal, follow_outcome}
 use Rattle.standby_commands.specs.FrameFiles.{frames_file, frames_reads}

@@ -27,7 +27,7 @@ use Rattle.standby_commands.specs.Following.{IsOf, StopFits, StopsBy, ended_by, 
 use Rattle.standby_commands.specs.Lines.{FaultFits, ack_line, follow_refused}
 use Rattle.standby_commands.specs.declared.follow.Followed.{Followed as FollowedRun}
 use Rattle.standby_commands.specs.declared.following.Stop.{Stop}
-use Rattle.cell_texts.proofs.Added.{stands_for_added}
+use Rattle.journal_texts.proofs.Added.{stands_for_added}
 use Rattle.standby_commands.proofs.Fitting.{fault_fits}
 
 -- a refusal is told by its line

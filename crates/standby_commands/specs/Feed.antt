@@ -11,7 +11,8 @@ use Rattle.cell_walks.specs.declared.early_end.EarlyEnd.TheVariants.{Refused}
 use Rattle.cell_walks.specs.declared.early_end.Subject.TheVariants.{Command}
 use Rattle.cell_texts.specs.Numbers.{number}
 use Rattle.cell_texts.specs.OneWay.{once, reads_by}
-use Rattle.cell_texts.specs.Tests.{cell_file, to_read}
+use Rattle.cell_texts.specs.Tests.{cell_file}
+use Rattle.journal_texts.specs.Tests.{to_read}
 use Rattle.standby_link.specs.declared.frame.Frame.{Frame}
 use Rattle.standby_link.specs.Frames.{Feeding, frame_of, framed}
 use Rattle.standby_commands.specs.Lines.{feed_refused}

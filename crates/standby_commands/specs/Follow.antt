@@ -11,7 +11,8 @@ use Rattle.cell_walks.specs.Outcomes.{Outcome}
 use Rattle.cell_walks.specs.Walks.{Answers, Opens, Test, Tests, Walk}
 use Rattle.cell_walks.specs.declared.early_end.Subject.TheVariants.{Command}
 use Rattle.cell_walks.specs.declared.status.Status.TheVariants.{CommandRefused, DeviceFault, Done}
-use Rattle.cell_texts.specs.Tests.{KnownCell, cell_file, to_add}
+use Rattle.cell_texts.specs.Tests.{KnownCell, cell_file}
+use Rattle.journal_texts.specs.Tests.{to_add}
 use Rattle.standby_link.specs.declared.take_fault.TakeFault.{TakeFault}
 use Rattle.standby_link.specs.Deliveries.{AreFramesTaken, acks_of, delivered_all}
 use Rattle.standby_link.specs.Followers.{IsGrantedNext, IsFrameRefused}

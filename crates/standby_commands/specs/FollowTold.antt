@@ -16,7 +16,8 @@ use Rattle.cell_walks.specs.Outcomes.{Outcome}
 use Rattle.cell_walks.specs.Promises.{Accepts, DiskServes, Promises, ReadsAll, TakesAll}
 use Rattle.cell_walks.specs.declared.status.Status.{Status}
 use Rattle.cell_walks.specs.declared.status.Status.TheVariants.{Done, NoMemory}
-use Rattle.cell_texts.specs.Tests.{KnownCell, cell_reads, to_add}
+use Rattle.cell_texts.specs.Tests.{KnownCell, cell_reads}
+use Rattle.journal_texts.specs.Tests.{to_add}
 use Rattle.standby_link.specs.Deliveries.{delivered_all}
 use Rattle.standby_link.specs.Fed.{IsFrameOf}
 use Rattle.standby_commands.specs.Follow.{IsFollowed, IsHaltedAt, IsRefusedAt, follow}

@@ -14,8 +14,9 @@ use Rattle.cell_walks.specs.Walks.{Walk}
 use Rattle.cell_walks.specs.declared.early_end.EarlyEnd.{EarlyEnd}
 use Rattle.cell_walks.specs.declared.early_end.EarlyEnd.TheVariants.{WantOfMemory}
 use Rattle.cell_walks.specs.declared.status.Status.TheVariants.{CommandRefused, DeviceFault, Done}
-use Rattle.cell_texts.specs.Recorded.{IsFresh}
-use Rattle.cell_texts.specs.Tests.{KnownCell, to_add}
+use Rattle.journal_texts.specs.Recorded.{IsFresh}
+use Rattle.cell_texts.specs.Tests.{KnownCell}
+use Rattle.journal_texts.specs.Tests.{to_add}
 use Rattle.standby_link.specs.declared.take_fault.TakeFault.{TakeFault}
 use Rattle.standby_link.specs.declared.take_fault.TakeFault.TheVariants.{Device}
 use Rattle.standby_link.specs.Deliveries.{AreFramesTaken, acks_of, delivered_all}

@@ -1,13 +1,15 @@
 //! `feed CELL JOURNAL FROM`: the grants of the journal from an index on, as frames.
 ghost use Rattle.std.specs.Prelude.{◌≤◌, length, IfOk, IfErr};
 ghost use Rattle.cell_walks.specs.Clauses.{Ends, IsAllowed, IsDelivered, IsOnlyRead, disk_told, files_told, observed, sink_told};
-ghost use Rattle.cell_texts.specs.Clauses.{CellFits, GrantsFit, MAX_CELL_BYTES, known, to_read};
+ghost use Rattle.cell_texts.specs.Clauses.{CellFits, MAX_CELL_BYTES, known};
+ghost use Rattle.journal_texts.specs.Clauses.{GrantsFit, to_read};
 ghost use Rattle.standby_commands.specs.Feed.{EndsFeeding, HasFed, HasTooFew, IsFeeding, feed, feed_of, feed_outcome};
 
 use crate::printing::print_frames;
 use crate::refusals::feed_refused;
-use cell_texts::{CellFile, CommandEnd, Found, Made, find_grants, print_usage, read_cell};
+use cell_texts::{CellFile, CommandEnd, print_usage, read_cell};
 use cell_walks::{EarlyEnd, Status, finish_early};
+use journal_texts::{Found, Made, find_grants};
 use outside_io::{Disk, Files, Sink};
 use standby_link::Feeder;
 use std::alloc::Global;

@@ -9,17 +9,16 @@ use cell_program::{Journal, Served, cell_main, journal_in, serve_main, served_in
 use hinting::{Fails, failure_of, tell};
 use manner::Manner;
 use outside_io::{Disk, Pace};
-use real_outside::{DirFiles, FileDisk, InSource, OutSink, Purpose, RestPace, SeenSink};
+use real_outside::{
+    DirFiles, FileDisk, InSource, OUT_BUFFER, OutSink, Purpose, RestPace, SeenSink,
+    words_after_name,
+};
 use std::fs::File;
-use std::io::{BufWriter, IsTerminal, Write};
+use std::io::{self, BufWriter, IsTerminal, Write};
 use std::process::ExitCode;
-use std::rt::{Clock, Env, Files};
+use std::rt::{Clock, Files};
 use std::sync::Wait;
 use std::thread::Threads;
-use std::{env, io};
-
-/// The bytes that standard output gathers for one write.
-const OUT_BUFFER: usize = 65536;
 
 // A buffer makes one write of many lines. Where there is no memory for it, each line is a write.
 fn main(rt: HostRuntime) -> ExitCode {
@@ -99,19 +98,4 @@ fn disk_for<'a, R: Files<File = File> + Clock + Eprint + AllocGlobal>(
         None => ("", Purpose::ToRead),
     };
     FileDisk::new(rt, rt.alloc(), name, purpose, manner.shows_progress)
-}
-
-// The words after the program's name. Words that can't be had, as those that aren't UTF-8, are none: no command has
-// none, so the program answers with the usage line.
-fn words_after_name<R: Env + AllocGlobal>(rt: &R) -> Vec<String> {
-    let mut words = Vec::new(rt.alloc());
-    let Ok(given) = env::args(rt) else {
-        return words;
-    };
-    for word in given.skip(1) {
-        if words.push(word).is_err() {
-            return Vec::new(rt.alloc());
-        }
-    }
-    words
 }

@@ -4,8 +4,8 @@ use Rattle.cell_base.specs.Fits.{RequestFits}
 use Rattle.durable_cell.specs.DurableState.{DurableState}
 use Rattle.cell_walks.specs.Allowed.{StandsForAdded}
 use Rattle.cell_walks.specs.DiskTold.{disk_told}
-use Rattle.cell_texts.specs.Recorded.{recorded_outcome}
-use Rattle.cell_texts.proofs.AskedSteps.{asked_so, asked_under, same_opening}
+use Rattle.journal_texts.specs.Recorded.{recorded_outcome}
+use Rattle.journal_texts.proofs.AskedSteps.{asked_so, asked_under, same_opening}
 use Rattle.start_file.specs.StartFiles.{IsPlacing}
 use Rattle.carry_commands.proofs.Granting.{placing_fits}
 use Rattle.carry_commands.proofs.asking.ask_all.Goals as goal

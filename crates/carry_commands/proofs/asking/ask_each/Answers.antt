@@ -2,7 +2,7 @@
 use Rattle.std.proofs.Common.{◌+◌, List, ◌++◌, take, drop, inr, sym, ap, ◌∙◌, arith}
 use Rattle.std.proofs.lemmas.List.{drop_more, take-append-drop, take_more}
 use Rattle.cell_base.specs.declared.requests.Request.{Request}
-use Rattle.cell_texts.specs.AskedSteps.{after_steps}
+use Rattle.journal_texts.specs.AskedSteps.{after_steps}
 use Rattle.carry_commands.proofs.Askings.{goes_on, halts}
 use Rattle.carry_commands.proofs.asking.ask_each.Goals as goal
 

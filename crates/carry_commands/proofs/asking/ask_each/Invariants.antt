@@ -1,6 +1,6 @@
 -- Each request so far was granted.
 use Rattle.std.proofs.Common.{◌≡◌, take}
-use Rattle.cell_texts.specs.AskedSteps.{after_steps}
+use Rattle.journal_texts.specs.AskedSteps.{after_steps}
 use Rattle.carry_commands.proofs.asking.ask_each.Given as goal
 
 abbrev pub invariant-loop-request : goal.invariant-loop-request

@@ -1,6 +1,7 @@
 -- The journal is not read, or its parts are not carried.
 use Rattle.cell_walks.specs.DiskTold.{disk_told}
-use Rattle.cell_texts.specs.Tests.{known, to_read}
+use Rattle.cell_texts.specs.Tests.{known}
+use Rattle.journal_texts.specs.Tests.{to_read}
 use Rattle.carry_commands.specs.Carrying.{Unopened}
 use Rattle.carry_commands.proofs.CarryWalk.{ends_after}
 use Rattle.carry_commands.proofs.carry.carried_of_journal.Goals as goal

@@ -3,8 +3,8 @@ use Rattle.cell_base.specs.Plans.{plan_of}
 use Rattle.durable_cell.specs.DurableState.{DurableState, first_parts}
 use Rattle.cell_walks.specs.Allowed.{StandsForAdded}
 use Rattle.cell_walks.specs.DiskTold.{disk_told}
-use Rattle.cell_texts.specs.Recorded.{recorded_outcome}
-use Rattle.cell_texts.proofs.AskedSteps.{asked_so, asked_under, same_opening}
+use Rattle.journal_texts.specs.Recorded.{recorded_outcome}
+use Rattle.journal_texts.proofs.AskedSteps.{asked_so, asked_under, same_opening}
 use Rattle.cell_commands.proofs.PlanSteps.{plan_fits}
 use Rattle.cell_commands.proofs.drain.drain_all.Goals as goal
 

@@ -2,7 +2,7 @@
 use Rattle.std.proofs.Common.{refl}
 use Rattle.cell_walks.specs.Allowed.{NotOpened}
 use Rattle.cell_texts.specs.Tests.{known}
-use Rattle.cell_texts.specs.Recorded.{recorded_outcome}
+use Rattle.journal_texts.specs.Recorded.{recorded_outcome}
 use Rattle.cell_commands.specs.declared.drain.TheConstants.{MAX_PLAN}
 use Rattle.cell_commands.proofs.Draining.{drain_opened}
 use Rattle.cell_commands.proofs.drain.drain_journal.Goals as goal

@@ -6,7 +6,8 @@ use Rattle.cell_walks.specs.Walks.{Answers, Opens}
 use Rattle.cell_walks.proofs.Steps.{ended_at}
 use Rattle.durable_cell.specs.declared.replays.TheConstants.{MAX_ROOM}
 use Rattle.cell_commands.specs.Drain.{IsDrained}
-use Rattle.cell_texts.specs.Tests.{KnownCell, cell_file, known, to_add}
+use Rattle.cell_texts.specs.Tests.{KnownCell, cell_file, known}
+use Rattle.journal_texts.specs.Tests.{to_add}
 use Rattle.cell_texts.proofs.Disks.{untouched}
 use Rattle.cell_commands.proofs.drain.drain_of_files.Goals as goal
 

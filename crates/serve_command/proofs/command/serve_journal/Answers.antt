@@ -14,7 +14,7 @@ use Rattle.shift_recovery.specs.Reads.{OnlyReads}
 use Rattle.cell_walks.specs.Allowed.{NotOpened, OpeningFailed, OpeningRefused, OpeningStarved}
 use Rattle.cell_walks.specs.DiskTold.{disk_told}
 use Rattle.cell_texts.specs.Tests.{known}
-use Rattle.cell_texts.proofs.Disks.{adds_nothing, only_read}
+use Rattle.journal_texts.proofs.Disks.{adds_nothing, only_read}
 use Rattle.serve_command.specs.Conversing.{IsServedOnJournal}
 use Rattle.serve_command.specs.Serving.{HasCounts}
 use Rattle.serve_command.specs.declared.command.TheConstants.{MAX_SERVED}

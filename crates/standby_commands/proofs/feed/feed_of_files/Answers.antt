@@ -1,7 +1,8 @@
 -- The cell is read, and then the journal.
 use Rattle.cell_walks.specs.DiskTold.{disk_told}
 use Rattle.cell_walks.specs.Observed.{files_told, observed}
-use Rattle.cell_texts.specs.Tests.{known, to_read}
+use Rattle.cell_texts.specs.Tests.{known}
+use Rattle.journal_texts.specs.Tests.{to_read}
 use Rattle.cell_texts.proofs.Disks.{untouched}
 use Rattle.standby_commands.proofs.FeedWalk.{are_within, feed_made, feed_unread}
 use Rattle.standby_commands.proofs.feed.feed_of_files.Goals as goal

@@ -1,6 +1,7 @@
 -- The journal is not read, or its grants are fed, or they are too few.
 use Rattle.cell_walks.specs.DiskTold.{disk_told}
-use Rattle.cell_texts.specs.Tests.{known, to_read}
+use Rattle.cell_texts.specs.Tests.{known}
+use Rattle.journal_texts.specs.Tests.{to_read}
 use Rattle.standby_commands.specs.Feed.{Unopened}
 use Rattle.standby_commands.proofs.FeedWalk.{ends_feeding, feeding}
 use Rattle.standby_commands.proofs.feed.feed_of_journal.Goals as goal

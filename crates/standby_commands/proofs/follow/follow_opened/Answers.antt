@@ -1,6 +1,6 @@
 -- The follower takes the frames, or there is no memory for its grants.
 use Rattle.std.proofs.Common.{◌≤◌, length, sym, ap, subst, arith}
-use Rattle.cell_texts.specs.Recorded.{IsFresh}
+use Rattle.journal_texts.specs.Recorded.{IsFresh}
 use Rattle.standby_link.specs.Followers.{FollowerState}
 use Rattle.standby_commands.specs.FrameFiles.{frames_in}
 use Rattle.standby_commands.proofs.FollowedFrames.{followed_on, stop_fits_on}

@@ -1,0 +1,38 @@
+-- A journal that was read: its grants, and the state after them.
+use Rattle.std.specs.Prelude.{◌≡◌, ℕ, List, length}
+use Rattle.std.specs.List.{All}
+use Rattle.cell_base.specs.declared.shifts.Grant.{Grant}
+use Rattle.cell_base.specs.Fits.{RequestFits}
+use Rattle.cell_base.specs.Histories.{replay}
+use Rattle.cell_walks.specs.Allowed.{IsOpenedAs}
+use Rattle.cell_walks.specs.DiskTold.{DiskTold}
+use Rattle.cell_walks.specs.Walks.{Journal}
+use Rattle.journal_texts.specs.declared.readers.AfterGrants.{AfterGrants}
+use Rattle.journal_texts.specs.declared.readers.Found.{Found}
+use Rattle.journal_texts.specs.declared.readers.Replayed.{Replayed}
+
+-- the state after the grants of a journal that was opened, and how many they are
+pub record IsAfterGrants (disk : DiskTold) (journal : Journal) (after : AfterGrants) : Type 0 where
+  pub grants : List Grant
+  pub opened : IsOpenedAs disk journal grants
+  pub core : after.core ≡ record { cell = journal.cell; parts = replay journal.cell grants }
+  pub count : after.grants ≡ length grants
+
+-- the grants of a journal that was opened, and the state after them
+pub record IsFound (disk : DiskTold) (journal : Journal) (found : Found) : Type 0 where
+  pub opened : IsOpenedAs disk journal found.grants
+  pub core : found.core ≡ record { cell = journal.cell; parts = replay journal.cell found.grants }
+
+-- each of the grants fits the cell
+abbrev pub GrantsFit : Found → Type 0
+GrantsFit found = All (λ (grant : Grant). RequestFits found.core.cell grant.request) found.grants
+
+-- the grants of a journal that was opened, which somebody took, and the state after them
+pub record IsReplayed {K : Type 0} (disk : DiskTold) (journal : Journal) (took : K → ℕ → List Grant → K → Type 0) (old : K)
+    (replayed : Replayed K) : Type 0 where
+  pub first : ℕ
+  pub grants : List Grant
+  pub taken : took old first grants replayed.kept
+  pub opened : IsOpenedAs disk journal grants
+  pub core : replayed.core ≡ record { cell = journal.cell; parts = replay journal.cell grants }
+  pub count : replayed.count ≡ length grants

@@ -1,0 +1,60 @@
+//! A journal that is opened to be added to.
+ghost use Rattle.std.specs.Prelude.{◌≡◌, ◌≤◌, length, Ok, IfOk, IfErr, IfSome};
+ghost use Rattle.durable_cell.specs.Openings.{fresh};
+ghost use Rattle.shift_recovery.specs.Replayed.{opened_as};
+ghost use Rattle.durable_cell.specs.declared.replays.TheConstants.{MAX_ROOM};
+ghost use Rattle.cell_walks.specs.Clauses.{IsNotOpened, disk_told};
+ghost use Rattle.cell_texts.specs.Clauses.{CellFits, MAX_CELL_BYTES, known};
+ghost use Rattle.journal_texts.specs.Clauses.{to_add};
+
+use crate::refusals::at_journal_fault;
+use cell_texts::CellFile;
+use cell_walks::EarlyEnd;
+use durable_cell::{Durable, Opening};
+use outside_io::Disk;
+use std::alloc::Global;
+
+/// Why a journal was not opened, and the disk that was handed in.
+#[derive(Drop)]
+pub struct Unopened<D> {
+    pub end: EarlyEnd,
+    pub disk: D,
+}
+
+/// The durable cell after the grants of a journal that has at most `room` of them, or the end in its place. At most `limit` requests
+/// may be decided.
+pub fn open_journal<D: Disk>(
+    alloc: Global,
+    held: CellFile,
+    disk: D,
+    room: u64,
+    limit: u64,
+) -> Result<Durable<D>, Unopened<D>>
+    requires fits { CellFits held.cell }
+    requires short { length held.text.items ≤ MAX_CELL_BYTES }
+    requires room { room ≤ MAX_ROOM }
+    requires limit { limit ≤ MAX_ROOM }
+    ensures new { IfOk result (λ durable. durable ≡ fresh held.cell held.text.items disk durable.found durable.disk durable.opening limit) }
+    ensures opening { IfOk result (λ durable.
+        IfSome (D.reads_as disk) (λ file. opened_as held.cell file held.text.items room ≡ Ok durable.opening)) }
+    ensures ended { IfErr result (λ unopened.
+        IsNotOpened (disk_told D.reads_as D.may_leave D.moment D.left_since D.faults disk unopened.disk) (to_add (known held) room)
+        unopened.end) }
+{
+    let CellFile { cell, text } = held;
+    match Durable::open(alloc, cell, &text, disk, room, limit) {
+        Opening::Open(durable) => Ok(durable),
+        Opening::Refused { disk, why } => Err(Unopened {
+            end: at_journal_fault(why),
+            disk,
+        }),
+        Opening::Device { disk } => Err(Unopened {
+            end: EarlyEnd::DeviceFailed,
+            disk,
+        }),
+        Opening::Memory { disk } => Err(Unopened {
+            end: EarlyEnd::WantOfMemory,
+            disk,
+        }),
+    }
+}

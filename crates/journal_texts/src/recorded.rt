@@ -1,0 +1,157 @@
+//! What was asked of a durable cell since it was opened, and its record: a drain and a run end alike.
+ghost use Rattle.std.specs.Prelude.{◌≡◌, [], Err, IfOk};
+ghost use Rattle.cell_base.specs.Scripts.{holds_halt};
+ghost use Rattle.shift_recovery.specs.Replayed.{AreDue};
+ghost use Rattle.cell_walks.specs.Allowed.{StandsForAdded};
+ghost use Rattle.cell_walks.specs.Clauses.{IsDelivered, disk_told, sink_told};
+ghost use Rattle.journal_texts.specs.Clauses.{EntriesFit, IsAskedUnder, IsFresh, IsHaltedIn, IsRecordedOrHalted};
+ghost use Rattle.journal_texts.specs.Clauses.{IsUnhaltedIn, recorded_or_early, recorded_outcome};
+ghost use Rattle.journal_texts.specs.declared.recorded.Recorded.TheVariants.{Whole, Halted};
+
+use crate::made::Made;
+use admission_core::Core;
+use cell_base::{Entry, List, Told};
+use cell_texts::{print_block, print_history};
+use cell_walks::{EarlyEnd, Status, finish_early};
+use durable_cell::{Durable, Finished};
+use outside_io::{Disk, Sink};
+
+/// What was asked: the core after it, the number that it was asked under, how many grants there were before it, and what was decided.
+#[derive(Drop)]
+pub struct Asked {
+    pub core: Core,
+    pub number: u32,
+    pub after: u64,
+    pub history: List<Entry>,
+}
+
+/// The record of what was asked.
+#[derive(Drop)]
+pub enum Recorded {
+    /// No writing failed: after the history stands the plan that drains the state after it.
+    Whole(Asked),
+    /// The writing of the last grant failed: the record ends there.
+    Halted(Asked),
+}
+
+/// A record, and the disk that was handed in.
+#[derive(Drop)]
+pub struct Closed<D> {
+    pub recorded: Recorded,
+    pub disk: D,
+}
+
+/// Takes a durable cell apart in which everything was asked under one number.
+pub fn record_of<D: Disk>(durable: Durable<D>, number: u32) -> Closed<D>
+    requires { IsAskedUnder number durable }
+    ensures recorded { IsRecordedOrHalted durable.cell number durable.opening (IsUnhaltedIn durable) (IsHaltedIn durable)
+        (recorded_outcome result.recorded) }
+    ensures stands { let outcome = recorded_outcome result.recorded in
+        StandsForAdded (disk_told D.reads_as D.may_leave D.moment D.left_since D.faults durable.entry result.disk)
+        durable.text durable.opening outcome.added outcome.unsure }
+    ensures fits { EntriesFit result.recorded }
+    ensures due { AreDue durable.cell durable.opening }
+{
+    let Finished {
+        disk,
+        core,
+        history,
+        after,
+    } = durable.finish();
+    let halted = has_halted(history.as_slice());
+    let asked = Asked {
+        core,
+        number,
+        after,
+        history,
+    };
+    if halted {
+        return Closed {
+            recorded: Recorded::Halted(asked),
+            disk,
+        };
+    }
+    Closed {
+        recorded: Recorded::Whole(asked),
+        disk,
+    }
+}
+
+/// Gives the disk of a durable cell back of which nothing was asked, with the end of the command in the place of a record.
+pub fn give_back<D: Disk>(durable: Durable<D>, end: EarlyEnd) -> Made<Recorded, D>
+    requires fresh { IsFresh durable }
+    ensures made { result.made ≡ Err end }
+    ensures stands { StandsForAdded (disk_told D.reads_as D.may_leave D.moment D.left_since D.faults durable.entry result.disk)
+        durable.text durable.opening [] [] }
+{
+    let Finished {
+        disk,
+        core: _,
+        history: _,
+        after: _,
+    } = durable.finish();
+    Made {
+        made: Err(end),
+        disk,
+    }
+}
+
+// Whether an entry halted.
+fn has_halted(history: &[Entry]) -> bool
+    ensures { result ≡ holds_halt history.now }
+{
+    history
+        .iter()
+        .any(|entry| matches!(entry.told, Told::Halted))
+}
+
+/// Prints a record, or the early end, and answers the status.
+pub fn print_recorded<K: Sink>(out: &mut K, made: Result<Recorded, EarlyEnd>) -> Status
+    requires { IfOk made EntriesFit }
+    ensures { IsDelivered (sink_told K.taken K.was_put K.faults out.old out.new) (recorded_or_early made) result }
+{
+    match made {
+        Ok(recorded) => print_record(out, recorded),
+        Err(end) => finish_early(out, end),
+    }
+}
+
+// Prints a record.
+fn print_record<K: Sink>(out: &mut K, recorded: Recorded) -> Status
+    requires { EntriesFit recorded }
+    ensures { IsDelivered (sink_told K.taken K.was_put K.faults out.old out.new) (recorded_outcome recorded) result }
+{
+    match recorded {
+        Recorded::Whole(asked) => print_whole(out, asked),
+        Recorded::Halted(asked) => print_halted(out, &asked),
+    }
+}
+
+// Prints the history and the plan after it.
+fn print_whole<K: Sink>(out: &mut K, asked: Asked) -> Status
+    requires { EntriesFit (Whole asked) }
+    ensures { IsDelivered (sink_told K.taken K.was_put K.faults out.old out.new) (recorded_outcome (Whole asked)) result }
+{
+    let Asked {
+        core,
+        number,
+        after,
+        history,
+    } = asked;
+    match print_block(out, core, number, after, history.as_slice()) {
+        Ok(()) => Status::Done,
+        Err(_) => Status::SinkFault,
+    }
+}
+
+// Prints the history that ends in a halt.
+fn print_halted<K: Sink>(out: &mut K, asked: &Asked) -> Status
+    requires { EntriesFit (Halted asked.now) }
+    ensures { IsDelivered (sink_told K.taken K.was_put K.faults out.old out.new) (recorded_outcome (Halted asked.now)) result }
+{
+    let history = asked.history.as_slice();
+    match print_history(out, asked.core.cell(), asked.number, asked.after, history) {
+        Ok(()) => Status::DeviceFault,
+        Err(_) => Status::SinkFault,
+    }
+}

@@ -1,0 +1,41 @@
+//! The end of a command at its journal: a fault of the bytes, or a grant of another shift, each with its number.
+ghost use Rattle.std.specs.Prelude.{◌≡◌, Some};
+ghost use Rattle.cell_walks.specs.Walks.{end_with};
+ghost use Rattle.cell_walks.specs.declared.early_end.Subject.TheVariants.{Journal};
+ghost use Rattle.journal_texts.specs.FaultNumbers.{journal_finding};
+ghost use Rattle.journal_texts.specs.Starting.{other_shift};
+ghost use Rattle.journal_texts.specs.Tests.{journal_line};
+
+use cell_texts::{Finding, at_finding};
+use cell_walks::{EarlyEnd, Subject};
+use shift_recovery::JournalFault;
+
+// The fault of a journal, as its line shows it.
+fn finding_of(fault: JournalFault) -> Finding
+    ensures { result ≡ journal_finding fault }
+{
+    match fault {
+        JournalFault::NotAJournal => Finding::plain(1),
+        JournalFault::OtherCell { at } => Finding::counted(2, at),
+        JournalFault::Damaged { at } => Finding::counted(3, at),
+        JournalFault::Long { len } => Finding::counted(4, len),
+    }
+}
+
+/// The end at a fault of a journal.
+pub fn at_journal_fault(why: JournalFault) -> EarlyEnd
+    ensures { result ≡ end_with Journal (Some (journal_line why)) }
+{
+    at_finding(Subject::Journal, b"journal", Some(finding_of(why)))
+}
+
+/// The end at a grant of another shift in a journal, of this session.
+pub fn at_other_shift(session: u16) -> EarlyEnd
+    ensures { result ≡ end_with Journal (Some (other_shift session)) }
+{
+    at_finding(
+        Subject::Journal,
+        b"journal",
+        Some(Finding::counted(5, u64::from(session))),
+    )
+}

@@ -1,0 +1,4 @@
+pub mod Clauses
+pub mod JournalRuns
+pub mod Run
+pub mod RunTold

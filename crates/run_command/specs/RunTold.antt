@@ -1,0 +1,63 @@
+-- What a run tells, each fact by itself: every session went through its script, or the writing of a grant halted.
+use Rattle.std.specs.Prelude.{◌≡◌, ◌⊎◌, ℕ, List, [], ◌∷◌, ◌++◌, length}
+use Rattle.std.specs.List.{All, concat}
+use Rattle.outside_io.specs.Causes.{Rose}
+use Rattle.cell_base.specs.declared.cells.Cell.{Cell}
+use Rattle.cell_base.specs.declared.requests.Told.TheVariants.{Halted}
+use Rattle.cell_base.specs.declared.shifts.Entry.{Entry}
+use Rattle.cell_base.specs.declared.shifts.Grant.{Grant}
+use Rattle.cell_base.specs.declared.shifts.Shift.{Shift}
+use Rattle.cell_base.specs.Histories.{IsLegal, after, grants, replay}
+use Rattle.cell_base.specs.Plans.{Drains, plan_of}
+use Rattle.cell_base.specs.Policy.{IsAdmitted}
+use Rattle.cell_base.specs.Rounds.{IsSession}
+use Rattle.cell_base.specs.Scripts.{IsTrace, IsWholeTrace}
+use Rattle.durable_cell.specs.Asked.{grant_of}
+use Rattle.move_journal.specs.Journals.{StandsForPrefix, StandsFor}
+use Rattle.record_text.specs.Records.{text_of_record}
+use Rattle.cell_walks.specs.DiskTold.{DiskTold, IsAlways, IsNow}
+use Rattle.cell_walks.specs.Outcomes.{Outcome}
+use Rattle.cell_walks.specs.declared.status.Status.TheVariants.{Done, DeviceFault}
+use Rattle.run_command.specs.Run.{EachSession}
+
+-- The one history that was under the lock, in whatever order the sessions asked: it is legal after the grants, as if a single thread
+-- had asked; no neighborhood of the state after it holds more parts than its resource has units; and each entry is a session's.
+pub record IsOneHistory (cell : Cell) (shift : Shift) (opening : List Grant) (history : List Entry) : Type 0 where
+  pub legal : IsLegal cell (replay cell opening) history
+  pub admitted : IsAdmitted cell (after cell (replay cell opening) history)
+  pub sessions : All (λ entry. IsSession shift entry.session) history
+
+-- Each session went through its script: the record of the history is printed, with the plan that drains the state after it, and the
+-- disk stands for the grants and those of the history. A crash at any moment left the grants and a prefix of these.
+pub record IsWholeRun (disk : DiskTold) (cell : Cell) (text : List ℕ) (shift : Shift) (opening : List Grant)
+    (outcome : Outcome) : Type 0 where
+  pub history : List Entry
+  pub one : IsOneHistory cell shift opening history
+  pub whole : EachSession IsWholeTrace shift opening history
+  pub drains : let left = after cell (replay cell opening) history in Drains cell left (plan_of cell left)
+  pub status : outcome.status ≡ Done
+  pub written : let state = replay cell opening in concat outcome.pieces
+      ≡ text_of_record cell state shift.number (length opening) history (plan_of cell (after cell state history))
+  pub added : outcome.added ≡ grants shift.number history
+  pub stands : IsNow disk (λ file. StandsFor file text (opening ++ grants shift.number history))
+  pub any_moment : IsAlways disk (λ file. disk.leaves file ⊎ StandsForPrefix text opening (grants shift.number history) file)
+
+-- The writing of a grant halted, and no session was granted anything after it: the block that ends there is printed, and the disk
+-- stands for the grants and those of the history, without the halted request or with it.
+pub record IsHaltedRun (disk : DiskTold) (cell : Cell) (text : List ℕ) (shift : Shift) (opening : List Grant)
+    (outcome : Outcome) : Type 0 where
+  pub history : List Entry
+  pub first : List Entry
+  pub last : Entry
+  pub parted : history ≡ first ++ last ∷ []
+  pub halted : last.told ≡ Halted
+  pub one : IsOneHistory cell shift opening history
+  pub traces : EachSession IsTrace shift opening history
+  pub status : outcome.status ≡ DeviceFault
+  pub written : concat outcome.pieces ≡ text_of_record cell (replay cell opening) shift.number (length opening) history []
+  pub added : outcome.added ≡ grants shift.number history
+  pub stands : let granted = grants shift.number history in IsNow disk (λ file.
+      StandsFor file text (opening ++ granted) ⊎ StandsFor file text (opening ++ granted ++ grant_of shift.number last ∷ []))
+  pub any_moment : IsAlways disk (λ file. disk.leaves file
+      ⊎ StandsForPrefix text opening (grants shift.number history ++ grant_of shift.number last ∷ []) file)
+  pub cause : Rose disk.faults disk.faults_after

@@ -1,0 +1,4 @@
+-- Lemmas, grouped by subject.
+mod Printing
+mod Rounds
+mod Soloing

@@ -1,0 +1,3 @@
+-- Lemmas, grouped by subject.
+pub mod Promised
+pub mod Written
