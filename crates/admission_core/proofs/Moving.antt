@@ -1,6 +1,6 @@
 -- What is known of the part of a job, and of the replies to what it asks for.
 use Rattle.std.proofs.Common.{◌≡◌, ℕ, ◌<◌, Bool, true, false, not, ◌&&◌, List, length, Contains}
-use Rattle.std.proofs.Common.{Option, Some, None, find, ap, refl, sym, ◌∙◌, arith}
+use Rattle.std.proofs.Common.{Option, Some, None, find, ap, refl, subst, sym, ◌∙◌, arith}
 use Rattle.std.specs.List.{list_any, range_with_len}
 use Rattle.std.specs.Option.{option_map, option_map_or, is_some}
 use Rattle.std.proofs.lemmas.Bool.{true≢false}
@@ -17,8 +17,12 @@ use Rattle.cell_base.specs.Stages.{IsStage, stage_of, capacity_of}
 use Rattle.cell_base.specs.Neighborhoods.{count}
 use Rattle.cell_base.specs.Policy.{is_of_job, is_loaded, first_over, IsAdmitted}
 use Rattle.cell_base.specs.Outcomes.{part_of, refuse, admit}
+use Rattle.cell_base.specs.Plans.{next_part, step_of}
+use Rattle.cell_base.specs.Fits.{CellFits}
+use Rattle.policy_laws.specs.Laws.{Advances}
+use Rattle.policy_laws.proofs.Plans.{plan_law}
 use Rattle.policy_laws.proofs.Lists.{find-Contains, find_passes, list_any-Contains, list_any-found, find_some, All-found}
-use Rattle.policy_laws.proofs.Parts.{part_of-found}
+use Rattle.policy_laws.proofs.Parts.{part_of-found, is_of_job-same}
 use Rattle.neighborhood_counts.specs.Counts.{Counted, first_full, is_full}
 use Rattle.admission_core.specs.Replies.{reply_at}
 
@@ -39,6 +43,29 @@ part_known cell parts wanted part admitted e =
       stage = All-found (λ part. IsStage cell (stage_of part)) (is_of_job wanted) parts part admitted.state.standing e;
       loaded = list_any-Contains (is_of_job wanted) parts part found.0 (find_passes (is_of_job wanted) parts part e);
     }
+
+-- the part that is found of a job is that of its own job
+pub found_of_job : (parts : List Part) (job : JobId) (part : Part) → part_of parts job ≡ Some part → part_of parts part.job ≡ Some part
+found_of_job parts job part e =
+    subst (λ (j : JobId). part_of parts j ≡ Some part) (sym (part_of-found parts job part e).1) e
+
+-- the part that the plan brings on stands in the state, and at a stage
+pub next_known : (cell : Cell) (parts : List Part) (part : Part) → IsAdmitted cell parts → next_part cell parts ≡ Some part
+    → IsPartOf cell parts part.job part
+next_known cell parts part admitted e =
+    let stands = find-Contains _ parts part e in
+    record {
+      stands = stands;
+      of = refl;
+      stage = All-found (λ part. IsStage cell (stage_of part)) _ parts part admitted.state.standing e;
+      loaded = list_any-Contains (is_of_job part.job) parts part stands (is_of_job-same part.job part refl);
+    }
+
+-- and its step is granted
+pub next_advances : (cell : Cell) (parts : List Part) (part : Part) → CellFits cell → IsAdmitted cell parts
+    → next_part cell parts ≡ Some part → Advances cell parts (step_of cell part)
+next_advances cell parts part fits admitted e =
+    (plan_law cell fits parts admitted).step (step_of cell part) (ap (option_map (step_of cell)) e)
 
 -- a job that no part is found of is not loaded
 pub not_found : (parts : List Part) (job : JobId) → part_of parts job ≡ None → is_loaded parts job ≡ false

@@ -10,6 +10,7 @@ use crate::lead_table::LeadTable;
 use crate::occupied::Occupied;
 use crate::tally::Tally;
 use cell_base::{JobId, Part, Request, ResId};
+use part_table::Found;
 
 /// The change of a granted request.
 pub fn apply(table: &LeadTable, tally: &mut Tally, occupied: &mut Occupied, request: &Request)
@@ -73,7 +74,7 @@ fn enter(table: &LeadTable, tally: &mut Tally, part: Part)
 }
 
 /// The work on the first part that waits on the machine.
-fn finish_first_on(table: &LeadTable, tally: &mut Tally, machine: ResId)
+pub fn finish_first_on(table: &LeadTable, tally: &mut Tally, machine: ResId)
     requires sound { IsSound table.now tally.old }
     requires machine { RequestFits table.now (Process machine) }
     ensures parts { tally.new.parts.parts ≡ finish_first (is_waiting_on table.now machine.0) tally.old.parts.parts }
@@ -95,28 +96,47 @@ fn go_on(table: &LeadTable, tally: &mut Tally, occupied: &mut Occupied, job: Job
     ensures tallied { IsTallied table.now tally.new }
     ensures marked { IsMarked table.now tally.new.parts.parts occupied.new }
 {
-    if let Some(part) = tally.parts.get(job) {
-        if let Some(place) = table.next_place(part, branch) {
-            let next = table.arrival(part.job, part.kind, place);
-            pass_on(table, tally, occupied, part, next);
-        }
+    if let Some(found) = tally.parts.find(job) {
+        send_on(table, tally, occupied, found, branch);
+    }
+}
+
+/// The part that was found, which is granted to go on.
+pub fn send_on(
+    table: &LeadTable,
+    tally: &mut Tally,
+    occupied: &mut Occupied,
+    found: Found,
+    branch: u16,
+)
+    requires sound { IsSound table.now tally.old }
+    requires marked { IsMarked table.now tally.old.parts.parts occupied.old }
+    requires found { part_of tally.old.parts.parts found.part.job ≡ Some found.part }
+    requires granted { (outcome_of_move table.now tally.old.parts.parts (Some found.part) branch).0 ≡ Granted }
+    ensures parts { tally.new.parts.parts ≡ (outcome_of_move table.now tally.old.parts.parts (Some found.part) branch).1 }
+    ensures tallied { IsTallied table.now tally.new }
+    ensures marked { IsMarked table.now tally.new.parts.parts occupied.new }
+{
+    if let Some(place) = table.next_place(found.part, branch) {
+        let next = table.arrival(found.part.job, found.part.kind, place);
+        pass_on(table, tally, occupied, found, next);
     }
 }
 
 /// A part goes on from its resource to the next one.
-fn pass_on(table: &LeadTable, tally: &mut Tally, occupied: &mut Occupied, part: Part, next: Part)
+fn pass_on(table: &LeadTable, tally: &mut Tally, occupied: &mut Occupied, found: Found, next: Part)
     requires sound { IsSound table.now tally.old }
     requires marked { IsMarked table.now tally.old.parts.parts occupied.old }
-    requires found { part_of tally.old.parts.parts part.job ≡ Some part }
-    requires same { next ≡ record part { place = next.place; done = next.done } }
+    requires found { part_of tally.old.parts.parts found.part.job ≡ Some found.part }
+    requires same { next ≡ record found.part { place = next.place; done = next.done } }
     requires stage { IsStage table.now (stage_of next) }
-    requires room { first_over table.now (without tally.old.parts.parts part.job ++ next ∷ []) ≡ None }
-    ensures parts { tally.new.parts.parts ≡ without tally.old.parts.parts part.job ++ next ∷ [] }
+    requires room { first_over table.now (without tally.old.parts.parts found.part.job ++ next ∷ []) ≡ None }
+    ensures parts { tally.new.parts.parts ≡ without tally.old.parts.parts found.part.job ++ next ∷ [] }
     ensures tallied { IsTallied table.now tally.new }
     ensures marked { IsMarked table.now tally.new.parts.parts occupied.new }
 {
-    let from = table.resource_at(part);
-    put_on(table, tally, part, next);
+    let from = table.resource_at(found.part);
+    put_on(table, tally, found, next);
     occupied.mark(table.resource_at(next));
     unmark_free(table, tally, occupied, from);
 }
@@ -134,19 +154,24 @@ fn unmark_free(table: &LeadTable, tally: &Tally, occupied: &mut Occupied, from: 
 }
 
 /// A part goes on to its next stage.
-fn put_on(table: &LeadTable, tally: &mut Tally, part: Part, next: Part)
+fn put_on(table: &LeadTable, tally: &mut Tally, found: Found, next: Part)
     requires sound { IsSound table.now tally.old }
-    requires found { part_of tally.old.parts.parts part.job ≡ Some part }
-    requires same { next ≡ record part { place = next.place; done = next.done } }
+    requires found { part_of tally.old.parts.parts found.part.job ≡ Some found.part }
+    requires same { next ≡ record found.part { place = next.place; done = next.done } }
     requires stage { IsStage table.now (stage_of next) }
-    requires room { first_over table.now (without tally.old.parts.parts part.job ++ next ∷ []) ≡ None }
-    ensures parts { tally.new.parts.parts ≡ without tally.old.parts.parts part.job ++ next ∷ [] }
+    requires room { first_over table.now (without tally.old.parts.parts found.part.job ++ next ∷ []) ≡ None }
+    ensures parts { tally.new.parts.parts ≡ without tally.old.parts.parts found.part.job ++ next ∷ [] }
     ensures tallied { IsTallied table.now tally.new }
 {
+    let part = found.part;
     tally.counts.shift(table.mask(part), table.mask(next));
-    tally
-        .parts
-        .advance(part.job, next.place, next.done, table.resource_at(next));
+    tally.parts.advance_near(
+        found.clue,
+        part.job,
+        next.place,
+        next.done,
+        table.resource_at(next),
+    );
     tally.work = tally.work - table.work_of(part) + table.work_of(next);
 }
 
@@ -158,21 +183,34 @@ fn leave(table: &LeadTable, tally: &mut Tally, occupied: &mut Occupied, job: Job
     ensures tallied { IsTallied table.now tally.new }
     ensures marked { IsMarked table.now tally.new.parts.parts occupied.new }
 {
-    if let Some(part) = tally.parts.get(job) {
-        let from = table.resource_at(part);
-        take_out(table, tally, part);
-        unmark_free(table, tally, occupied, from);
+    if let Some(found) = tally.parts.find(job) {
+        send_out(table, tally, occupied, found);
     }
 }
 
-/// A part leaves the cell.
-fn take_out(table: &LeadTable, tally: &mut Tally, part: Part)
+/// The part that was found leaves the cell.
+pub fn send_out(table: &LeadTable, tally: &mut Tally, occupied: &mut Occupied, found: Found)
     requires sound { IsSound table.now tally.old }
-    requires found { part_of tally.old.parts.parts part.job ≡ Some part }
-    ensures parts { tally.new.parts.parts ≡ without tally.old.parts.parts part.job }
+    requires marked { IsMarked table.now tally.old.parts.parts occupied.old }
+    requires found { part_of tally.old.parts.parts found.part.job ≡ Some found.part }
+    ensures parts { tally.new.parts.parts ≡ without tally.old.parts.parts found.part.job }
+    ensures tallied { IsTallied table.now tally.new }
+    ensures marked { IsMarked table.now tally.new.parts.parts occupied.new }
+{
+    let from = table.resource_at(found.part);
+    take_out(table, tally, found);
+    unmark_free(table, tally, occupied, from);
+}
+
+/// A part leaves the cell.
+fn take_out(table: &LeadTable, tally: &mut Tally, found: Found)
+    requires sound { IsSound table.now tally.old }
+    requires found { part_of tally.old.parts.parts found.part.job ≡ Some found.part }
+    ensures parts { tally.new.parts.parts ≡ without tally.old.parts.parts found.part.job }
     ensures tallied { IsTallied table.now tally.new }
 {
+    let part = found.part;
     tally.counts.leave(table.mask(part));
-    tally.parts.depart(part.job);
+    tally.parts.depart_near(found.clue, part.job);
     tally.work -= table.work_of(part);
 }

@@ -70,7 +70,7 @@ fn reply_to_process(table: &LeadTable, tally: &Tally, machine: ResId) -> Reply
 }
 
 /// The reply to the move of a part.
-fn reply_to_move(table: &LeadTable, tally: &Tally, part: Part, branch: u16) -> Reply
+pub fn reply_to_move(table: &LeadTable, tally: &Tally, part: Part, branch: u16) -> Reply
     requires sound { IsSound table.now tally.now }
     requires found { part_of tally.now.parts.parts part.job ≡ Some part }
     ensures { result ≡ (outcome_of_move table.now tally.now.parts.parts (Some part) branch).0 }
@@ -91,7 +91,7 @@ fn reply_to_move(table: &LeadTable, tally: &Tally, part: Part, branch: u16) -> R
 }
 
 /// The reply to the unload of a part.
-fn reply_to_unload(table: &LeadTable, part: Part) -> Reply
+pub fn reply_to_unload(table: &LeadTable, part: Part) -> Reply
     requires { IsStage table.now (stage_of part) }
     ensures { (parts : List Part) → result ≡ (outcome_of_unload table.now parts (Some part)).0 }
 {

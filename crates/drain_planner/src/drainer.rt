@@ -47,9 +47,7 @@ impl Drainer {
         ensures emptied { result ≡ None → self.new ≡ self.old }
         ensures cell { self.new.cell ≡ self.old.cell }
     {
-        let step = self.core.plan_step()?;
-        self.core.apply(&step);
-        Some(step)
+        self.core.take_plan_step()
     }
 
     /// The number of steps still to come: what all parts need together.

@@ -1,7 +1,6 @@
 -- A part that goes on: its entry is gone, and one after all others is its own.
-use Rattle.std.proofs.Common.{◌≡◌, ℕ, ◌+◌, ◌<◌, ◌≤◌, Bool, true, cond, List, [], ◌∷◌, ◌++◌, length}
+use Rattle.std.proofs.Common.{◌≡◌, ℕ, ◌+◌, ◌<◌, Bool, true, cond, List, [], ◌∷◌, ◌++◌, length}
 use Rattle.std.proofs.Common.{Some, slice_get, set, ap, subst, sym, arith, ◌∙◌, nat_eq, length-set}
-use Rattle.std.specs.HashMap.{HashMap, get, hash_map_len, spare}
 use Rattle.std.proofs.lemmas.Option.{same_Some}
 use Rattle.std.proofs.lemmas.List.{length_push}
 use Rattle.cell_base.specs.declared.cells.ResId.{ResId}
@@ -15,6 +14,7 @@ use Rattle.part_table.specs.declared.standing.Standing.{Standing}
 use Rattle.part_table.specs.declared.standing.Entry.{Entry}
 use Rattle.part_table.specs.declared.heads.TheConstants.{OFF}
 use Rattle.part_table.specs.Heads.{Keyed}
+use Rattle.part_table.specs.Seats.{Seated, place_at}
 use Rattle.part_table.specs.Standings.{parts_of, without_job, advanced}
 use Rattle.part_table.specs.Logs.{gone_entry, staying, IsAbsent, IsPlaceOf, IsLogged, key_of_waiting}
 use Rattle.part_table.proofs.Jobs.{part_at}
@@ -47,11 +47,11 @@ module _ (entries : List Entry) (job : JobId) (at : ℕ) (old : Entry) (place : 
       ∙ ap (λ items. items ++ moved ∷ []) left
       ∙ sym (advanced_is (staying entries) job place done on old.item.part (sym (part_at entries job at old is there)))
 
-  module _ {S : Type 0} (room : ℕ) (places next : HashMap ℕ ℕ S) (standing waiting : Keyed)
-      (log : IsLogged entries room places standing waiting) where
+  module _ (room : ℕ) (seats next : Seated) (standing waiting : Keyed)
+      (log : IsLogged entries room seats standing waiting) where
     pub logged_advanced : (standing-left standing-next waiting-left waiting-next : Keyed) → length entries < room
-        → ((q : ℕ) → get nat_eq next q ≡ cond (nat_eq job.0 q) (Some (length entries)) (get nat_eq places q))
-        → hash_map_len next ≡ hash_map_len places → hash_map_len places + spare places ≤ hash_map_len next + spare next
+        → ((q : ℕ) → place_at next q ≡ cond (nat_eq job.0 q) (Some seats.taken) (place_at seats q))
+        → next.taken ≡ seats.taken + 1 → next.room ≡ seats.room
         → standing-left.keys ≡ set standing.keys at OFF → standing-left.room ≡ standing.room
         → standing-left.resources ≡ standing.resources
         → waiting-left.keys ≡ set waiting.keys at OFF → waiting-left.room ≡ waiting.room → waiting-left.resources ≡ waiting.resources
@@ -60,19 +60,19 @@ module _ (entries : List Entry) (job : JobId) (at : ℕ) (old : Entry) (place : 
         → waiting-next.keys ≡ waiting-left.keys ++ key_of_waiting moved ∷ [] → waiting-next.room ≡ waiting-left.room
         → waiting-next.resources ≡ waiting-left.resources
         → IsLogged (set entries at (gone_entry old) ++ (record { item = moved; stays = true }) ∷ []) room next standing-next waiting-next
-    logged_advanced standing-left standing-next waiting-left waiting-next more noted len fits keys keys_room keys_on waits waits_room
+    logged_advanced standing-left standing-next waiting-left waiting-next more noted one_more same_room keys keys_room keys_on waits waits_room
         waits_on
         =
         let long : length (set entries at (gone_entry old)) ≡ length entries = length-set entries at (gone_entry old) in
-        logged_pushed (set entries at (gone_entry old)) room places standing-left waiting-left
-        (logged_taken entries room places standing waiting log at old standing-left waiting-left there keys keys_room keys_on waits
+        logged_pushed (set entries at (gone_entry old)) room seats standing-left waiting-left
+        (logged_taken entries room seats standing waiting log at old standing-left waiting-left there keys keys_room keys_on waits
         waits_room waits_on)
         moved next standing-next waiting-next
         (subst (IsAbsent (set entries at (gone_entry old))) (λ i. record { 0 = sym of_job i }) absent_left)
         (omega (arith, long, more))
-        (λ q. noted q ∙ ap (λ n. cond (nat_eq n q) (Some (length entries)) (get nat_eq places q)) (sym of_job)
-        ∙ ap (λ n. cond (nat_eq old.item.part.job.0 q) (Some n) (get nat_eq places q)) (sym long))
-        (omega (arith, len)) fits
+        (λ q. noted q ∙ ap (λ n. cond (nat_eq n q) (Some seats.taken) (place_at seats q)) (sym of_job)
+        ∙ ap (λ n. cond (nat_eq old.item.part.job.0 q) (Some n) (place_at seats q)) (log.taken ∙ sym long))
+        one_more same_room
 
 -- a part that goes on is of its job, and as many are there
 module _ (items : List Standing) (job : JobId) (place : ℕ) (done : Bool) (on : ResId) (distinct : HaveDistinctJobs (parts_of items))

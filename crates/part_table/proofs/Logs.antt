@@ -1,7 +1,6 @@
 -- A log after an entry came or changed.
 use Rattle.std.proofs.Common.{◌≡◌, ℕ, zero, suc, ◌+◌, ◌<◌, ◌≤◌, Bool, true, false, cond, List, [], ◌∷◌, ◌++◌, length}
 use Rattle.std.proofs.Common.{map, Some, slice_get, get_or, set, subst, refl, sym, ap, arith, ◌∙◌, nat_eq, length-set}
-use Rattle.std.specs.HashMap.{HashMap, get, hash_map_len, spare}
 use Rattle.std.proofs.Math.Seq.{map-set_same}
 use Rattle.std.proofs.lemmas.List.{length_push, map_push, map-set}
 use Rattle.std.proofs.lemmas.Option.{get_or_from_slice_get}
@@ -9,6 +8,7 @@ use Rattle.part_table.specs.declared.standing.Standing.{Standing}
 use Rattle.part_table.specs.declared.standing.Entry.{Entry}
 use Rattle.part_table.specs.declared.heads.TheConstants.{OFF}
 use Rattle.part_table.specs.Heads.{Keyed}
+use Rattle.part_table.specs.Seats.{Seated, place_at}
 use Rattle.part_table.specs.Logs.{gone_entry, done_entry, job_of, IsAbsent, IsLogged, standing_key, waiting_key, key_of_waiting}
 use Rattle.part_table.proofs.Places.{places_pushed, places_changed}
 
@@ -18,24 +18,25 @@ get_read [] i x below is = absurd (omega arith)
 get_read (y ∷ ys) zero x below is = ap Some (sym is)
 get_read (y ∷ ys) (suc i) x below is = get_read ys i x (omega arith) is
 
-module _ {S : Type 0} (entries : List Entry) (room : ℕ) (places : HashMap ℕ ℕ S) (standing waiting : Keyed)
-    (log : IsLogged entries room places standing waiting) where
-  pub logged_pushed : (item : Standing) (next : HashMap ℕ ℕ S) (standing-next waiting-next : Keyed) → IsAbsent entries item.part.job
+module _ (entries : List Entry) (room : ℕ) (seats : Seated) (standing waiting : Keyed)
+    (log : IsLogged entries room seats standing waiting) where
+  pub logged_pushed : (item : Standing) (next : Seated) (standing-next waiting-next : Keyed) → IsAbsent entries item.part.job
       → length entries < room
-      → ((q : ℕ) → get nat_eq next q ≡ cond (nat_eq item.part.job.0 q) (Some (length entries)) (get nat_eq places q))
-      → hash_map_len next ≤ hash_map_len places + 1 → hash_map_len places + spare places ≤ hash_map_len next + spare next
+      → ((q : ℕ) → place_at next q ≡ cond (nat_eq item.part.job.0 q) (Some (length entries)) (place_at seats q))
+      → next.taken ≡ seats.taken + 1 → next.room ≡ seats.room
       → standing-next.keys ≡ standing.keys ++ item.on.0 ∷ [] → standing-next.room ≡ standing.room
       → standing-next.resources ≡ standing.resources
       → waiting-next.keys ≡ waiting.keys ++ key_of_waiting item ∷ [] → waiting-next.room ≡ waiting.room
       → waiting-next.resources ≡ waiting.resources
       → IsLogged (entries ++ (record { item = item; stays = true }) ∷ []) room next standing-next waiting-next
-  logged_pushed item next standing-next waiting-next absent more noted one_more left keys keys_room keys_on waits waits_room waits_on =
+  logged_pushed item next standing-next waiting-next absent more noted one_more same keys keys_room keys_on waits waits_room waits_on =
       let last : Entry = record { item = item; stays = true } in
       record {
         within = omega (arith, more, length_push entries last);
         small = log.small;
-        placed = places_pushed entries places next log.placed item absent noted one_more;
-        places_left = omega (arith, left, log.places_left);
+        placed = places_pushed entries (place_at seats) (place_at next) log.placed item absent noted;
+        taken = one_more ∙ ap (λ n. n + 1) log.taken ∙ sym (length_push entries last);
+        seats_room = same ∙ log.seats_room;
         standing_keys = keys ∙ ap (λ ks. ks ++ item.on.0 ∷ []) log.standing_keys ∙ sym (map_push standing_key entries last);
         waiting_keys = waits ∙ ap (λ ks. ks ++ key_of_waiting item ∷ []) log.waiting_keys ∙ sym (map_push waiting_key entries last);
         standing_room = keys_room ∙ log.standing_room;
@@ -50,12 +51,13 @@ module _ {S : Type 0} (entries : List Entry) (room : ℕ) (places : HashMap ℕ 
       → standing-next.resources ≡ standing.resources
       → waiting-next.keys ≡ map waiting_key (set entries i next) → waiting-next.room ≡ waiting.room
       → waiting-next.resources ≡ waiting.resources
-      → IsLogged (set entries i next) room places standing-next waiting-next
+      → IsLogged (set entries i next) room seats standing-next waiting-next
   logged_changed i old next standing-next waiting-next there job stays keys keys_room keys_on waits waits_room waits_on = record {
     within = subst (λ n. n ≤ room) (sym (length-set entries i next)) log.within;
     small = log.small;
-    placed = places_changed entries places log.placed i old next there job stays;
-    places_left = log.places_left;
+    placed = places_changed entries (place_at seats) log.placed i old next there job stays;
+    taken = log.taken ∙ sym (length-set entries i next);
+    seats_room = log.seats_room;
     standing_keys = keys;
     waiting_keys = waits;
     standing_room = keys_room ∙ log.standing_room;
@@ -67,7 +69,7 @@ module _ {S : Type 0} (entries : List Entry) (room : ℕ) (places : HashMap ℕ 
   pub logged_taken : (i : ℕ) (old : Entry) (standing-next waiting-next : Keyed) → slice_get entries i ≡ Some old
       → standing-next.keys ≡ set standing.keys i OFF → standing-next.room ≡ standing.room → standing-next.resources ≡ standing.resources
       → waiting-next.keys ≡ set waiting.keys i OFF → waiting-next.room ≡ waiting.room → waiting-next.resources ≡ waiting.resources
-      → IsLogged (set entries i (gone_entry old)) room places standing-next waiting-next
+      → IsLogged (set entries i (gone_entry old)) room seats standing-next waiting-next
   logged_taken i old standing-next waiting-next there keys keys_room keys_on waits waits_room waits_on =
       let next : Entry = record old { stays = false } in
       logged_changed i old next standing-next waiting-next there refl (λ stays. absurd (cc stays))
@@ -81,7 +83,7 @@ module _ {S : Type 0} (entries : List Entry) (room : ℕ) (places : HashMap ℕ 
   -- an entry whose part is done
   pub logged_finished : (i : ℕ) (old : Entry) (waiting-next : Keyed) → slice_get entries i ≡ Some old
       → waiting-next.keys ≡ set waiting.keys i OFF → waiting-next.room ≡ waiting.room → waiting-next.resources ≡ waiting.resources
-      → IsLogged (set entries i (done_entry old)) room places standing waiting-next
+      → IsLogged (set entries i (done_entry old)) room seats standing waiting-next
   logged_finished i old waiting-next there waits waits_room waits_on =
       let next : Entry = record old { item = record old.item { part = record old.item.part { done = true } } } in
       logged_changed i old next standing waiting-next there refl (λ stays. stays)

@@ -1,10 +1,8 @@
 -- The places of jobs in a log, as entries come and change.
-use Rattle.std.proofs.Common.{◌≡◌, ◌≢◌, ℕ, zero, suc, ◌+◌, ◌≤◌, ◌⊎◌, Bool, true, false, cond, List, [], ◌∷◌, ◌++◌, length}
-use Rattle.std.proofs.Common.{Some, slice_get, set, subst, refl, sym, ap, arith, ◌∙◌, ⊎_elim, inl, inr, nat_eq, length-set}
-use Rattle.std.specs.HashMap.{HashMap, get, hash_map_len}
+use Rattle.std.proofs.Common.{◌≡◌, ◌≢◌, ℕ, zero, suc, ◌⊎◌, Bool, true, false, cond, List, [], ◌∷◌, ◌++◌, length}
+use Rattle.std.proofs.Common.{Option, Some, slice_get, set, subst, refl, sym, ap, arith, ◌∙◌, ⊎_elim, inl, inr, nat_eq}
 use Rattle.std.proofs.lemmas.Bool.{eqb-true, eq-eqb, ne_eqb, cases_eq}
 use Rattle.std.proofs.lemmas.Option.{none-some, same_Some}
-use Rattle.std.proofs.lemmas.List.{length_push}
 use Rattle.part_table.specs.declared.standing.Standing.{Standing}
 use Rattle.part_table.specs.declared.standing.Entry.{Entry}
 use Rattle.part_table.specs.Logs.{job_of, IsAbsent, ArePlaces}
@@ -52,33 +50,32 @@ module _ {X : Type 0} where
   get_beside_set (z ∷ xs) (suc i) (suc k) y x other e = get_beside_set xs i k y x (λ same. other (omega (arith, same))) e
 
 -- one entry more
-module _ {S : Type 0} (entries : List Entry) (places next : HashMap ℕ ℕ S) (are : ArePlaces entries places) (item : Standing)
+module _ (entries : List Entry) (places next : ℕ → Option ℕ) (are : ArePlaces entries places) (item : Standing)
     (absent : IsAbsent entries item.part.job)
-    (noted : (q : ℕ) → get nat_eq next q ≡ cond (nat_eq item.part.job.0 q) (Some (length entries)) (get nat_eq places q)) where
-  pub places_pushed : hash_map_len next ≤ hash_map_len places + 1 → ArePlaces (entries ++ (record { item = item; stays = true }) ∷ []) next
-  places_pushed one_more = record {
+    (noted : (q : ℕ) → next q ≡ cond (nat_eq item.part.job.0 q) (Some (length entries)) (places q)) where
+  pub places_pushed : ArePlaces (entries ++ (record { item = item; stays = true }) ∷ []) next
+  places_pushed = record {
     placed = λ k entry e stays. ⊎_elim (earlier k entry stays) (at_end k entry)
         (get_in_push entries (record { item = item; stays = true }) entry k e);
     found = λ job k e. found_by job k (nat_eq item.part.job.0 job) refl (sym (noted job) ∙ e);
-    few = omega (arith, one_more, are.few, length_push entries (record { item = item; stays = true }));
   }
     where
-      earlier : (k : ℕ) (entry : Entry) → entry.stays ≡ true → slice_get entries k ≡ Some entry → get nat_eq next (job_of entry) ≡ Some k
+      earlier : (k : ℕ) (entry : Entry) → entry.stays ≡ true → slice_get entries k ≡ Some entry → next (job_of entry) ≡ Some k
       earlier k entry stays e =
           noted (job_of entry)
-          ∙ ap (λ b. cond b (Some (length entries)) (get nat_eq places (job_of entry)))
+          ∙ ap (λ b. cond b (Some (length entries)) (places (job_of entry)))
           (ne_eqb item.part.job.0 (job_of entry) (λ same. absent k entry e stays (sym same)))
           ∙ are.placed k entry e stays
 
       at_end : (k : ℕ) (entry : Entry) → (k ≡ length entries) × ((let y : Entry = record { item = item; stays = true } in y) ≡ entry)
-          → get nat_eq next (job_of entry) ≡ Some k
+          → next (job_of entry) ≡ Some k
       at_end k entry h =
-          subst (λ (x : Entry). get nat_eq next (job_of x) ≡ Some k) h.1
+          subst (λ (x : Entry). next (job_of x) ≡ Some k) h.1
           (noted item.part.job.0
-          ∙ ap (λ b. cond b (Some (length entries)) (get nat_eq places item.part.job.0)) (eq-eqb item.part.job.0 item.part.job.0 refl)
+          ∙ ap (λ b. cond b (Some (length entries)) (places item.part.job.0)) (eq-eqb item.part.job.0 item.part.job.0 refl)
           ∙ ap Some (sym h.0))
 
-      found_by : (job k : ℕ) (b : Bool) → nat_eq item.part.job.0 job ≡ b → cond b (Some (length entries)) (get nat_eq places job) ≡ Some k
+      found_by : (job k : ℕ) (b : Bool) → nat_eq item.part.job.0 job ≡ b → cond b (Some (length entries)) (places job) ≡ Some k
           → (entry : Entry) × (slice_get (entries ++ (record { item = item; stays = true }) ∷ []) k ≡ Some entry) × (job_of entry ≡ job)
       found_by job k true is e = (
         record { item = item; stays = true },
@@ -91,19 +88,18 @@ module _ {S : Type 0} (entries : List Entry) (places next : HashMap ℕ ℕ S) (
           (old.0, get_before_push entries (record { item = item; stays = true }) old.0 k old.1, old.2)
 
 -- an entry that changes, with its job, and does not stay again
-pub places_changed : {S : Type 0} (entries : List Entry) (places : HashMap ℕ ℕ S) → ArePlaces entries places → (i : ℕ) (old next : Entry)
+pub places_changed : (entries : List Entry) (places : ℕ → Option ℕ) → ArePlaces entries places → (i : ℕ) (old next : Entry)
     → slice_get entries i ≡ Some old → job_of next ≡ job_of old → (next.stays ≡ true → old.stays ≡ true)
     → ArePlaces (set entries i next) places
 places_changed entries places are i old next there job stays = record {
   placed = λ k entry e here. ⊎_elim (same k entry here) (λ other. are.placed k entry other.1 here) (get_in_set entries i k next entry e);
   found = λ j k e. let was = are.found j k e in found_now j k was.0 was.1 was.2 (cases_eq k i);
-  few = subst (λ n. hash_map_len places ≤ n) (sym (length-set entries i next)) are.few;
 }
   where
-    same : (k : ℕ) (entry : Entry) → entry.stays ≡ true → (k ≡ i) × (next ≡ entry) → get nat_eq places (job_of entry) ≡ Some k
+    same : (k : ℕ) (entry : Entry) → entry.stays ≡ true → (k ≡ i) × (next ≡ entry) → places (job_of entry) ≡ Some k
     same k entry here h =
         let old_stays : old.stays ≡ true = stays (ap (λ (x : Entry). x.stays) h.1 ∙ here) in
-        ap (λ n. get nat_eq places n) (sym (ap job_of h.1) ∙ job) ∙ are.placed i old there old_stays ∙ ap Some (sym h.0)
+        ap places (sym (ap job_of h.1) ∙ job) ∙ are.placed i old there old_stays ∙ ap Some (sym h.0)
 
     found_now : (j k : ℕ) (was : Entry) → slice_get entries k ≡ Some was → job_of was ≡ j → (k ≡ i) ⊎ (k ≡ i → ⊥)
         → (entry : Entry) × (slice_get (set entries i next) k ≡ Some entry) × (job_of entry ≡ j)

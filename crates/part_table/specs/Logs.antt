@@ -1,13 +1,13 @@
 -- Entries in the order in which they came, of which some are gone, and what finds them.
-use Rattle.std.specs.Prelude.{Bool, false, ◌≡◌, ℕ, ◌+◌, ◌<◌, ◌≤◌, true, if◌then◌else◌, Some, List, length, map, slice_get, nat_eq}
+use Rattle.std.specs.Prelude.{Bool, false, ◌≡◌, ℕ, ◌<◌, ◌≤◌, true, if◌then◌else◌, Option, Some, List, length, map, slice_get}
 use Rattle.std.specs.List.{filter, find}
-use Rattle.std.specs.HashMap.{HashMap, get, hash_map_len, spare}
 use Rattle.cell_base.specs.declared.requests.JobId.{JobId}
 use Rattle.part_table.specs.declared.standing.Standing.{Standing}
 use Rattle.part_table.specs.declared.standing.Entry.{Entry}
 use Rattle.part_table.specs.declared.heads.TheConstants.{OFF, NOWHERE}
 use Rattle.cell_base.specs.Policy.{HaveDistinctJobs}
 use Rattle.part_table.specs.Heads.{Keyed}
+use Rattle.part_table.specs.Seats.{Seated, place_at}
 use Rattle.part_table.specs.Standings.{parts_of}
 
 -- what a contract sees of a log: its entries, how many there may be, and the number of resources
@@ -61,17 +61,17 @@ abbrev pub waiting_key : Entry → ℕ
 waiting_key entry = if entry.stays then key_of_waiting entry.item else OFF
 
 -- the places of the jobs: each entry that stays is found, and what is found is of its job
-pub record ArePlaces {S : Type 0} (entries : List Entry) (places : HashMap ℕ ℕ S) : Type 0 where
-  pub placed : (k : ℕ) (entry : Entry) → slice_get entries k ≡ Some entry → entry.stays ≡ true → get nat_eq places (job_of entry) ≡ Some k
-  pub found : (job k : ℕ) → get nat_eq places job ≡ Some k → (entry : Entry) × (slice_get entries k ≡ Some entry) × (job_of entry ≡ job)
-  pub few : hash_map_len places ≤ length entries
+pub record ArePlaces (entries : List Entry) (places : ℕ → Option ℕ) : Type 0 where
+  pub placed : (k : ℕ) (entry : Entry) → slice_get entries k ≡ Some entry → entry.stays ≡ true → places (job_of entry) ≡ Some k
+  pub found : (job k : ℕ) → places job ≡ Some k → (entry : Entry) × (slice_get entries k ≡ Some entry) × (job_of entry ≡ job)
 
 -- the parts of a log that belong together
-pub record IsLogged {S : Type 0} (entries : List Entry) (room : ℕ) (places : HashMap ℕ ℕ S) (standing waiting : Keyed) : Type 0 where
+pub record IsLogged (entries : List Entry) (room : ℕ) (seats : Seated) (standing waiting : Keyed) : Type 0 where
   pub within : length entries ≤ room
   pub small : room < NOWHERE
-  pub placed : ArePlaces entries places
-  pub places_left : room ≤ hash_map_len places + spare places
+  pub placed : ArePlaces entries (place_at seats)
+  pub taken : seats.taken ≡ length entries
+  pub seats_room : seats.room ≡ room
   pub standing_keys : standing.keys ≡ map standing_key entries
   pub waiting_keys : waiting.keys ≡ map waiting_key entries
   pub standing_room : standing.room ≡ room

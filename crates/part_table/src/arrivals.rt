@@ -8,6 +8,7 @@ ghost use Rattle.cell_base.specs.declared.limits.TheConstants.{MAX_RESOURCES, MA
 ghost use Rattle.part_table.specs.Standings.{parts_of, is_on, is_waiting, without_job, advanced, finished};
 ghost use Rattle.part_table.specs.Logs.{staying};
 
+use crate::found::{Clue, Found};
 use crate::log::Log;
 use crate::standing::Standing;
 use cell_base::{JobId, List, NoMemory, Part, ResId};
@@ -69,12 +70,15 @@ impl Arrivals {
     }
 
     /// The part of a job.
-    pub fn get(&self, job: JobId) -> Option<Part>
-        ensures part { result ≡ part_of (parts_of self.now.items) job }
+    pub fn find(&self, job: JobId) -> Option<Found>
+        ensures part { option_map (λ found. found.part) result ≡ part_of (parts_of self.now.items) job }
         ensures distinct { HaveDistinctJobs (parts_of self.now.items) }
     {
         match self.log.place_of(job) {
-            Some(at) => Some(self.log.get(at).item.part),
+            Some(at) => Some(Found {
+                part: self.log.get(at).item.part,
+                clue: Clue(at),
+            }),
             None => None,
         }
     }
@@ -123,12 +127,15 @@ impl Arrivals {
     }
 
     /// The first part on a resource.
-    pub fn first_on(&self, on: ResId) -> Option<Part>
+    pub fn first_on(&self, on: ResId) -> Option<Found>
         requires { on.0 < self.now.resources }
-        ensures { result ≡ option_map (λ item. item.part) (find (is_on on) self.now.items) }
+        ensures { option_map (λ found. found.part) result ≡ option_map (λ item. item.part) (find (is_on on) self.now.items) }
     {
         match self.log.first_on(on) {
-            Some(item) => Some(item.part),
+            Some(at) => Some(Found {
+                part: self.log.get(at).item.part,
+                clue: Clue(at),
+            }),
             None => None,
         }
     }
@@ -148,7 +155,7 @@ impl Arrivals {
     }
 
     /// The part of a job goes on to a place, and stands after all others.
-    pub fn advance(&mut self, job: JobId, place: u16, done: bool, on: ResId)
+    pub fn advance(&mut self, job: JobId, clue: Clue, place: u16, done: bool, on: ResId)
         requires present { is_loaded (parts_of self.old.items) job ≡ true }
         requires on { on.0 < self.old.resources }
         ensures items { self.new.items ≡ advanced self.old.items job place done on }
@@ -156,7 +163,9 @@ impl Arrivals {
         ensures resources { self.new.resources ≡ self.old.resources }
     {
         make_room(&mut self.log);
-        self.log.advance(job, place, done, on);
+        if let Some(at) = self.log.place_near(job, clue.0) {
+            self.log.advance(job, at, place, done, on);
+        }
     }
 
     /// The work on the part of a job is done. It keeps its place in the order.
@@ -192,13 +201,13 @@ impl Arrivals {
     }
 
     /// The part of a job leaves.
-    pub fn depart(&mut self, job: JobId)
+    pub fn depart(&mut self, job: JobId, clue: Clue)
         requires { is_loaded (parts_of self.old.items) job ≡ true }
         ensures items { self.new.items ≡ without_job self.old.items job }
         ensures spare { self.new.spare ≡ self.old.spare + 1 }
         ensures resources { self.new.resources ≡ self.old.resources }
     {
-        if let Some(at) = self.log.place_of(job) {
+        if let Some(at) = self.log.place_near(job, clue.0) {
             self.log.take_out(at);
             self.count -= 1;
         }

@@ -22,11 +22,14 @@
 #![tactic(auto)]
 
 mod arrivals;
+mod found;
 mod heads;
 mod log;
 mod parts;
+mod seats;
 mod standing;
 
+pub use found::{Clue, Found};
 pub use parts::Parts;
 
 #[cfg(test)]

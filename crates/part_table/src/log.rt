@@ -1,7 +1,6 @@
 //! A log of parts as they came, which is found by job and by resource.
 ghost use Rattle.std.specs.Prelude.{◌≡◌, ℕ, ◌+◌, ◌<◌, ◌≤◌, ◌∷◌, ◌++◌, [], true, false, if◌then◌else◌, length, Some};
 ghost use Rattle.std.specs.Prelude.{slice_get, slice_set, MatchOption, IfOk, nat_eq, nat_le, map, filter, find, All, None};
-ghost use Rattle.std.specs.HashMap.{get, hash_map_len, spare};
 ghost use Rattle.part_table.specs.declared.standing.Entry.{Entry};
 ghost use Rattle.part_table.specs.declared.heads.TheConstants.{NOWHERE};
 ghost use Rattle.part_table.specs.Logs.{gone_entry, done_entry, IsAbsent, IsPlaceOf, IsPlaceOfFirst, key_of_waiting, staying, IsLogged};
@@ -9,17 +8,17 @@ ghost use Rattle.part_table.specs.Standings.{parts_of, is_on, is_waiting, advanc
 ghost use Rattle.cell_base.specs.Policy.{is_loaded, HaveDistinctJobs};
 
 use crate::heads::{Heads, OFF};
+use crate::seats::Seats;
 use crate::standing::{Entry, Standing};
 use cell_base::{JobId, List, NoMemory, Part, ResId};
 use std::alloc::Global;
-use std::collections::HashMap;
 use std::marker::Model;
 
 /// The entries in the order in which they came, the place of each job, and the first places of each resource.
 #[derive(Drop)]
 pub struct Log {
     entries: Vec<Entry>,
-    places: HashMap<u32, u32>,
+    seats: Seats,
     standing: Heads,
     waiting: Heads,
 }
@@ -32,34 +31,7 @@ impl Model for Log {
 
     ghost view = { λ s. record { entries = s.entries.items; room = vec_capacity s.entries; resources = s.standing.resources } };
 
-    ghost invariant = { λ s. IsLogged s.entries.items (vec_capacity s.entries) s.places s.standing s.waiting };
-}
-
-/// The job is found at a place from now on. It takes no memory where one more job fits.
-fn place(places: &mut HashMap<u32, u32>, job: JobId, at: u32)
-    requires { 0 < spare places.old }
-    ensures places { (q : ℕ) → get nat_eq places.new q ≡ (if nat_eq job.0 q then Some at else get nat_eq places.old q) }
-    ensures len { hash_map_len places.old ≤ hash_map_len places.new }
-    ensures one_more { hash_map_len places.new ≤ hash_map_len places.old + 1 }
-    ensures room { hash_map_len places.old + spare places.old ≤ hash_map_len places.new + spare places.new }
-{
-    if replace(places, job, at).is_none() {
-        let _ = places.insert(job.0, at);
-    }
-}
-
-/// A job that is found at a place is found at another from now on. Gives the place where it was.
-fn replace(places: &mut HashMap<u32, u32>, job: JobId, at: u32) -> Option<u32>
-    ensures known { result ≡ get nat_eq places.old job.0 }
-    ensures places { MatchOption result ((q : ℕ) → get nat_eq places.new q ≡ get nat_eq places.old q) (λ _.
-        (q : ℕ) → get nat_eq places.new q ≡ (if nat_eq job.0 q then Some at else get nat_eq places.old q)) }
-    ensures len { hash_map_len places.new ≡ hash_map_len places.old }
-    ensures room { hash_map_len places.old + spare places.old ≤ hash_map_len places.new + spare places.new }
-{
-    let known = places.get_mut(&job.0)?;
-    let was = *known;
-    *known = at;
-    Some(was)
+    ghost invariant = { λ s. IsLogged s.entries.items (vec_capacity s.entries) s.seats s.standing s.waiting };
 }
 
 /// The resource on which a part stands that is not done.
@@ -70,22 +42,17 @@ fn key_of_waiting(item: Standing) -> u16
 }
 
 /// The entries are found again by their jobs and resources.
-fn list_again(
-    entries: &[Entry],
-    places: &mut HashMap<u32, u32>,
-    standing: &mut Heads,
-    waiting: &mut Heads,
-)
-    requires empty { IsLogged [] standing.old.room places.old standing.old waiting.old }
+fn list_again(entries: &[Entry], seats: &mut Seats, standing: &mut Heads, waiting: &mut Heads)
+    requires empty { IsLogged [] standing.old.room seats.old standing.old waiting.old }
     requires within { length entries.now ≤ standing.old.room }
     requires stay { All (λ entry. entry.stays ≡ true) entries.now }
     requires distinct { HaveDistinctJobs (map (λ entry. entry.item.part) entries.now) }
-    ensures logged { IsLogged entries.now standing.old.room places.new standing.new waiting.new }
+    ensures logged { IsLogged entries.now standing.old.room seats.new standing.new waiting.new }
     ensures resources { standing.new.resources ≡ standing.old.resources }
 {
-    for (at, entry) in entries.iter().enumerate() {
+    for entry in entries {
         let item = entry.item;
-        place(places, item.part.job, at as u32);
+        seats.come(item.part.job);
         standing.push(item.on.0);
         waiting.push(key_of_waiting(item));
     }
@@ -130,7 +97,7 @@ impl Log {
     {
         Ok(Log {
             entries: Vec::with_capacity(alloc, n as usize)?,
-            places: HashMap::with_capacity(alloc, n as usize)?,
+            seats: Seats::with_room(alloc, n)?,
             standing: Heads::with_room(alloc, resources, n)?,
             waiting: Heads::with_room(alloc, resources, n)?,
         })
@@ -144,7 +111,7 @@ impl Log {
         ensures room { self.new.room ≡ self.old.room }
         ensures resources { self.new.resources ≡ self.old.resources }
     {
-        place(&mut self.places, item.part.job, self.entries.len() as u32);
+        self.seats.come(item.part.job);
         self.standing.push(item.on.0);
         self.waiting.push(key_of_waiting(item));
         self.entries.push_reserved(Entry { item, stays: true });
@@ -154,12 +121,25 @@ impl Log {
     pub fn place_of(&self, job: JobId) -> Option<u32>
         ensures { MatchOption result (IsAbsent self.now.entries job) (IsPlaceOf self.now.entries job) }
     {
-        let at = *self.places.get(&job.0)?;
+        let at = self.seats.place_of(job)?;
         if self.entries[at as usize].stays {
             Some(at)
         } else {
             None
         }
+    }
+
+    /// The same, where the part may stand at a place that is told: there it is found without a look-up of its job.
+    pub fn place_near(&self, job: JobId, near: u32) -> Option<u32>
+        ensures { MatchOption result (IsAbsent self.now.entries job) (IsPlaceOf self.now.entries job) }
+    {
+        if (near as usize) < self.entries.len() {
+            let entry = self.entries[near as usize];
+            if entry.stays && entry.item.part.job.0 == job.0 {
+                return Some(near);
+            }
+        }
+        self.place_of(job)
     }
 
     /// The entry at a place.
@@ -200,30 +180,28 @@ impl Log {
     }
 
     /// The part of a job goes on: it is not at its entry any more, but at one after all others. It takes no memory.
-    pub fn advance(&mut self, job: JobId, place: u16, done: bool, on: ResId)
+    pub fn advance(&mut self, job: JobId, at: u32, place: u16, done: bool, on: ResId)
         requires room { length self.old.entries < self.old.room }
-        requires present { is_loaded (parts_of (staying self.old.entries)) job ≡ true }
+        requires at { IsPlaceOf self.old.entries job at }
         ensures items { staying self.new.entries ≡ advanced (staying self.old.entries) job place done on }
         ensures room { self.new.room ≡ self.old.room }
         ensures resources { self.new.resources ≡ self.old.resources }
     {
-        let end = self.entries.len() as u32;
-        if let Some(at) = replace(&mut self.places, job, end) {
-            let mut entry = self.entries[at as usize];
-            entry.stays = false;
-            self.entries[at as usize] = entry;
-            self.standing.take_off(at);
-            self.waiting.take_off(at);
-            let part = Part {
-                place,
-                done,
-                ..entry.item.part
-            };
-            let item = Standing { part, on };
-            self.standing.push(on.0);
-            self.waiting.push(key_of_waiting(item));
-            self.entries.push_reserved(Entry { item, stays: true });
-        }
+        self.seats.go_on(job, at);
+        let mut entry = self.entries[at as usize];
+        entry.stays = false;
+        self.entries[at as usize] = entry;
+        self.standing.take_off(at);
+        self.waiting.take_off(at);
+        let part = Part {
+            place,
+            done,
+            ..entry.item.part
+        };
+        let item = Standing { part, on };
+        self.standing.push(on.0);
+        self.waiting.push(key_of_waiting(item));
+        self.entries.push_reserved(Entry { item, stays: true });
     }
 
     /// Whether no entry more fits.
@@ -233,15 +211,13 @@ impl Log {
         self.entries.capacity() <= self.entries.len()
     }
 
-    /// The first part on a resource.
-    pub fn first_on(&self, on: ResId) -> Option<Standing>
+    /// The place of the first part on a resource.
+    pub fn first_on(&self, on: ResId) -> Option<u32>
         requires { on.0 < self.now.resources }
-        ensures { result ≡ find (is_on on) (staying self.now.entries) }
+        ensures { MatchOption result (find (is_on on) (staying self.now.entries) ≡ None)
+            (IsPlaceOfFirst (is_on on) self.now.entries) }
     {
-        match self.standing.first(on.0) {
-            Some(at) => Some(self.entries[at as usize].item),
-            None => None,
-        }
+        self.standing.first(on.0)
     }
 
     /// The place of the first part on a resource that is not done.
@@ -275,12 +251,12 @@ impl Log {
         ensures resources { self.new.resources ≡ self.old.resources }
     {
         self.entries.retain(|entry| entry.stays);
-        self.places.clear();
+        self.seats.clear();
         self.standing.clear();
         self.waiting.clear();
         list_again(
             &self.entries,
-            &mut self.places,
+            &mut self.seats,
             &mut self.standing,
             &mut self.waiting,
         );

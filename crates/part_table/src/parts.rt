@@ -9,6 +9,7 @@ ghost use Rattle.cell_base.specs.declared.limits.TheConstants.{MAX_RESOURCES, MA
 ghost use Rattle.part_table.specs.Parts.{gone_on};
 
 use crate::arrivals::Arrivals;
+use crate::found::{Clue, Found};
 use cell_base::{Cell, JobId, List, NoMemory, Part, ResId};
 use std::alloc::Global;
 use std::marker::Model;
@@ -54,7 +55,18 @@ impl Parts {
         ensures part { result ≡ part_of self.now.parts job }
         ensures distinct { HaveDistinctJobs self.now.parts }
     {
-        self.arrivals.get(job)
+        match self.find(job) {
+            Some(found) => Some(found.part),
+            None => None,
+        }
+    }
+
+    /// The part of a job, with a clue to it.
+    pub fn find(&self, job: JobId) -> Option<Found>
+        ensures part { option_map (λ found. found.part) result ≡ part_of self.now.parts job }
+        ensures distinct { HaveDistinctJobs self.now.parts }
+    {
+        self.arrivals.find(job)
     }
 
     /// The part at an index.
@@ -99,6 +111,18 @@ impl Parts {
         requires { on.0 < length self.now.cell.resources }
         ensures { result ≡ find (λ part. resource_of_part self.now.cell part == on.0) self.now.parts }
     {
+        match self.find_on(on) {
+            Some(found) => Some(found.part),
+            None => None,
+        }
+    }
+
+    /// The first part on a resource, with a clue to it.
+    pub fn find_on(&self, on: ResId) -> Option<Found>
+        requires { on.0 < length self.now.cell.resources }
+        ensures { option_map (λ found. found.part) result
+            ≡ find (λ part. resource_of_part self.now.cell part == on.0) self.now.parts }
+    {
         self.arrivals.first_on(on)
     }
 
@@ -124,7 +148,19 @@ impl Parts {
         ensures spare { self.new.spare ≡ self.old.spare }
         ensures cell { self.new.cell ≡ self.old.cell }
     {
-        self.arrivals.advance(job, place, done, on);
+        self.advance_near(Clue::NONE, job, place, done, on);
+    }
+
+    /// The same with a clue, by which the part is found without a look-up of its job.
+    pub fn advance_near(&mut self, clue: Clue, job: JobId, place: u16, done: bool, on: ResId)
+        requires present { is_loaded self.old.parts job ≡ true }
+        requires on { ForSome (part_of self.old.parts job) (λ part. on.0 ≡ resource_at self.old.cell (stage part.kind.0 place)) }
+        requires within { on.0 < length self.old.cell.resources }
+        ensures parts { self.new.parts ≡ gone_on self.old.parts job place done }
+        ensures spare { self.new.spare ≡ self.old.spare }
+        ensures cell { self.new.cell ≡ self.old.cell }
+    {
+        self.arrivals.advance(job, clue, place, done, on);
     }
 
     /// The work on the part of a job is done. It keeps its place in the order.
@@ -151,6 +187,16 @@ impl Parts {
         ensures spare { self.new.spare ≡ self.old.spare + 1 }
         ensures cell { self.new.cell ≡ self.old.cell }
     {
-        self.arrivals.depart(job);
+        self.depart_near(Clue::NONE, job);
+    }
+
+    /// The same with a clue, by which the part is found without a look-up of its job.
+    pub fn depart_near(&mut self, clue: Clue, job: JobId)
+        requires { is_loaded self.old.parts job ≡ true }
+        ensures parts { self.new.parts ≡ without self.old.parts job }
+        ensures spare { self.new.spare ≡ self.old.spare + 1 }
+        ensures cell { self.new.cell ≡ self.old.cell }
+    {
+        self.arrivals.depart(job, clue);
     }
 }

@@ -9,15 +9,15 @@ use Rattle.admission_core.proofs.changes.pass_on.Goals as goal
 
 pub resource_at-from-requires : goal.resource_at-from-requires
 resource_at-from-requires c =
-    (part_known c.args.table.now c.args.tally.now.parts.parts c.args.part.job c.args.part c.requires.sound.admitted
+    (part_known c.args.table.now c.args.tally.now.parts.parts c.args.found.part.job c.args.found.part c.requires.sound.admitted
     c.requires.found).stage
 
 pub unmark_free-requires-clause-marked : goal.unmark_free-requires-clause-marked
 unmark_free-requires-clause-marked c =
     let cell = c.args.table.now in
     let parts = c.args.tally.now.parts.parts in
-    let left = without parts c.args.part.job in
+    let left = without parts c.args.found.part.job in
     subst (λ (parts : List Part). IsMarked cell parts c.mark.new.self) (sym c.put_on.ensures.parts)
-    (marked_come cell left c.args.occupied.now (marked_without cell parts c.args.occupied.now c.requires.marked c.args.part.job)
+    (marked_come cell left c.args.occupied.now (marked_without cell parts c.args.occupied.now c.requires.marked c.args.found.part.job)
     c.mark.new.self c.args.next c.resource_at.result c.resource_at.ensures.value c.mark.ensures.ranks c.mark.ensures.resources
     c.mark.ensures.marks)

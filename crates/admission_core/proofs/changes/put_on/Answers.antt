@@ -19,7 +19,7 @@ use Rattle.admission_core.proofs.changes.put_on.Goals as goal
 
 pub mask-requires : goal.mask-requires
 mask-requires c =
-    (part_known c.args.table.now c.args.tally.now.parts.parts c.args.part.job c.args.part c.requires.sound.admitted
+    (part_known c.args.table.now c.args.tally.now.parts.parts c.args.found.part.job c.args.found.part c.requires.sound.admitted
     c.requires.found).stage
 
 pub shift-requires-clause-from_mask : goal.shift-requires-clause-from_mask
@@ -27,7 +27,7 @@ shift-requires-clause-from_mask c =
     let sound = c.requires.sound in
     subst (IsMaskOf c.args.tally.now.counts) (sym c.mask.ensures)
     (mask_is_of c.args.table.now sound.fits c.args.tally.now.counts c.args.tally.now.parts.parts sound.tallied.counts
-    (stage_of c.args.part))
+    (stage_of c.args.found.part))
 
 pub shift-requires-clause-to_mask : goal.shift-requires-clause-to_mask
 shift-requires-clause-to_mask c =
@@ -41,9 +41,9 @@ shift-requires-clause-room c =
     let cell = c.args.table.now in
     let parts = c.args.tally.now.parts.parts in
     let sound = c.requires.sound in
-    let here = part_known cell parts c.args.part.job c.args.part sound.admitted c.requires.found in
+    let here = part_known cell parts c.args.found.part.job c.args.found.part sound.admitted c.requires.found in
     ap₂ (λ to from. first_full c.args.tally.now.counts (bits_only_of to from)) c.mask-2.ensures c.mask.ensures
-    ∙ move_over cell sound.fits c.args.tally.now.counts parts sound.tallied.counts c.args.part c.args.next sound.admitted.state.distinct
+    ∙ move_over cell sound.fits c.args.tally.now.counts parts sound.tallied.counts c.args.found.part c.args.next sound.admitted.state.distinct
     here.stands sound.admitted.within
     ∙ c.requires.room
 
@@ -52,20 +52,20 @@ shift-requires-clause-held c =
     let cell = c.args.table.now in
     let parts = c.args.tally.now.parts.parts in
     let sound = c.requires.sound in
-    let here = part_known cell parts c.args.part.job c.args.part sound.admitted c.requires.found in
+    let here = part_known cell parts c.args.found.part.job c.args.found.part sound.admitted c.requires.found in
     subst (λ from. AreHeld c.args.tally.now.counts (bits_only_of from c.mask-2.result)) (sym c.mask.ensures)
-    (subst (λ to. AreHeld c.args.tally.now.counts (bits_only_of (mask_of cell (stage_of c.args.part)) to)) (sym c.mask-2.ensures)
-    (only_held cell sound.fits c.args.tally.now.counts parts sound.tallied.counts c.args.part c.args.next sound.admitted.state.distinct
+    (subst (λ to. AreHeld c.args.tally.now.counts (bits_only_of (mask_of cell (stage_of c.args.found.part)) to)) (sym c.mask-2.ensures)
+    (only_held cell sound.fits c.args.tally.now.counts parts sound.tallied.counts c.args.found.part c.args.next sound.admitted.state.distinct
     here.stands))
 
-pub advance-requires-clause-present : goal.advance-requires-clause-present
-advance-requires-clause-present c =
-    (part_known c.args.table.now c.args.tally.now.parts.parts c.args.part.job c.args.part c.requires.sound.admitted
+pub advance_near-requires-clause-present : goal.advance_near-requires-clause-present
+advance_near-requires-clause-present c =
+    (part_known c.args.table.now c.args.tally.now.parts.parts c.args.found.part.job c.args.found.part c.requires.sound.admitted
     c.requires.found).loaded
 
 pub work_of-requires : goal.work_of-requires
 work_of-requires c =
-    (part_known c.args.table.now c.args.tally.now.parts.parts c.args.part.job c.args.part c.requires.sound.admitted
+    (part_known c.args.table.now c.args.tally.now.parts.parts c.args.found.part.job c.args.found.part c.requires.sound.admitted
     c.requires.found).stage
 
 pub overflow_sub-tally : goal.overflow_sub-tally
@@ -73,12 +73,12 @@ overflow_sub-tally c =
     let cell = c.args.table.now in
     let parts = c.args.tally.now.parts.parts in
     let sound = c.requires.sound in
-    let here = part_known cell parts c.args.part.job c.args.part sound.admitted c.requires.found in
+    let here = part_known cell parts c.args.found.part.job c.args.found.part sound.admitted c.requires.found in
     omega (
       arith,
       sound.tallied.work,
       c.work_of.ensures,
-      work_without cell sound.fits parts c.args.part sound.admitted.state.distinct here.stands,
+      work_without cell sound.fits parts c.args.found.part sound.admitted.state.distinct here.stands,
     )
 
 pub overflow_add-tally : goal.overflow_add-tally
@@ -95,13 +95,13 @@ overflow_add-tally c =
     )
 
 -- the parts after the move
-now : (c : goal.After-tally-1) → c.advance.new.self.parts ≡ without c.args.tally.now.parts.parts c.args.part.job ++ c.args.next ∷ []
+now : (c : goal.After-tally-1) → c.advance_near.new.self.parts ≡ without c.args.tally.now.parts.parts c.args.found.part.job ++ c.args.next ∷ []
 now c =
     let parts = c.args.tally.now.parts.parts in
-    let part = c.args.part in
+    let part = c.args.found.part in
     let gone : gone_on parts part.job c.args.next.place c.args.next.done
     ≡ without parts part.job ++ (record part { place = c.args.next.place; done = c.args.next.done }) ∷ [] = rw c.requires.found in
-    c.advance.ensures.parts ∙ gone ∙ ap (λ (next : Part). without parts part.job ++ next ∷ []) (sym c.requires.same)
+    c.advance_near.ensures.parts ∙ gone ∙ ap (λ (next : Part). without parts part.job ++ next ∷ []) (sym c.requires.same)
 
 pub returns-clause-parts : goal.returns-clause-parts
 returns-clause-parts c = now c
@@ -112,15 +112,15 @@ returns-clause-tallied c =
     let parts = c.args.tally.now.parts.parts in
     let sound = c.requires.sound in
     let tallied = sound.tallied in
-    let part = c.args.part in
+    let part = c.args.found.part in
     let distinct = sound.admitted.state.distinct in
     let here = part_known cell parts part.job part sound.admitted c.requires.found in
     record {
-      same_cell = c.advance.ensures.cell ∙ tallied.same_cell;
+      same_cell = c.advance_near.ensures.cell ∙ tallied.same_cell;
       enough = omega (
         arith,
         tallied.enough,
-        c.advance.ensures.spare,
+        c.advance_near.ensures.spare,
         ap length (now c),
         length_push (without parts part.job) c.args.next,
         length-without parts part.job distinct here.loaded,

@@ -14,7 +14,7 @@ use Rattle.admission_core.proofs.changes.take_out.Goals as goal
 
 pub mask-requires : goal.mask-requires
 mask-requires c =
-    (part_known c.args.table.now c.args.tally.now.parts.parts c.args.part.job c.args.part c.requires.sound.admitted
+    (part_known c.args.table.now c.args.tally.now.parts.parts c.args.found.part.job c.args.found.part c.requires.sound.admitted
     c.requires.found).stage
 
 pub leave-requires-clause-mask : goal.leave-requires-clause-mask
@@ -22,25 +22,25 @@ leave-requires-clause-mask c =
     let sound = c.requires.sound in
     subst (IsMaskOf c.args.tally.now.counts) (sym c.mask.ensures)
     (mask_is_of c.args.table.now sound.fits c.args.tally.now.counts c.args.tally.now.parts.parts sound.tallied.counts
-    (stage_of c.args.part))
+    (stage_of c.args.found.part))
 
 pub leave-requires-clause-held : goal.leave-requires-clause-held
 leave-requires-clause-held c =
     let sound = c.requires.sound in
     let parts = c.args.tally.now.parts.parts in
-    let stands = (part_known c.args.table.now parts c.args.part.job c.args.part sound.admitted c.requires.found).stands in
+    let stands = (part_known c.args.table.now parts c.args.found.part.job c.args.found.part sound.admitted c.requires.found).stands in
     subst (AreHeld c.args.tally.now.counts) (sym c.mask.ensures)
-    (mask_held c.args.table.now sound.fits c.args.tally.now.counts parts sound.tallied.counts c.args.part c.args.part
+    (mask_held c.args.table.now sound.fits c.args.tally.now.counts parts sound.tallied.counts c.args.found.part c.args.found.part
     sound.admitted.state.distinct stands)
 
-pub depart-requires : goal.depart-requires
-depart-requires c =
-    (part_known c.args.table.now c.args.tally.now.parts.parts c.args.part.job c.args.part c.requires.sound.admitted
+pub depart_near-requires : goal.depart_near-requires
+depart_near-requires c =
+    (part_known c.args.table.now c.args.tally.now.parts.parts c.args.found.part.job c.args.found.part c.requires.sound.admitted
     c.requires.found).loaded
 
 pub work_of-requires : goal.work_of-requires
 work_of-requires c =
-    (part_known c.args.table.now c.args.tally.now.parts.parts c.args.part.job c.args.part c.requires.sound.admitted
+    (part_known c.args.table.now c.args.tally.now.parts.parts c.args.found.part.job c.args.found.part c.requires.sound.admitted
     c.requires.found).stage
 
 pub overflow_sub-tally : goal.overflow_sub-tally
@@ -48,17 +48,17 @@ overflow_sub-tally c =
     let cell = c.args.table.now in
     let parts = c.args.tally.now.parts.parts in
     let sound = c.requires.sound in
-    let stands = (part_known cell parts c.args.part.job c.args.part sound.admitted c.requires.found).stands in
+    let stands = (part_known cell parts c.args.found.part.job c.args.found.part sound.admitted c.requires.found).stands in
     omega (
       arith,
       sound.tallied.work,
       c.work_of.ensures,
-      work_without cell sound.fits parts c.args.part sound.admitted.state.distinct stands,
+      work_without cell sound.fits parts c.args.found.part sound.admitted.state.distinct stands,
     )
 
 pub returns-clause-parts : goal.returns-clause-parts
 returns-clause-parts c =
-    c.depart.ensures.parts
+    c.depart_near.ensures.parts
 
 pub returns-clause-tallied : goal.returns-clause-tallied
 returns-clause-tallied c =
@@ -66,16 +66,16 @@ returns-clause-tallied c =
     let parts = c.args.tally.now.parts.parts in
     let sound = c.requires.sound in
     let tallied = sound.tallied in
-    let part = c.args.part in
+    let part = c.args.found.part in
     let distinct = sound.admitted.state.distinct in
     let here = part_known cell parts part.job part sound.admitted c.requires.found in
-    let now : c.depart.new.self.parts ≡ without parts part.job = c.depart.ensures.parts in
+    let now : c.depart_near.new.self.parts ≡ without parts part.job = c.depart_near.ensures.parts in
     record {
-      same_cell = c.depart.ensures.cell ∙ tallied.same_cell;
+      same_cell = c.depart_near.ensures.cell ∙ tallied.same_cell;
       enough = omega (
         arith,
         tallied.enough,
-        c.depart.ensures.spare,
+        c.depart_near.ensures.spare,
         ap length now,
         length-without parts part.job distinct here.loaded,
       );

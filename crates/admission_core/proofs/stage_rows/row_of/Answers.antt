@@ -1,7 +1,7 @@
 -- Each look-up tells of the stage of this number.
 use Rattle.std.proofs.Common.{ℕ, List, length, get_or, ap, subst, sym, arith, ◌∙◌}
 use Rattle.cell_base.specs.declared.cells.Cell.{Cell}
-use Rattle.cell_base.specs.Stages.{Stage, stage, IsStage}
+use Rattle.cell_base.specs.Stages.{stage, IsStage}
 use Rattle.cell_base.specs.Numbers.{stage_numbered}
 use Rattle.cell_base.proofs.Numbering.{stage_at}
 use Rattle.policy_laws.proofs.Masks.{mask_at_number, length-masks_of}

@@ -2,7 +2,6 @@
 use Rattle.std.proofs.Common.{◌+◌, length, ap, subst, sym, ◌∙◌}
 use Rattle.std.proofs.lemmas.List.{length_push}
 use Rattle.cell_base.specs.Numbers.{stage_numbered}
-use Rattle.admission_core.specs.declared.stage_rows.Row.{Row}
 use Rattle.admission_core.specs.Rows.{IsRowOf}
 use Rattle.admission_core.proofs.Rowing.{rows_pushed}
 use Rattle.admission_core.proofs.stage_rows.rows.Goals as goal

@@ -38,11 +38,11 @@ returns-in-Some-clause-items c =
 pub returns-in_default-clause-items : goal.returns-in_default-clause-items
 returns-in_default-clause-items c =
     let present = rw (← c.self.view_is) at c.requires in
-    let absent = rw c.in_default.is at c.place_of.ensures in
+    let absent = rw c.in_default.is at c.place_near.ensures in
     absurd (false≢true (sym (not_loaded_from_absent c.self.inside.log.entries c.args.job absent) ∙ present))
 
 pub returns-in_default-clause-spare : goal.returns-in_default-clause-spare
 returns-in_default-clause-spare c =
     let present = rw (← c.self.view_is) at c.requires in
-    let absent = rw c.in_default.is at c.place_of.ensures in
+    let absent = rw c.in_default.is at c.place_near.ensures in
     absurd (false≢true (sym (not_loaded_from_absent c.self.inside.log.entries c.args.job absent) ∙ present))

@@ -11,7 +11,7 @@ invariant_of-self c =
     let inside : c.args.at < length c.self.inside.entries.items = rw (← c.self.view_is) at c.requires in
     let there = get_read entries c.args.at c.index-entry.result.now inside c.index-entry.ensures in
     logged_finished entries
-    (vec_capacity c.self.inside.entries) c.self.inside.places c.self.inside.standing c.self.inside.waiting c.self.invariant
+    (vec_capacity c.self.inside.entries) c.self.inside.seats c.self.inside.standing c.self.inside.waiting c.self.invariant
     c.args.at c.index-entry.result.now _ there c.take_off.ensures.keys c.take_off.ensures.room c.take_off.ensures.resources
 
 pub returns-clause-entries : goal.returns-clause-entries

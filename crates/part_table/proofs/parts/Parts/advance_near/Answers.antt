@@ -3,7 +3,7 @@ use Rattle.std.proofs.Common.{List, ap, sym, subst, ◌∙◌}
 use Rattle.part_table.specs.declared.standing.Standing.{Standing}
 use Rattle.part_table.specs.Standings.{parts_of, AreOn}
 use Rattle.part_table.proofs.Told.{went_on}
-use Rattle.part_table.proofs.parts.Parts.advance.Goals as goal
+use Rattle.part_table.proofs.parts.Parts.advance_near.Goals as goal
 
 pub invariant_of-self : goal.invariant_of-self
 invariant_of-self c =

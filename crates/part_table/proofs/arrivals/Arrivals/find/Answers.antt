@@ -1,6 +1,6 @@
 -- The part at the place of its job.
 use Rattle.part_table.proofs.Jobs.{part_at, part_absent}
-use Rattle.part_table.proofs.arrivals.Arrivals.get.Goals as goal
+use Rattle.part_table.proofs.arrivals.Arrivals.find.Goals as goal
 
 pub returns-in-Some-clause-part : goal.returns-in-Some-clause-part
 returns-in-Some-clause-part c =

@@ -1,7 +1,7 @@
 -- The resource that is kept is the one of the stage.
 use Rattle.std.proofs.Common.{sym, ◌∙◌}
 use Rattle.part_table.proofs.Told.{on_found}
-use Rattle.part_table.proofs.parts.Parts.first_on.Goals as goal
+use Rattle.part_table.proofs.parts.Parts.find_on.Goals as goal
 
 pub returns : goal.returns
 returns c =

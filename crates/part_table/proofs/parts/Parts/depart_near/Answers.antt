@@ -4,7 +4,7 @@ use Rattle.part_table.specs.declared.standing.Standing.{Standing}
 use Rattle.part_table.specs.Standings.{parts_of, AreOn}
 use Rattle.part_table.proofs.Standings.{parts_of-without}
 use Rattle.part_table.proofs.Told.{AreOn-without}
-use Rattle.part_table.proofs.parts.Parts.depart.Goals as goal
+use Rattle.part_table.proofs.parts.Parts.depart_near.Goals as goal
 
 pub invariant_of-self : goal.invariant_of-self
 invariant_of-self c = (
