@@ -15,12 +15,22 @@ use std::marker::Model;
 use upstream_sets::Upstream;
 
 /// A cell that fits, with its stages by number and their masks. Contracts see it as the cell.
-#[derive(Drop)]
 pub struct LeadTable {
     stages: StageTable,
     upstream: Upstream,
     /// By stage, what is looked up of it at each request.
     rows: Vec<Row>,
+}
+
+// Written out, as that of `Core` is.
+impl Drop for LeadTable {
+    fn drop(self) {
+        let LeadTable {
+            stages: _,
+            upstream: _,
+            rows: _,
+        } = self;
+    }
 }
 
 impl Model for LeadTable {

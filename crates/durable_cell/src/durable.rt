@@ -19,7 +19,6 @@ use std::alloc::Global;
 use std::marker::Model;
 
 /// A core with the journal of its grants. Contracts see it as a `DurableState`. All memory is taken at the opening.
-#[derive(Drop)]
 pub struct Durable<D: Disk> {
     /// The disk as it was handed to `open`, and as it was found there, for contracts alone.
     entry: Badge<D>,
@@ -32,6 +31,24 @@ pub struct Durable<D: Disk> {
     added: Shelf<Grant>,
     unsure: Option<Grant>,
     limit: u64,
+}
+
+// Written out, so that letting a durable cell go is one step in each proof and not a walk through all that it holds.
+impl<D: Disk + Drop> Drop for Durable<D> {
+    fn drop(self) {
+        let Durable {
+            entry: _,
+            found: _,
+            core: _,
+            text: _,
+            journal: _,
+            opening: _,
+            history: _,
+            added: _,
+            unsure: _,
+            limit: _,
+        } = self;
+    }
 }
 
 impl<D: Disk> Model for Durable<D> {
@@ -48,6 +65,7 @@ impl<D: Disk> Model for Durable<D> {
 }
 
 // The memory of a durable cell.
+#[derive(Drop)]
 struct Shelves<D> {
     found: Badge<D>,
     text: List<u8>,
@@ -110,22 +128,16 @@ impl<D: Disk> Durable<D> {
                         disk: stored.into_disk(),
                     };
                 };
-                let Shelves {
-                    found,
-                    text,
-                    history,
-                    added,
-                } = shelves;
                 match stored.into_journal(cell_text) {
                     Ok(journal) => Opening::Open(Durable {
                         entry,
-                        found,
+                        found: shelves.found,
                         core,
-                        text,
+                        text: shelves.text,
                         journal,
                         opening: grants,
-                        history,
-                        added,
+                        history: shelves.history,
+                        added: shelves.added,
                         unsure: None,
                         limit,
                     }),

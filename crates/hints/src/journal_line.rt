@@ -1,5 +1,6 @@
 //! The line of a refused journal: the offset, what stands there, and what may be done.
 use crate::asked::Asked;
+use crate::placed;
 use crate::printed::refused;
 use crate::quoted::{Quoted, Shown};
 use crate::reading::bytes_of;
@@ -26,18 +27,24 @@ pub fn journal_line<F: Files>(
     let mut words = refused(line)?;
     let number = words.number()?;
     let count = words.number();
-    let file = Shown(asked.word("JOURNAL")?.as_bytes());
+    let file = asked.word("JOURNAL")?;
     match (number, count) {
-        (5, Some(session)) => {
-            return format!(in alloc; "{file}, session {session}: {OTHER_SHIFT}").ok();
-        }
-        (6, Some(at)) => return format!(in alloc; "{file}, grant {at}: {OTHER_START}").ok(),
-        _ => {}
+        (5, Some(session)) => placed::at_number(alloc, file, "session", session, OTHER_SHIFT),
+        (6, Some(grant)) => placed::at_number(alloc, file, "grant", grant, OTHER_START),
+        _ => fault_line(alloc, files, asked, file, &journal_fault(number, count)?),
     }
-    let fault = journal_fault(number, count)?;
-    let there = there(alloc, files, asked, &fault)?;
-    let text = journal_text(&fault);
-    format!(in alloc; "{file}, {there}: {text}").ok()
+}
+
+// What is wrong with a file that is no journal of its cell, or can't be all of one.
+fn fault_line<F: Files>(
+    alloc: Global,
+    files: &mut F,
+    asked: &Asked<'_>,
+    file: &str,
+    fault: &JournalFault,
+) -> Option<String> {
+    let there = there(alloc, files, asked, file, fault)?;
+    placed::at(alloc, file, there.as_str(), journal_text(fault))
 }
 
 /// The fault that a number and a count or an offset tell.
@@ -56,30 +63,44 @@ fn there<F: Files>(
     alloc: Global,
     files: &mut F,
     asked: &Asked<'_>,
+    file: &str,
     fault: &JournalFault,
 ) -> Option<String> {
-    let name = asked.word("JOURNAL")?;
     match *fault {
-        JournalFault::NotAJournal => match bytes_of(alloc, files, name, 8) {
-            Some(bytes) => {
-                let (_, found) = bytes.as_slice().split_first()?;
-                let found = Quoted(found);
-                format!(in alloc; "bytes 1 to 8, {found}").ok()
-            }
-            None => String::from_str(alloc, "bytes 1 to 8").ok(),
-        },
-        JournalFault::OtherCell { at } => {
-            let cell = asked.word("CELL").or(asked.word("CELL1"))?;
-            let line = line_of(alloc, files, cell, at)?;
-            let cell = Shown(cell.as_bytes());
-            format!(in alloc; "byte {at} of its cell text, line {line} of {cell}").ok()
+        JournalFault::NotAJournal => {
+            let bytes = bytes_of(alloc, files, file, 8);
+            in_mark(alloc, bytes.as_deref())
         }
+        JournalFault::OtherCell { at } => in_cell_text(alloc, files, asked, at),
         JournalFault::Damaged { at } => {
-            let found = found_at(alloc, files, name, at);
+            let found = found_at(alloc, files, file, at);
             format!(in alloc; "byte {at}, {found}").ok()
         }
         JournalFault::Long { len } => format!(in alloc; "{len} grants").ok(),
     }
+}
+
+// The mark of a journal, after the gate of its head.
+fn in_mark(alloc: Global, bytes: Option<&[u8]>) -> Option<String> {
+    let Some(bytes) = bytes else {
+        return String::from_str(alloc, "bytes 1 to 8").ok();
+    };
+    let (_, found) = bytes.split_first()?;
+    let found = Quoted(found);
+    format!(in alloc; "bytes 1 to 8, {found}").ok()
+}
+
+// The first byte of the cell text that isn't that of the cell file.
+fn in_cell_text<F: Files>(
+    alloc: Global,
+    files: &mut F,
+    asked: &Asked<'_>,
+    at: u64,
+) -> Option<String> {
+    let cell = asked.word("CELL").or(asked.word("CELL1"))?;
+    let line = line_of(alloc, files, cell, at)?;
+    let cell = Shown(cell.as_bytes());
+    format!(in alloc; "byte {at} of its cell text, line {line} of {cell}").ok()
 }
 
 // The number of the line of a cell file in which an offset lies.

@@ -19,6 +19,7 @@ mod journal_line;
 mod listed;
 mod misfit_line;
 mod outside_line;
+mod placed;
 mod printed;
 mod quoted;
 mod reading;

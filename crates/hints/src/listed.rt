@@ -2,7 +2,7 @@
 use record_text::cut_line;
 
 /// What stands at the number of a line.
-#[derive(Clone, Copy, Debug, PartialEq, Eq)]
+#[derive(Clone, Copy)]
 pub enum Listed<'a> {
     /// A line.
     Whole(&'a [u8]),

@@ -1,8 +1,9 @@
 //! The line of parts that can't stand so, of a number that is too large, and of a frame that is not taken.
 use crate::asked::Asked;
 use crate::listed::{Listed, line_at};
+use crate::placed;
 use crate::printed::refused;
-use crate::quoted::{Quoted, Shown};
+use crate::quoted::Shown;
 use crate::reading::bytes_of;
 use crate::replies::refusal_named;
 use crate::texts::{Misfit, misfit_text};
@@ -32,8 +33,7 @@ fn carry_line(alloc: Global, asked: &Asked<'_>, line: &str) -> Option<String> {
     let mut words = refused(line)?;
     let job = words.number()?;
     let why = misfit_text(&misfit_named(words.word()?)?);
-    let cell = Shown(asked.word("CELL2")?.as_bytes());
-    format!(in alloc; "{cell}, part {job}: {why}").ok()
+    placed::at_number(alloc, asked.word("CELL2")?, "part", job, why)
 }
 
 // The line of a start file that is not granted.
@@ -47,14 +47,10 @@ fn start_line<F: Files>(
     let number = words.small()?;
     let why = misfit_text(&misfit_named(words.word()?)?);
     let name = asked.word("START")?;
-    let file = Shown(name.as_bytes());
     let bytes = bytes_of(alloc, files, name, MAX_START_BYTES as u32);
     match line_at(bytes.as_deref().unwrap_or(b""), number) {
-        Listed::Whole(line) | Listed::Cut(line) => {
-            let line = Quoted(line);
-            format!(in alloc; "{file}, line {number}, {line}: {why}").ok()
-        }
-        Listed::Missing => format!(in alloc; "{file}, line {number}: {why}").ok(),
+        Listed::Whole(line) | Listed::Cut(line) => placed::at_line(alloc, name, number, line, why),
+        Listed::Missing => placed::at_number(alloc, name, "line", u64::from(number), why),
     }
 }
 
@@ -71,8 +67,7 @@ fn follow_line(alloc: Global, asked: &Asked<'_>, line: &str) -> Option<String> {
     let mut words = refused(line)?;
     let index = words.number()?;
     let why = misfit_text(&misfit_named(words.word()?)?);
-    let file = Shown(asked.word("FRAMES")?.as_bytes());
-    format!(in alloc; "{file}, frame of grant {index}: {why}").ok()
+    placed::at_number(alloc, asked.word("FRAMES")?, "frame of grant", index, why)
 }
 
 // What a word of such a line stands for.

@@ -3,6 +3,7 @@ ghost use Rattle.cell_base.specs.Fits.{CellFits};
 
 use crate::asked::Asked;
 use crate::listed::{Listed, line_at};
+use crate::placed;
 use crate::printed::refused;
 use crate::quoted::{Quoted, Shown};
 use crate::reading::{bytes_of, cell_of};
@@ -34,23 +35,32 @@ pub fn record_line<F: Files>(
             NO_RECORD_LINE,
         ),
     };
-    let file = Shown(name.as_bytes());
     if number == 0 {
+        let file = Shown(name.as_bytes());
         return format!(in alloc; "{file}: more than {limit} bytes").ok();
     }
-    let Some(bytes) = bytes_of(alloc, files, name, limit) else {
-        return format!(in alloc; "{file}, line {number}: {text}").ok();
+    let bytes = bytes_of(alloc, files, name, limit);
+    bad_line(alloc, name, number, bytes.as_deref(), text)
+}
+
+// A line that is none of its kind, where the file can be read again.
+fn bad_line(
+    alloc: Global,
+    file: &str,
+    number: u32,
+    bytes: Option<&[u8]>,
+    text: &str,
+) -> Option<String> {
+    let Some(bytes) = bytes else {
+        return placed::at_number(alloc, file, "line", u64::from(number), text);
     };
-    match line_at(&bytes, number) {
-        Listed::Whole(line) => {
-            let line = Quoted(line);
-            format!(in alloc; "{file}, line {number}, {line}: {text}").ok()
+    match line_at(bytes, number) {
+        Listed::Whole(line) => placed::at_line(alloc, file, number, line, text),
+        Listed::Cut(line) => placed::at_line(alloc, file, number, line, "its newline is missing"),
+        Listed::Missing => {
+            let number = u64::from(number);
+            placed::at_number(alloc, file, "line", number, "the text ends before it")
         }
-        Listed::Cut(line) => {
-            let line = Quoted(line);
-            format!(in alloc; "{file}, line {number}, {line}: its newline is missing").ok()
-        }
-        Listed::Missing => format!(in alloc; "{file}, line {number}: the text ends before it").ok(),
     }
 }
 
@@ -66,16 +76,32 @@ pub fn verdict_line<F: Files>(
     let number = words.small()?;
     let text = verdict_text(why_named(words.word()?)?);
     let name = asked.word("RECORD")?;
-    let file = Shown(name.as_bytes());
-    let Some(bytes) = bytes_of(alloc, files, name, MAX_RECORD_BYTES as u32) else {
-        return format!(in alloc; "{file}, line {number}: {text}").ok();
-    };
-    let Listed::Whole(line) = line_at(&bytes, number) else {
+    match bytes_of(alloc, files, name, MAX_RECORD_BYTES as u32) {
+        Some(bytes) => {
+            let cell = cell_of(alloc, files, asked.word("CELL")?)?;
+            owed_line(alloc, cell, name, &bytes, number, text)
+        }
+        None => placed::at_number(alloc, name, "line", u64::from(number), text),
+    }
+}
+
+// A line that is wrong, and what is right there.
+fn owed_line(
+    alloc: Global,
+    cell: Cell,
+    file: &str,
+    bytes: &[u8],
+    number: u32,
+    text: &str,
+) -> Option<String>
+    requires { CellFits cell }
+{
+    let Listed::Whole(line) = line_at(bytes, number) else {
         return None;
     };
+    let owed = owed_words(alloc, cell, bytes, number)?;
+    let file = Shown(file.as_bytes());
     let line = Quoted(line);
-    let cell = cell_of(alloc, files, asked.word("CELL")?)?;
-    let owed = owed_words(alloc, cell, &bytes, number)?;
     format!(in alloc; "{file}, line {number}, {line}: {text}: {owed}").ok()
 }
 

@@ -6,7 +6,7 @@ use cell_base::{Cell, Entry, Reply, Request, Told, request_fits};
 use record_text::{Block, Tail};
 
 /// What is right at a line.
-#[derive(Clone, Copy, Debug, PartialEq, Eq)]
+#[derive(Clone, Copy)]
 pub enum Owed {
     /// So many grants, or so many parts.
     Number(u64),

@@ -21,18 +21,27 @@ impl Display for Told<'_> {
         let word = refusal_word(&why);
         let text = refusal_text(&why);
         write!(f, "refused {word}")?;
-        if let Refusal::Saturated {
-            at,
-            count,
-            capacity,
-        } = why
-        {
-            if let Some(resource) = self.cell.resources.as_slice().get(usize::from(at.0)) {
-                let name = Shown(resource.name.bytes());
-                write!(f, " {name} {count} of {capacity}")?;
-            }
-        }
+        write_count(f, self.cell, &why)?;
         write!(f, ", {text}")
+    }
+}
+
+// What a refusal says of a neighborhood.
+fn write_count<W: Write>(f: &mut Formatter<W>, cell: &Cell, why: &Refusal) -> fmt::Result {
+    let Refusal::Saturated {
+        at,
+        count,
+        capacity,
+    } = *why
+    else {
+        return Ok(());
+    };
+    match cell.resources.as_slice().get(usize::from(at.0)) {
+        Some(resource) => {
+            let name = Shown(resource.name.bytes());
+            write!(f, " {name} {count} of {capacity}")
+        }
+        None => Ok(()),
     }
 }
 

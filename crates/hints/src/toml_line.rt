@@ -1,5 +1,6 @@
 //! The line of a fault in a TOML file: the file, the place, the value that was found there, and what is wrong.
 use crate::document::{Document, foreign_key, key_of, section_of, value_at};
+use crate::placed;
 use crate::quoted::{Quoted, Shown};
 use cell_base::{Field, Place, Section};
 use std::alloc::Global;
@@ -49,23 +50,30 @@ fn unplaced_line(
     fault: &TomlFault<'_>,
     document: Option<&Document>,
 ) -> Option<String> {
-    let file = Shown(fault.file.as_bytes());
     let text = fault.text;
     if let Some(count) = fault.count {
+        let file = Shown(fault.file.as_bytes());
         return format!(in alloc; "{file}: {text}, namely {count}").ok();
     }
     match document {
         Some(Document::NotToml(error)) => {
             let error = format!(in alloc; "{error}").ok()?;
-            let (place, message) = error.as_str().split_once("\n")?;
-            let message = Shown(message.trim_end().as_bytes());
-            format!(in alloc; "{file}: {place}: {message}").ok()
+            error_line(alloc, fault.file, error.as_str())
         }
         Some(Document::NoText(at)) => {
+            let file = Shown(fault.file.as_bytes());
             format!(in alloc; "{file}: {text}: byte {at} is no UTF-8").ok()
         }
-        _ => format!(in alloc; "{file}: {text}").ok(),
+        _ => placed::whole(alloc, fault.file, text),
     }
+}
+
+// The reader's own words of what is no document, the place before the first newline.
+fn error_line(alloc: Global, file: &str, error: &str) -> Option<String> {
+    let (place, message) = error.split_once("\n")?;
+    let file = Shown(file.as_bytes());
+    let message = Shown(message.trim_end().as_bytes());
+    format!(in alloc; "{file}: {place}: {message}").ok()
 }
 
 // A place with the name of its section, where the document has one.
@@ -77,24 +85,37 @@ struct At<'a> {
 
 impl Display for At<'_> {
     fn fmt<W: Write>(&self, f: &mut Formatter<W>) -> fmt::Result {
-        let item = self.place.item;
-        match self.place.section {
-            Section::Top => {}
-            Section::OfResource => write!(f, ", resource {item}")?,
-            Section::OfJobType => write!(f, ", type {item}")?,
-            Section::OfSession => write!(f, ", session {item}")?,
-        }
+        write_section(f, &self.place)?;
         if let Some(name) = self.name() {
             let name = Quoted(name.as_bytes());
             write!(f, " {name}")?;
         }
-        match (key_of(self.place.field), self.place.at) {
-            (Some("steps"), Some(at)) => write!(f, ", step {at}"),
-            (Some(key), Some(at)) => write!(f, ", {key} {at}"),
-            (Some(key), None) => write!(f, ", {key}"),
-            (None, _) => Ok(()),
-        }
+        write_field(f, &self.place)
     }
+}
+
+// The section of a place, with its number.
+fn write_section<W: Write>(f: &mut Formatter<W>, place: &Place) -> fmt::Result {
+    let kind = match place.section {
+        Section::Top => return Ok(()),
+        Section::OfResource => "resource",
+        Section::OfJobType => "type",
+        Section::OfSession => "session",
+    };
+    let item = place.item;
+    write!(f, ", {kind} {item}")
+}
+
+// The field of a place, and where in it.
+fn write_field<W: Write>(f: &mut Formatter<W>, place: &Place) -> fmt::Result {
+    let Some(key) = key_of(place.field) else {
+        return Ok(());
+    };
+    let Some(at) = place.at else {
+        return write!(f, ", {key}");
+    };
+    let key = if key == "steps" { "step" } else { key };
+    write!(f, ", {key} {at}")
 }
 
 impl<'a> At<'a> {

@@ -1,8 +1,12 @@
 //! The line of words that are no command, and of a step or frames that are refused.
+ghost use Rattle.cell_base.specs.Fits.{CellFits};
+
 use crate::asked::Asked;
+use crate::placed;
 use crate::quoted::{Quoted, Shown};
 use crate::reading::{bytes_of, cell_of};
 use crate::texts::{NO_FRAMES, NO_NUMBER, step_text, unknown_step};
+use cell_base::Cell;
 use outside_io::Files;
 use std::alloc::Global;
 use step_text::{StepFault, read_step};
@@ -19,6 +23,11 @@ pub fn words_line(alloc: Global, usage: &str, words: &[String]) -> Option<String
     let Some(asked) = Asked::new(usage, words) else {
         return format!(in alloc; "{verb}: no command").ok();
     };
+    asked_line(alloc, &asked)
+}
+
+// The words of a command that aren't as many as it has, or of which one is no number.
+fn asked_line(alloc: Global, asked: &Asked<'_>) -> Option<String> {
     let (given, wanted, form) = (asked.given(), asked.wanted(), asked.form());
     if given != wanted {
         return format!(in alloc;
@@ -33,24 +42,36 @@ pub fn words_line(alloc: Global, usage: &str, words: &[String]) -> Option<String
 pub fn step_line<F: Files>(alloc: Global, files: &mut F, asked: &Asked<'_>) -> Option<String> {
     let step = asked.word("STEP")?;
     let cell = cell_of(alloc, files, asked.word("CELL")?)?;
-    let text = match read_step(&cell, step.as_bytes()) {
-        Ok(_) => return None,
-        Err(StepFault::UnknownName) => unknown_step(step),
-        Err(fault) => step_text(fault),
-    };
+    let text = refused_step(&cell, step)?;
     let step = Quoted(step.as_bytes());
     format!(in alloc; "{step}: {text}").ok()
+}
+
+// What is wrong with a step.
+fn refused_step(cell: &Cell, step: &str) -> Option<&'static str>
+    requires { CellFits cell.now }
+{
+    match read_step(cell, step.as_bytes()) {
+        Ok(_) => None,
+        Err(StepFault::UnknownName) => Some(unknown_step(step)),
+        Err(fault) => Some(step_text(fault)),
+    }
 }
 
 /// What is wrong with a file of frames.
 pub fn frames_line<F: Files>(alloc: Global, files: &mut F, asked: &Asked<'_>) -> Option<String> {
     let name = asked.word("FRAMES")?;
-    let file = Shown(name.as_bytes());
-    match bytes_of(alloc, files, name, MAX_FRAMES) {
-        Some(bytes) if bytes.len() as u64 <= u64::from(MAX_FRAMES) => {
-            let count = bytes.len();
+    match length_of(alloc, files, name) {
+        Some(count) if count <= u64::from(MAX_FRAMES) => {
+            let file = Shown(name.as_bytes());
             format!(in alloc; "{file}, {count} bytes: {NO_FRAMES}").ok()
         }
-        _ => format!(in alloc; "{file}: {NO_FRAMES}").ok(),
+        _ => placed::whole(alloc, name, NO_FRAMES),
     }
+}
+
+// How many bytes a file of frames has, up to one more than the limit, where it can be read again.
+fn length_of<F: Files>(alloc: Global, files: &mut F, name: &str) -> Option<u64> {
+    let bytes = bytes_of(alloc, files, name, MAX_FRAMES)?;
+    Some(bytes.len() as u64)
 }

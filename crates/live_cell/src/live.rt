@@ -17,13 +17,25 @@ use std::marker::Model;
 
 /// A core with the journal of its grants, and a group of grants that are decided and not yet stable. Contracts see it as a
 /// `LiveState`. All memory is taken at the opening.
-#[derive(Drop)]
 pub struct LiveCell<D: Disk> {
     core: Core,
     journal: Journal<D>,
     group: Group,
     most: u64,
     room: u64,
+}
+
+// Written out, so that letting a live cell go is one step in each proof and not a walk through all that it holds.
+impl<D: Disk + Drop> Drop for LiveCell<D> {
+    fn drop(self) {
+        let LiveCell {
+            core: _,
+            journal: _,
+            group: _,
+            most: _,
+            room: _,
+        } = self;
+    }
 }
 
 impl<D: Disk> Model for LiveCell<D> {
@@ -218,6 +230,6 @@ impl<D: Disk> LiveCell<D> {
     pub fn into_disk(self) -> D
         ensures { result ≡ self.disk }
     {
-        self.journal.into_disk()
+        self.finish().disk
     }
 }

@@ -91,12 +91,22 @@ fn best(alloc: Global, cell: &Cell, resources: u16) -> Result<Advice, NoMemory>
     ensures { IfOk result (IsBest cell.now) }
 {
     let table = StageTable::new(alloc, cell)?;
-    let costs = least_costs(alloc, &table, resources)?;
+    best_of(alloc, &table, resources)
+}
+
+/// The same over the stages of the cell.
+fn best_of(alloc: Global, table: &StageTable, resources: u16) -> Result<Advice, NoMemory>
+    requires fits { CellFits table.now }
+    requires resources { resources ≡ length table.now.resources }
+    requires limit { resources ≤ ARRANGED }
+    ensures { IfOk result (IsBest table.now) }
+{
+    let costs = least_costs(alloc, table, resources)?;
     let least = costs[(1 << resources) - 1];
     Ok(Advice {
         orders: orders(alloc, resources, least)?,
         weight: (least / hex(resources)) as u64,
-        given: given(alloc, &table, resources)?,
+        given: given(alloc, table, resources)?,
     })
 }
 

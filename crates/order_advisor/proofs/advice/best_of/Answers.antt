@@ -7,10 +7,9 @@ use Rattle.std.proofs.Math.Pow.{pow_mono}
 use Rattle.std.proofs.lemmas.Nat.{one_shl}
 use Rattle.std.proofs.lemmas.Option.{get_or_from_slice_get, slice_get-get_or}
 use Rattle.cell_base.specs.declared.cells.Cell.{Cell}
-use Rattle.order_advisor.specs.Orders.{own_weight}
 use Rattle.order_advisor.specs.Sets.{hex, most_cost, order_in, KnowsLeast}
 use Rattle.order_advisor.proofs.Best.{is_best}
-use Rattle.order_advisor.proofs.advice.best.Goals as goal
+use Rattle.order_advisor.proofs.advice.best_of.Goals as goal
 
 -- the last element, whatever stands for one that is not there
 last_cost : (n last : ℕ) (costs : List ℕ) → n ≤ 16 → length costs ≡ 2 ^ n → last ≡ get_or costs (1 * 2 ^ n % 2 ^ 64 - 1) last
@@ -40,18 +39,17 @@ overflow_cast-result c =
     let costs = c.in_ok-costs.costs.items in
     let read = last_cost n last costs c.requires.limit c.in_ok-costs.ensures.length c.index-least.ensures in
     let small : last / c.hex.result < 2 ^ 64 = subst (λ h. last / h < 2 ^ 64) (sym c.hex.ensures.value)
-    (weight-small c.in_ok-table.table n last costs c.requires.limit c.in_ok-costs.ensures.least read) in
+    (weight-small c.args.table.now n last costs c.requires.limit c.in_ok-costs.ensures.least read) in
     omega (arith, small)
 
 pub returns : goal.returns
 returns c =
-    let cell = c.args.cell.now in
+    let cell = c.args.table.now in
     let n = c.args.resources in
     let last = c.index-least.result.now in
     let costs = c.in_ok-costs.costs.items in
     let read = last_cost n last costs c.requires.limit c.in_ok-costs.ensures.length c.index-least.ensures in
-    let known = subst (λ (other : Cell). KnowsLeast other n (2 ^ n) costs) c.in_ok-table.ensures c.in_ok-costs.ensures.least in
-    is_best cell n c.requires.resources c.requires.limit costs known _
+    is_best cell n c.requires.resources c.requires.limit costs c.in_ok-costs.ensures.least _
     (c.in_ok-orders.ensures ∙ ap (λ cost. map (order_in n cost) (range_with_len 0 n)) read)
     (ap₂ (λ cost h. cost / h) read c.hex.ensures.value)
-    (c.in_ok-given.ensures ∙ ap own_weight c.in_ok-table.ensures)
+    c.in_ok-given.ensures
