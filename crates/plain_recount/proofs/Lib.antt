@@ -1,3 +1,3 @@
 pub mod Counting
-pub mod Finishing
+pub mod Found
 pub mod Places

@@ -1,19 +1,23 @@
 //! The changes of granted requests.
-ghost use Rattle.std.specs.Prelude.{◌≡◌, ◌≤◌};
+ghost use Rattle.std.specs.Prelude.{◌≡◌, ◌≤◌, ◌<◌, length, position, IfSome};
 ghost use Rattle.std.specs.Vec.{vec_capacity};
 ghost use Rattle.cell_base.specs.declared.requests.Reply.TheVariants.{Granted};
 ghost use Rattle.cell_base.specs.Stages.{IsStage, stage_of};
+ghost use Rattle.cell_base.specs.Policy.{is_of_job};
 ghost use Rattle.cell_base.specs.Outcomes.{part_of, outcome_of_entry, outcome_of_move, reply_to, state_after};
 ghost use Rattle.cell_base.specs.Fits.{RequestFits, units_of};
+ghost use Rattle.plain_recount.specs.Asking.{place_asked};
 ghost use Rattle.plain_recount.specs.Standing.{IsSound};
 
 use crate::lead_table::LeadTable;
-use crate::parts::{finish_first_on, part_of, take_out};
+use crate::parts::{finish, part_at, take_out};
 use cell_base::{JobId, Part, Request};
 
-/// The change of a granted request.
-pub fn apply(table: &LeadTable<'_>, parts: &mut Vec<Part>, request: &Request)
+/// The change of a granted request, whose part stands there.
+pub fn apply(table: &LeadTable<'_>, parts: &mut Vec<Part>, found: Option<usize>, request: &Request)
     requires sound { IsSound table.now parts.old.items (vec_capacity parts.old) }
+    requires found { found ≡ place_asked table.now parts.old.items request.now }
+    requires within { IfSome found (λ at. at < length parts.old.items) }
     requires request { RequestFits table.now request.now }
     requires granted { reply_to table.now parts.old.items request.now ≡ Granted }
     ensures parts { parts.new.items ≡ state_after table.now parts.old.items request.now }
@@ -21,13 +25,9 @@ pub fn apply(table: &LeadTable<'_>, parts: &mut Vec<Part>, request: &Request)
 {
     match *request {
         Request::Load { job, kind } => enter(table, parts, table.entry(job, kind)),
-        Request::Process { machine } => finish_first_on(
-            table.cell(),
-            parts.as_mut_slice(),
-            machine,
-        ),
-        Request::Move { job, branch } => go_on(table, parts, job, branch),
-        Request::Unload { job } => take_out(parts, job),
+        Request::Process { .. } => finish(parts.as_mut_slice(), found),
+        Request::Move { job, branch } => go_on(table, parts, found, job, branch),
+        Request::Unload { .. } => take_out(parts, found),
         Request::Place {
             job,
             kind,
@@ -58,15 +58,23 @@ fn enter(table: &LeadTable<'_>, parts: &mut Vec<Part>, part: Part)
 }
 
 /// A part that is granted to go on.
-fn go_on(table: &LeadTable<'_>, parts: &mut Vec<Part>, job: JobId, branch: u16)
+fn go_on(
+    table: &LeadTable<'_>,
+    parts: &mut Vec<Part>,
+    found: Option<usize>,
+    job: JobId,
+    branch: u16,
+)
     requires sound { IsSound table.now parts.old.items (vec_capacity parts.old) }
+    requires found { found ≡ position (is_of_job job) parts.old.items }
+    requires within { IfSome found (λ at. at < length parts.old.items) }
     requires granted { (outcome_of_move table.now parts.old.items (part_of parts.old.items job) branch).0 ≡ Granted }
     ensures parts { parts.new.items ≡ (outcome_of_move table.now parts.old.items (part_of parts.old.items job) branch).1 }
     ensures room { units_of table.now.resources ≤ vec_capacity parts.new }
 {
-    if let Some(part) = part_of(parts, job) {
+    if let Some(part) = part_at(parts, found) {
         if let Some(place) = table.next_place(part, branch) {
-            take_out(parts, part.job);
+            take_out(parts, found);
             parts.push_reserved(table.arrival(part.job, part.kind, place));
         }
     }

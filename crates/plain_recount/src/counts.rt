@@ -7,7 +7,6 @@ ghost use Rattle.cell_base.specs.Outcomes.{part_of, without};
 ghost use Rattle.plain_recount.specs.Entering.{enters};
 
 use crate::lead_table::LeadTable;
-use crate::parts::part_of;
 use cell_base::{Part, ResId};
 
 /// How many parts the neighborhood of a resource holds.
@@ -54,13 +53,18 @@ fn is_over_with(
 }
 
 /// The least resource whose neighborhood would then hold too many.
-pub fn first_over(table: &LeadTable<'_>, parts: &[Part], part: Part) -> Option<ResId>
+pub fn first_over(
+    table: &LeadTable<'_>,
+    parts: &[Part],
+    present: Option<Part>,
+    part: Part,
+) -> Option<ResId>
     requires admitted { IsAdmitted table.now parts.now }
+    requires present { present ≡ part_of parts.now part.job }
     requires stage { IsStage table.now (stage_of part) }
     ensures value { option_map (λ r. r.0) result ≡ first_over table.now (without parts.now part.job ++ part ∷ []) }
     ensures within { IfSome result (λ r. r.0 < length table.now.resources) }
 {
-    let present = part_of(parts, part.job);
     for number in 0..table.cell().resources.len() {
         let r = ResId(number as u16);
         if is_over_with(table, parts, present, part, r) {

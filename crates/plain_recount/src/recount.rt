@@ -6,6 +6,7 @@ ghost use Rattle.cell_base.specs.Outcomes.{reply_to, state_after};
 ghost use Rattle.cell_base.specs.Fits.{CellFits, RequestFits, units_of};
 
 use crate::lead_table::LeadTable;
+use crate::parts::place_asked;
 use crate::{changes, counts, replies};
 use cell_base::{Cell, NoMemory, Part, Reply, Request, ResId};
 use std::alloc::Global;
@@ -50,7 +51,9 @@ impl<'a> Recount<'a> {
         requires { RequestFits self.now.cell request.now }
         ensures { result ≡ reply_to self.now.cell self.now.parts request.now }
     {
-        replies::reply_to(&self.table, self.parts.as_slice(), request)
+        let parts = self.parts.as_slice();
+        let found = place_asked(self.table.cell(), parts, request);
+        replies::reply_to(&self.table, parts, found, request)
     }
 
     /// The reply to a request, and its change if it is granted.
@@ -59,9 +62,11 @@ impl<'a> Recount<'a> {
         ensures reply { result ≡ reply_to self.old.cell self.old.parts request.now }
         ensures state { self.new ≡ record self.old { parts = state_after self.old.cell self.old.parts request.now } }
     {
-        let reply = self.decide(request);
+        let parts = self.parts.as_slice();
+        let found = place_asked(self.table.cell(), parts, request);
+        let reply = replies::reply_to(&self.table, parts, found, request);
         if let Reply::Granted = reply {
-            changes::apply(&self.table, &mut self.parts, request);
+            changes::apply(&self.table, &mut self.parts, found, request);
         }
         reply
     }

@@ -1,38 +1,45 @@
 //! Replies to requests.
-ghost use Rattle.std.specs.Prelude.{◌≡◌, ◌≤◌, ◌++◌, ◌∷◌, [], length, List, Some};
+ghost use Rattle.std.specs.Prelude.{◌≡◌, ◌≤◌, ◌<◌, ◌++◌, ◌∷◌, [], length, position, List, Some, IfSome};
 ghost use Rattle.cell_base.specs.declared.limits.TheConstants.{MAX_UNITS};
 ghost use Rattle.cell_base.specs.declared.requests.Part.{Part};
-ghost use Rattle.cell_base.specs.Policy.{IsAdmitted};
+ghost use Rattle.cell_base.specs.Policy.{IsAdmitted, is_of_job};
 ghost use Rattle.cell_base.specs.Stages.{IsStage, stage_of};
-ghost use Rattle.cell_base.specs.Outcomes.{without, admit, outcome_of_entry, outcome_of_move, outcome_of_unload, reply_to};
+ghost use Rattle.cell_base.specs.Outcomes.{part_of, without, admit, outcome_of_entry, outcome_of_move, outcome_of_unload, reply_to};
 ghost use Rattle.cell_base.specs.Fits.{RequestFits};
+ghost use Rattle.plain_recount.specs.Asking.{place_asked};
 
 use crate::counts::{count, first_over};
 use crate::lead_table::LeadTable;
-use crate::parts::{any_waiting_on, is_loaded, part_of};
+use crate::parts::part_at;
 use cell_base::{Part, Refusal, Reply, Request};
 
-/// The reply to a request.
-pub fn reply_to(table: &LeadTable<'_>, parts: &[Part], request: &Request) -> Reply
+/// The reply to a request, whose part stands there.
+pub fn reply_to(
+    table: &LeadTable<'_>,
+    parts: &[Part],
+    found: Option<usize>,
+    request: &Request,
+) -> Reply
     requires few { length parts.now ≤ MAX_UNITS }
     requires admitted { IsAdmitted table.now parts.now }
     requires request { RequestFits table.now request.now }
+    requires found { found ≡ place_asked table.now parts.now request.now }
+    requires within { IfSome found (λ at. at < length parts.now) }
     ensures { result ≡ reply_to table.now parts.now request.now }
 {
     match *request {
-        Request::Load { job, kind } => reply_to_entry(table, parts, table.entry(job, kind)),
-        Request::Process { machine } => {
-            if any_waiting_on(table.cell(), parts, machine) {
-                Reply::Granted
-            } else {
-                Reply::Refused(Refusal::Idle)
-            }
+        Request::Load { job, kind } => {
+            reply_to_entry(table, parts, found, table.entry(job, kind))
         }
-        Request::Move { job, branch } => match part_of(parts, job) {
+        Request::Process { .. } => match found {
+            None => Reply::Refused(Refusal::Idle),
+            Some(_) => Reply::Granted,
+        },
+        Request::Move { branch, .. } => match part_at(parts, found) {
             None => Reply::Refused(Refusal::NoSuchJob),
             Some(part) => reply_to_move(table, parts, part, branch),
         },
-        Request::Unload { job } => match part_of(parts, job) {
+        Request::Unload { .. } => match part_at(parts, found) {
             None => Reply::Refused(Refusal::NoSuchJob),
             Some(part) => reply_to_unload(table, part),
         },
@@ -44,6 +51,7 @@ pub fn reply_to(table: &LeadTable<'_>, parts: &[Part], request: &Request) -> Rep
         } => reply_to_entry(
             table,
             parts,
+            found,
             Part {
                 job,
                 kind,
@@ -54,17 +62,17 @@ pub fn reply_to(table: &LeadTable<'_>, parts: &[Part], request: &Request) -> Rep
     }
 }
 
-/// The reply to a part that comes new into the cell.
-fn reply_to_entry(table: &LeadTable<'_>, parts: &[Part], part: Part) -> Reply
+/// The reply to a part that comes new into the cell, where its job has no part yet.
+fn reply_to_entry(table: &LeadTable<'_>, parts: &[Part], found: Option<usize>, part: Part) -> Reply
     requires few { length parts.now ≤ MAX_UNITS }
     requires admitted { IsAdmitted table.now parts.now }
     requires stage { IsStage table.now (stage_of part) }
+    requires found { found ≡ position (is_of_job part.job) parts.now }
     ensures { result ≡ (outcome_of_entry table.now parts.now part).0 }
 {
-    if is_loaded(parts, part.job) {
-        Reply::Refused(Refusal::JobLoaded)
-    } else {
-        reply_to_arrival(table, parts, part)
+    match found {
+        None => reply_to_arrival(table, parts, None, part),
+        Some(_) => Reply::Refused(Refusal::JobLoaded),
     }
 }
 
@@ -73,6 +81,7 @@ fn reply_to_move(table: &LeadTable<'_>, parts: &[Part], part: Part, branch: u16)
     requires few { length parts.now ≤ MAX_UNITS }
     requires admitted { IsAdmitted table.now parts.now }
     requires stage { IsStage table.now (stage_of part) }
+    requires present { part_of parts.now part.job ≡ Some part }
     ensures { result ≡ (outcome_of_move table.now parts.now (Some part) branch).0 }
 {
     if !part.done {
@@ -85,6 +94,7 @@ fn reply_to_move(table: &LeadTable<'_>, parts: &[Part], part: Part, branch: u16)
             Some(place) => reply_to_arrival(
                 table,
                 parts,
+                Some(part),
                 table.arrival(part.job, part.kind, place),
             ),
         }
@@ -106,13 +116,19 @@ fn reply_to_unload(table: &LeadTable<'_>, part: Part) -> Reply
 }
 
 /// The reply where the part would come in the place of its job's present one.
-fn reply_to_arrival(table: &LeadTable<'_>, parts: &[Part], part: Part) -> Reply
+fn reply_to_arrival(
+    table: &LeadTable<'_>,
+    parts: &[Part],
+    present: Option<Part>,
+    part: Part,
+) -> Reply
     requires few { length parts.now ≤ MAX_UNITS }
     requires admitted { IsAdmitted table.now parts.now }
     requires stage { IsStage table.now (stage_of part) }
+    requires present { present ≡ part_of parts.now part.job }
     ensures { result ≡ (admit table.now parts.now (without parts.now part.job ++ part ∷ [])).0 }
 {
-    match first_over(table, parts, part) {
+    match first_over(table, parts, present, part) {
         None => Reply::Granted,
         Some(at) => Reply::Refused(Refusal::Saturated {
             at,

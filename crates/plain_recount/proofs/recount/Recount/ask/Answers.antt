@@ -3,6 +3,7 @@ use Rattle.std.proofs.Common.{sym, subst}
 use Rattle.cell_base.specs.Fits.{RequestFits}
 use Rattle.plain_recount.specs.Standing.{Standing}
 use Rattle.policy_laws.proofs.Admission.{admission_law}
+use Rattle.policy_laws.proofs.Room.{few_parts}
 use Rattle.plain_recount.proofs.recount.Recount.ask.Goals as goal
 
 pub invariant_of-self : goal.invariant_of-self
@@ -19,3 +20,7 @@ invariant_of-self c =
       },
       c.self.invariant.1,
     )
+
+pub reply_to-reply-requires-clause-few : goal.reply_to-reply-requires-clause-few
+reply_to-reply-requires-clause-few c =
+    rw c.as_slice-parts.ensures.value (few_parts _ c.self.invariant.0.fits _ c.self.invariant.0.admitted)
