@@ -1,14 +1,15 @@
 -- The row of a stage, and what it tells of a part there.
-use Rattle.std.proofs.Common.{◌≡◌, ℕ, zero, suc, ◌+◌, ◌<◌, ◌==◌, Bool, true, false, not, List, [], ◌∷◌, length}
+use Rattle.std.proofs.Common.{◌≡◌, ℕ, zero, suc, ◌+◌, ◌<◌, ◌==◌, Bool, true, false, not, cond, List, [], ◌∷◌, length}
 use Rattle.std.proofs.Common.{Option, Some, None, slice_get, get_or, ap, subst, sym, refl, ◌∙◌, ⊎_elim, ◌++◌, arith}
 use Rattle.std.specs.Option.{option_map, is_some, IfSome}
 use Rattle.std.proofs.lemmas.Bool.{false≢true, true≢false, ne_eqb}
 use Rattle.std.proofs.lemmas.Option.{none-some}
 use Rattle.part_table.proofs.Places.{get_in_push}
 use Rattle.cell_base.specs.declared.cells.Cell.{Cell}
-use Rattle.cell_base.specs.Stages.{Stage, stage, IsStage, successor}
+use Rattle.cell_base.specs.declared.requests.Part.{Part}
+use Rattle.cell_base.specs.Stages.{Stage, stage, stage_of, IsStage, successor}
 use Rattle.cell_base.specs.Numbers.{number_of, stage_numbered}
-use Rattle.cell_base.specs.Plans.{work_from}
+use Rattle.cell_base.specs.Plans.{work_from, work_of}
 use Rattle.policy_laws.proofs.Numbering.{numbering_law}
 use Rattle.admission_core.specs.declared.stage_rows.Row.{Row}
 use Rattle.admission_core.specs.Rows.{AreRows, IsRowOf}
@@ -67,3 +68,12 @@ stage_named s kind place of at = λ i. record { kind = sym of i; place = sym at 
 -- a part that is not done needs one step more
 pub work_undone : (cell : Cell) (s : Stage) (left : ℕ) → left ≡ work_from cell s true → left + 1 ≡ work_from cell s false
 work_undone cell s left is = omega (arith, is)
+
+-- the steps that a part needs, by the row of its stage
+pub work_by_row : (cell : Cell) (part : Part) (row : Row) → IsRowOf cell (stage_of part) row → (n : ℕ)
+    → n ≡ cond part.done row.left (row.left + 1) → n ≡ work_of cell part
+work_by_row cell part row is n e = e ∙ at part.done
+  where
+    at : (done : Bool) → cond done row.left (row.left + 1) ≡ work_from cell (stage_of part) done
+    at true = is.left
+    at false = work_undone cell (stage_of part) row.left is.left

@@ -5,9 +5,11 @@ ghost use Rattle.cell_base.specs.Outcomes.{finish_first, is_waiting_on, outcome_
 ghost use Rattle.admission_core.specs.Clauses.{Granted, IsStage, Process, RequestFits, part_of, reply_to, stage_of, state_after};
 ghost use Rattle.admission_core.specs.CoreState.{IsSound, IsTallied};
 ghost use Rattle.admission_core.specs.Occupied.{IsMarked};
+ghost use Rattle.admission_core.specs.Rows.{IsRowOf};
 
 use crate::lead_table::LeadTable;
 use crate::occupied::Occupied;
+use crate::stage_rows::Row;
 use crate::tally::Tally;
 use cell_base::{JobId, Part, Request, ResId};
 use part_table::Found;
@@ -56,21 +58,24 @@ fn come_in(table: &LeadTable, tally: &mut Tally, occupied: &mut Occupied, part: 
     ensures tallied { IsTallied table.now tally.new }
     ensures marked { IsMarked table.now tally.new.parts.parts occupied.new }
 {
-    enter(table, tally, part);
-    occupied.mark(table.resource_at(part));
+    let there = table.row_of(part);
+    enter(table, tally, part, there);
+    occupied.mark(there.on);
 }
 
 /// A part that is granted to enter.
-fn enter(table: &LeadTable, tally: &mut Tally, part: Part)
+fn enter(table: &LeadTable, tally: &mut Tally, part: Part, there: Row)
     requires sound { IsSound table.now tally.old }
     requires stage { IsStage table.now (stage_of part) }
+    requires there { IsRowOf table.now (stage_of part) there }
     requires granted { (outcome_of_entry table.now tally.old.parts.parts part).0 ≡ Granted }
     ensures parts { tally.new.parts.parts ≡ (outcome_of_entry table.now tally.old.parts.parts part).1 }
     ensures tallied { IsTallied table.now tally.new }
 {
-    tally.counts.enter(table.mask(part));
-    tally.parts.arrive(part, table.resource_at(part));
-    tally.work += table.work_of(part);
+    let _cell = table.cell();
+    tally.counts.enter(there.mask);
+    tally.parts.arrive(part, there.on);
+    tally.work += there.work(part.done);
 }
 
 /// The work on the first part that waits on the machine.
@@ -135,10 +140,11 @@ fn pass_on(table: &LeadTable, tally: &mut Tally, occupied: &mut Occupied, found:
     ensures tallied { IsTallied table.now tally.new }
     ensures marked { IsMarked table.now tally.new.parts.parts occupied.new }
 {
-    let from = table.resource_at(found.part);
-    put_on(table, tally, found, next);
-    occupied.mark(table.resource_at(next));
-    unmark_free(table, tally, occupied, from);
+    let here = table.row_of(found.part);
+    let there = table.row_of(next);
+    put_on(table, tally, found, next, here, there);
+    occupied.mark(there.on);
+    unmark_free(table, tally, occupied, here.on);
 }
 
 /// A resource that a part has left is marked no longer where no other part stands there.
@@ -154,25 +160,24 @@ fn unmark_free(table: &LeadTable, tally: &Tally, occupied: &mut Occupied, from: 
 }
 
 /// A part goes on to its next stage.
-fn put_on(table: &LeadTable, tally: &mut Tally, found: Found, next: Part)
+fn put_on(table: &LeadTable, tally: &mut Tally, found: Found, next: Part, here: Row, there: Row)
     requires sound { IsSound table.now tally.old }
     requires found { part_of tally.old.parts.parts found.part.job ≡ Some found.part }
     requires same { next ≡ record found.part { place = next.place; done = next.done } }
     requires stage { IsStage table.now (stage_of next) }
+    requires here { IsRowOf table.now (stage_of found.part) here }
+    requires there { IsRowOf table.now (stage_of next) there }
     requires room { first_over table.now (without tally.old.parts.parts found.part.job ++ next ∷ []) ≡ None }
     ensures parts { tally.new.parts.parts ≡ without tally.old.parts.parts found.part.job ++ next ∷ [] }
     ensures tallied { IsTallied table.now tally.new }
 {
     let part = found.part;
-    tally.counts.shift(table.mask(part), table.mask(next));
-    tally.parts.advance_near(
-        found.clue,
-        part.job,
-        next.place,
-        next.done,
-        table.resource_at(next),
-    );
-    tally.work = tally.work - table.work_of(part) + table.work_of(next);
+    let _cell = table.cell();
+    tally.counts.shift(here.mask, there.mask);
+    tally
+        .parts
+        .advance_near(found.clue, part.job, next.place, next.done, there.on);
+    tally.work = tally.work - here.work(part.done) + there.work(next.done);
 }
 
 /// The part of a job leaves the cell.
@@ -197,20 +202,22 @@ pub fn send_out(table: &LeadTable, tally: &mut Tally, occupied: &mut Occupied, f
     ensures tallied { IsTallied table.now tally.new }
     ensures marked { IsMarked table.now tally.new.parts.parts occupied.new }
 {
-    let from = table.resource_at(found.part);
-    take_out(table, tally, found);
-    unmark_free(table, tally, occupied, from);
+    let here = table.row_of(found.part);
+    take_out(table, tally, found, here);
+    unmark_free(table, tally, occupied, here.on);
 }
 
 /// A part leaves the cell.
-fn take_out(table: &LeadTable, tally: &mut Tally, found: Found)
+fn take_out(table: &LeadTable, tally: &mut Tally, found: Found, here: Row)
     requires sound { IsSound table.now tally.old }
+    requires here { IsRowOf table.now (stage_of found.part) here }
     requires found { part_of tally.old.parts.parts found.part.job ≡ Some found.part }
     ensures parts { tally.new.parts.parts ≡ without tally.old.parts.parts found.part.job }
     ensures tallied { IsTallied table.now tally.new }
 {
     let part = found.part;
-    tally.counts.leave(table.mask(part));
+    let _cell = table.cell();
+    tally.counts.leave(here.mask);
     tally.parts.depart_near(found.clue, part.job);
-    tally.work -= table.work_of(part);
+    tally.work -= here.work(part.done);
 }

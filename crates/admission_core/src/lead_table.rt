@@ -3,7 +3,6 @@ ghost use Rattle.std.specs.Prelude.{◌≡◌, ◌<◌, length, IfOk, IfSome, op
 ghost use Rattle.cell_base.specs.Stages.{stage, IsStage, stage_of, is_last, resource_at, successor};
 ghost use Rattle.cell_base.specs.Neighborhoods.{mask_of, masks_of};
 ghost use Rattle.cell_base.specs.Outcomes.{arrival};
-ghost use Rattle.cell_base.specs.Plans.{work_of};
 ghost use Rattle.cell_base.specs.Fits.{CellFits};
 ghost use Rattle.admission_core.specs.Rows.{IsRowOf};
 
@@ -93,6 +92,14 @@ impl LeadTable {
         self.rows[stage.0 as usize]
     }
 
+    /// The row of a part's stage.
+    pub fn row_of(&self, part: Part) -> Row
+        requires { IsStage self.now (stage_of part) }
+        ensures { IsRowOf self.now (stage_of part) result }
+    {
+        self.row(part.kind, part.place)
+    }
+
     /// The mask of a part's stage.
     pub fn mask(&self, part: Part) -> u64
         requires { IsStage self.now (stage_of part) }
@@ -108,15 +115,6 @@ impl LeadTable {
         ensures within { result.0 < length self.now.resources }
     {
         self.row(part.kind, part.place).on
-    }
-
-    /// The steps that a part needs until it is out.
-    pub fn work_of(&self, part: Part) -> u64
-        requires { IsStage self.now (stage_of part) }
-        ensures { result ≡ work_of self.now part }
-    {
-        let left = u64::from(self.row(part.kind, part.place).left);
-        if part.done { left } else { left + 1 }
     }
 
     /// Whether a part stands at a last stage.

@@ -1,5 +1,5 @@
 //! What the core looks up of each stage, in one row.
-ghost use Rattle.std.specs.Prelude.{◌≡◌, IfOk};
+ghost use Rattle.std.specs.Prelude.{◌≡◌, ◌+◌, if◌then◌else◌, IfOk};
 ghost use Rattle.cell_base.specs.Neighborhoods.{masks_of};
 ghost use Rattle.cell_base.specs.Numbers.{IsNumber, stage_numbered};
 ghost use Rattle.admission_core.specs.Rows.{AreRows, IsRowOf};
@@ -18,6 +18,16 @@ pub struct Row {
     pub on: ResId,
     pub works: bool,
     pub first: Option<u16>,
+}
+
+impl Row {
+    /// The steps that a part at the stage needs until it is out.
+    pub fn work(self, done: bool) -> u64
+        ensures { result ≡ (if done then self.left else self.left + 1) }
+    {
+        let left = u64::from(self.left);
+        if done { left } else { left + 1 }
+    }
 }
 
 /// The rows of all stages, by their numbers.

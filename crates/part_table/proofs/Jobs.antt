@@ -12,7 +12,7 @@ use Rattle.part_table.specs.declared.standing.Entry.{Entry}
 use Rattle.part_table.specs.declared.heads.TheConstants.{NOWHERE}
 use Rattle.part_table.specs.Heads.{IsFirst}
 use Rattle.part_table.specs.Standings.{parts_of, is_job, finished}
-use Rattle.part_table.specs.Logs.{done_entry, staying, job_of, IsAbsent, IsPlaceOf, IsPlaceOfFirst, ArePlaces}
+use Rattle.part_table.specs.Logs.{done_entry, staying, job_of, IsAbsent, IsPlaceOf, IsPlaceOfFirst, IsKnown}
 use Rattle.part_table.proofs.Standings.{part_of-find}
 use Rattle.part_table.proofs.Staying.{passes, first_staying, none_staying, staying_finished}
 use Rattle.part_table.proofs.Staying.{found_by_key, passes_by_key, none_by_key}
@@ -46,17 +46,17 @@ part_absent entries job absent =
     ∙ sym (part_of-find (staying entries) job)
 
 -- where a part of the job stands, what is known of the job is its place
-module _ (entries : List Entry) (places : ℕ → Option ℕ) (are : ArePlaces entries places) where
+module _ (entries : List Entry) (places : ℕ → Option ℕ) (are : IsKnown entries places (λ k entry. k)) where
   -- and no other entry that stays is of the job
   pub only_place : (job : JobId) (at : ℕ) → places job.0 ≡ Some at → (k : ℕ) (entry : Entry) → slice_get entries k ≡ Some entry
       → entry.stays ≡ true → job_of entry ≡ job.0 → k ≡ at
   only_place job at e k entry there stays is =
-      same_Some k at (sym (subst (λ n. places n ≡ Some k) is (are.placed k entry there stays)) ∙ e)
+      same_Some k at (sym (subst (λ n. places n ≡ Some k) is (are k entry there stays)) ∙ e)
 
   pub place_staying : (at : ℕ) (entry : Entry) → slice_get entries at ≡ Some entry → entry.stays ≡ true
       → IsPlaceOf entries entry.item.part.job at
   place_staying at entry there stays =
-      (entry, there, stays, refl, only_place entry.item.part.job at (are.placed at entry there stays))
+      (entry, there, stays, refl, only_place entry.item.part.job at (are at entry there stays))
 
   -- the first place of a key that shows what passes is that of the first part that passes
   pub place_first : (test : Standing → Bool) (key : Entry → ℕ) (r : ℕ)

@@ -1,11 +1,11 @@
 -- The places of jobs in a log, as entries come and change.
 use Rattle.std.proofs.Common.{◌≡◌, ◌≢◌, ℕ, zero, suc, ◌⊎◌, Bool, true, false, cond, List, [], ◌∷◌, ◌++◌, length}
-use Rattle.std.proofs.Common.{Option, Some, slice_get, set, subst, refl, sym, ap, arith, ◌∙◌, ⊎_elim, inl, inr, nat_eq}
-use Rattle.std.proofs.lemmas.Bool.{eqb-true, eq-eqb, ne_eqb, cases_eq}
+use Rattle.std.proofs.Common.{Option, Some, slice_get, filter, set, take, subst, refl, sym, ap, arith, ◌∙◌, ⊎_elim, inl, inr, nat_eq}
+use Rattle.std.proofs.lemmas.Bool.{eqb-true, eq-eqb, ne_eqb}
 use Rattle.std.proofs.lemmas.Option.{none-some, same_Some}
 use Rattle.part_table.specs.declared.standing.Standing.{Standing}
 use Rattle.part_table.specs.declared.standing.Entry.{Entry}
-use Rattle.part_table.specs.Logs.{job_of, IsAbsent, ArePlaces}
+use Rattle.part_table.specs.Logs.{job_of, IsAbsent, IsKnown}
 
 module _ {X : Type 0} where
   -- what stands in a list with one more at its end
@@ -49,63 +49,72 @@ module _ {X : Type 0} where
   get_beside_set (z ∷ xs) (suc i) zero y x other e = e
   get_beside_set (z ∷ xs) (suc i) (suc k) y x other e = get_beside_set xs i k y x (λ same. other (omega (arith, same))) e
 
--- one entry more
-module _ (entries : List Entry) (places next : ℕ → Option ℕ) (are : ArePlaces entries places) (item : Standing)
-    (absent : IsAbsent entries item.part.job)
-    (noted : (q : ℕ) → next q ≡ cond (nat_eq item.part.job.0 q) (Some (length entries)) (places q)) where
-  pub places_pushed : ArePlaces (entries ++ (record { item = item; stays = true }) ∷ []) next
-  places_pushed = record {
-    placed = λ k entry e stays. ⊎_elim (earlier k entry stays) (at_end k entry)
-        (get_in_push entries (record { item = item; stays = true }) entry k e);
-    found = λ job k e. found_by job k (nat_eq item.part.job.0 job) refl (sym (noted job) ∙ e);
-  }
+  -- what stands in the first elements, and among those that pass a test
+  pub get_in_take : (xs : List X) (i k : ℕ) (x : X) → slice_get (take i xs) k ≡ Some x → slice_get xs k ≡ Some x
+  get_in_take [] zero k x e = absurd (none-some x e)
+  get_in_take [] (suc i) k x e = absurd (none-some x e)
+  get_in_take (z ∷ xs) zero k x e = absurd (none-some x e)
+  get_in_take (z ∷ xs) (suc i) zero x e = e
+  get_in_take (z ∷ xs) (suc i) (suc k) x e = get_in_take xs i k x e
+
+  pub get_in_filter : (test : X → Bool) (xs : List X) (k : ℕ) (x : X) → slice_get (filter test xs) k ≡ Some x
+      → (j : ℕ) × (slice_get xs j ≡ Some x)
+  get_in_filter test [] k x e = absurd (none-some x e)
+  get_in_filter test (z ∷ xs) k x e = at (test z) k e (λ n h. get_in_filter test xs n x h)
     where
-      earlier : (k : ℕ) (entry : Entry) → entry.stays ≡ true → slice_get entries k ≡ Some entry → next (job_of entry) ≡ Some k
-      earlier k entry stays e =
-          noted (job_of entry)
-          ∙ ap (λ b. cond b (Some (length entries)) (places (job_of entry)))
-          (ne_eqb item.part.job.0 (job_of entry) (λ same. absent k entry e stays (sym same)))
-          ∙ are.placed k entry e stays
+      at : (b : Bool) (k : ℕ) → slice_get (cond b (z ∷ filter test xs) (filter test xs)) k ≡ Some x
+          → ((n : ℕ) → slice_get (filter test xs) n ≡ Some x → (j : ℕ) × (slice_get xs j ≡ Some x))
+          → (j : ℕ) × (slice_get (z ∷ xs) j ≡ Some x)
+      at true zero h later = (zero, h)
+      at true (suc k) h later = let there = later k h in (suc there.0, there.1)
+      at false k h later = let there = later k h in (suc there.0, there.1)
 
-      at_end : (k : ℕ) (entry : Entry) → (k ≡ length entries) × ((let y : Entry = record { item = item; stays = true } in y) ≡ entry)
-          → next (job_of entry) ≡ Some k
-      at_end k entry h =
-          subst (λ (x : Entry). next (job_of x) ≡ Some k) h.1
-          (noted item.part.job.0
-          ∙ ap (λ b. cond b (Some (length entries)) (places item.part.job.0)) (eq-eqb item.part.job.0 item.part.job.0 refl)
-          ∙ ap Some (sym h.0))
-
-      found_by : (job k : ℕ) (b : Bool) → nat_eq item.part.job.0 job ≡ b → cond b (Some (length entries)) (places job) ≡ Some k
-          → (entry : Entry) × (slice_get (entries ++ (record { item = item; stays = true }) ∷ []) k ≡ Some entry) × (job_of entry ≡ job)
-      found_by job k true is e = (
-        record { item = item; stays = true },
-        subst (λ n. slice_get (entries ++ (record { item = item; stays = true }) ∷ []) n ≡ Some (record { item = item; stays = true }))
-            (same_Some (length entries) k e) (get_last entries (record { item = item; stays = true })),
-        eqb-true item.part.job.0 job is,
-      )
-      found_by job k false is e =
-          let old = are.found job k e in
-          (old.0, get_before_push entries (record { item = item; stays = true }) old.0 k old.1, old.2)
-
--- an entry that changes, with its job, and does not stay again
-pub places_changed : (entries : List Entry) (places : ℕ → Option ℕ) → ArePlaces entries places → (i : ℕ) (old next : Entry)
-    → slice_get entries i ≡ Some old → job_of next ≡ job_of old → (next.stays ≡ true → old.stays ≡ true)
-    → ArePlaces (set entries i next) places
-places_changed entries places are i old next there job stays = record {
-  placed = λ k entry e here. ⊎_elim (same k entry here) (λ other. are.placed k entry other.1 here) (get_in_set entries i k next entry e);
-  found = λ j k e. let was = are.found j k e in found_now j k was.0 was.1 was.2 (cases_eq k i);
-}
+-- what is known of jobs, with one entry more
+pub known_pushed : (entries : List Entry) (known next : ℕ → Option ℕ) (value : ℕ → Entry → ℕ) → IsKnown entries known value
+    → (item : Standing) (seat : ℕ) → IsAbsent entries item.part.job
+    → ((q : ℕ) → next q
+    ≡ cond (nat_eq item.part.job.0 q) (Some (value (length entries) (record { item = item; stays = true; seat = seat }))) (known q))
+    → IsKnown (entries ++ (record { item = item; stays = true; seat = seat }) ∷ []) next value
+known_pushed entries known next value are item seat absent noted k entry e stays =
+    ⊎_elim earlier at_end (get_in_push entries (record { item = item; stays = true; seat = seat }) entry k e)
   where
-    same : (k : ℕ) (entry : Entry) → entry.stays ≡ true → (k ≡ i) × (next ≡ entry) → places (job_of entry) ≡ Some k
-    same k entry here h =
-        let old_stays : old.stays ≡ true = stays (ap (λ (x : Entry). x.stays) h.1 ∙ here) in
-        ap places (sym (ap job_of h.1) ∙ job) ∙ are.placed i old there old_stays ∙ ap Some (sym h.0)
+    last : Option ℕ
+    last = Some (value (length entries) (record { item = item; stays = true; seat = seat }))
 
-    found_now : (j k : ℕ) (was : Entry) → slice_get entries k ≡ Some was → job_of was ≡ j → (k ≡ i) ⊎ (k ≡ i → ⊥)
-        → (entry : Entry) × (slice_get (set entries i next) k ≡ Some entry) × (job_of entry ≡ j)
-    found_now j k was e is (inl here) = (
-      next,
-      subst (λ n. slice_get (set entries i next) n ≡ Some next) (sym here) (get_at_set entries i next old there),
-      job ∙ ap job_of (same_Some old was (sym there ∙ subst (λ n. slice_get entries n ≡ Some was) here e)) ∙ is,
-    )
-    found_now j k was e is (inr other) = (was, get_beside_set entries i k next was other e, is)
+    earlier : slice_get entries k ≡ Some entry → next (job_of entry) ≡ Some (value k entry)
+    earlier there =
+        noted (job_of entry)
+        ∙ ap (λ b. cond b (Some (value (length entries) (record { item = item; stays = true; seat = seat }))) (known (job_of entry)))
+        (ne_eqb item.part.job.0 (job_of entry) (λ same. absent k entry there stays (sym same)))
+        ∙ are k entry there stays
+
+    at_end : (k ≡ length entries) × ((let y : Entry = record { item = item; stays = true; seat = seat } in y) ≡ entry)
+        → next (job_of entry) ≡ Some (value k entry)
+    at_end h =
+        subst (λ (x : Entry). next (job_of x) ≡ Some (value k x)) h.1
+        (noted item.part.job.0
+        ∙ ap (λ b. cond b (Some (value (length entries) (record { item = item; stays = true; seat = seat }))) (known item.part.job.0))
+        (eq-eqb item.part.job.0 item.part.job.0 refl)
+        ∙ ap (λ n. Some (value n (record { item = item; stays = true; seat = seat }))) (sym h.0))
+
+-- the same with an entry that changes, with its job, and does not stay again
+pub known_changed : (entries : List Entry) (known : ℕ → Option ℕ) (value : ℕ → Entry → ℕ) → IsKnown entries known value → (i : ℕ)
+    (old next : Entry) → slice_get entries i ≡ Some old → job_of next ≡ job_of old → (next.stays ≡ true → old.stays ≡ true)
+    → value i next ≡ value i old → IsKnown (set entries i next) known value
+known_changed entries known value are i old next there job stays same k entry e here =
+    ⊎_elim changed (λ other. are k entry other.1 here) (get_in_set entries i k next entry e)
+  where
+    changed : (k ≡ i) × (next ≡ entry) → known (job_of entry) ≡ Some (value k entry)
+    changed h =
+        let old_stays : old.stays ≡ true = stays (ap (λ (x : Entry). x.stays) h.1 ∙ here) in
+        ap known (sym (ap job_of h.1) ∙ job) ∙ are i old there old_stays
+        ∙ ap Some (sym same ∙ ap (λ n. value n next) (sym h.0) ∙ ap (value k) h.1)
+
+-- what is known of a job already is known again
+pub known_again : (job value : ℕ) (known next : ℕ → Option ℕ) → known job ≡ Some value → ((q : ℕ) → next q ≡ known q)
+    → (q : ℕ) → next q ≡ cond (nat_eq job q) (Some value) (known q)
+known_again job value known next is same q = same q ∙ at (nat_eq job q) refl
+  where
+    at : (b : Bool) → nat_eq job q ≡ b → known q ≡ cond b (Some value) (known q)
+    at true e = ap known (sym (eqb-true job q e)) ∙ is
+    at false e = refl

@@ -1,5 +1,5 @@
 -- The parts of the entries that stay: which is found first, and how they change.
-use Rattle.std.proofs.Common.{◌≡◌, ℕ, zero, suc, ◌<◌, ◌==◌, Bool, true, false, cond, not, ◌&&◌, List, [], ◌∷◌, ◌++◌, length, map, Some}
+use Rattle.std.proofs.Common.{◌≡◌, ℕ, zero, suc, ◌<◌, ◌==◌, Bool, true, false, cond, not, ◌&&◌, List, [], ◌∷◌, ◌++◌, length, map, Some, All}
 use Rattle.std.proofs.Common.{None, slice_get, get_or, set, find, filter, take, length-take, ap, ap₂, subst, refl, sym, arith, ◌∙◌}
 use Rattle.std.proofs.lemmas.Bool.{false≢true, eq-eqb, ne_eqb, or_parts, or_from}
 use Rattle.std.proofs.lemmas.Option.{none-some, same_Some, slice_get_within, get_or_from_slice_get}
@@ -233,14 +233,14 @@ staying_finished (y ∷ ys) (suc at) old job e stays is unique =
     by false gone rest = rest
 
 -- one part more
-pub staying_pushed : (entries : List Entry) (item : Standing)
-    → staying (entries ++ (record { item = item; stays = true }) ∷ []) ≡ staying entries ++ item ∷ []
-staying_pushed [] item = refl
-staying_pushed (y ∷ ys) item = at y.stays (staying_pushed ys item)
+pub staying_pushed : (entries : List Entry) (item : Standing) (seat : ℕ)
+    → staying (entries ++ (record { item = item; stays = true; seat = seat }) ∷ []) ≡ staying entries ++ item ∷ []
+staying_pushed [] item seat = refl
+staying_pushed (y ∷ ys) item seat = at y.stays (staying_pushed ys item seat)
   where
-    at : (a : Bool) → staying (ys ++ (record { item = item; stays = true }) ∷ []) ≡ staying ys ++ item ∷ []
-        → map item_of (cond a (y ∷ filter is_staying (ys ++ (record { item = item; stays = true }) ∷ []))
-        (filter is_staying (ys ++ (record { item = item; stays = true }) ∷ [])))
+    at : (a : Bool) → staying (ys ++ (record { item = item; stays = true; seat = seat }) ∷ []) ≡ staying ys ++ item ∷ []
+        → map item_of (cond a (y ∷ filter is_staying (ys ++ (record { item = item; stays = true; seat = seat }) ∷ []))
+        (filter is_staying (ys ++ (record { item = item; stays = true; seat = seat }) ∷ [])))
         ≡ map item_of (cond a (y ∷ filter is_staying ys) (filter is_staying ys)) ++ item ∷ []
     at true rest = ap (λ items. y.item ∷ items) rest
     at false rest = rest
@@ -249,6 +249,10 @@ staying_pushed (y ∷ ys) item = at y.stays (staying_pushed ys item)
 pub staying_kept : (entries : List Entry) → staying (filter is_staying entries) ≡ staying entries
 staying_kept entries =
     ap (λ es. map item_of es) (filter_all is_staying (filter is_staying entries) (filter_passes is_staying entries))
+
+-- entries that all stay
+pub staying_all : (entries : List Entry) → All (λ (entry : Entry). entry.stays ≡ true) entries → staying entries ≡ map item_of entries
+staying_all entries stay = ap (λ es. map item_of es) (filter_all is_staying entries stay)
 
 pub parts_of_entries : (entries : List Entry) → map (λ (x : Entry). x.item.part) entries ≡ parts_of (map item_of entries)
 parts_of_entries [] = refl

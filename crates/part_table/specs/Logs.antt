@@ -7,14 +7,17 @@ use Rattle.part_table.specs.declared.standing.Entry.{Entry}
 use Rattle.part_table.specs.declared.heads.TheConstants.{OFF, NOWHERE}
 use Rattle.cell_base.specs.Policy.{HaveDistinctJobs}
 use Rattle.part_table.specs.Heads.{Keyed}
-use Rattle.part_table.specs.Seats.{Seated, place_at}
+use Rattle.part_table.specs.Seats.{Seated, place_at, seat_of}
 use Rattle.part_table.specs.Standings.{parts_of}
 
--- what a contract sees of a log: its entries, how many there may be, and the number of resources
+-- what a contract sees of a log: its entries, how many there may be, the number of resources, how many seats were given, and how many
+-- there are
 pub record Logged : Type 0 where
   pub entries : List Entry
   pub room : ℕ
   pub resources : ℕ
+  pub given : ℕ
+  pub seats : ℕ
 
 -- the entry whose part does not stand there any more, and the one whose part is done
 abbrev pub gone_entry : Entry → Entry
@@ -60,27 +63,36 @@ key_of_waiting item = if item.part.done then OFF else item.on.0
 abbrev pub waiting_key : Entry → ℕ
 waiting_key entry = if entry.stays then key_of_waiting entry.item else OFF
 
--- the places of the jobs: each entry that stays is found, and what is found is of its job
-pub record ArePlaces (entries : List Entry) (places : ℕ → Option ℕ) : Type 0 where
-  pub placed : (k : ℕ) (entry : Entry) → slice_get entries k ≡ Some entry → entry.stays ≡ true → places (job_of entry) ≡ Some k
-  pub found : (job k : ℕ) → places job ≡ Some k → (entry : Entry) × (slice_get entries k ≡ Some entry) × (job_of entry ≡ job)
+-- what is known of the job of each entry that stays
+abbrev pub IsKnown : List Entry → (ℕ → Option ℕ) → (ℕ → Entry → ℕ) → Type 0
+IsKnown entries known value = (k : ℕ) (entry : Entry) → slice_get entries k ≡ Some entry → entry.stays ≡ true
+    → known (job_of entry) ≡ Some (value k entry)
+
+-- the job of each entry that stays has the seat that the entry tells
+abbrev pub AreSeated : List Entry → Seated → Type 0
+AreSeated entries seats = IsKnown entries (seat_of seats) (λ k entry. entry.seat)
+
+-- and that seat leads to the entry
+pub record ArePlaces (entries : List Entry) (seats : Seated) : Type 0 where
+  pub placed : IsKnown entries (place_at seats) (λ k entry. k)
+  pub seated : AreSeated entries seats
 
 -- the parts of a log that belong together
 pub record IsLogged (entries : List Entry) (room : ℕ) (seats : Seated) (standing waiting : Keyed) : Type 0 where
   pub within : length entries ≤ room
   pub small : room < NOWHERE
-  pub placed : ArePlaces entries (place_at seats)
-  pub taken : seats.taken ≡ length entries
-  pub seats_room : seats.room ≡ room
+  pub placed : ArePlaces entries seats
   pub standing_keys : standing.keys ≡ map standing_key entries
   pub waiting_keys : waiting.keys ≡ map waiting_key entries
   pub standing_room : standing.room ≡ room
   pub waiting_room : waiting.room ≡ room
   pub resources : waiting.resources ≡ standing.resources
 
--- a log whose parts are of different jobs, their number, and how many there may be. One entry more fits for a part that goes on
+-- a log whose parts are of different jobs, their number, and how many there may be. One entry more fits for a part that goes on, and
+-- one seat more
 pub record IsTable (log : Logged) (count room : ℕ) : Type 0 where
   pub distinct : HaveDistinctJobs (parts_of (staying log.entries))
   pub counted : count ≡ length (staying log.entries)
   pub within : count ≤ room
   pub fits : room < log.room
+  pub seats : room < log.seats

@@ -38,6 +38,9 @@ impl Model for Arrivals {
 /// How many entries a log holds for each part that may stand at a time. So a part's entries are moved together once in many changes.
 const ENTRIES_A_PART: u32 = 4;
 
+/// How many seats there are for each part that may stand at a time. So a part that stays has a new seat once in as many arrivals.
+const SEATS_A_PART: u32 = 2;
+
 /// Room for one more entry.
 fn make_room(log: &mut Log)
     requires distinct { HaveDistinctJobs (parts_of (staying log.old.entries)) }
@@ -46,9 +49,29 @@ fn make_room(log: &mut Log)
     ensures free { length log.new.entries < log.new.room }
     ensures room { log.new.room ≡ log.old.room }
     ensures resources { log.new.resources ≡ log.old.resources }
+    ensures seats { log.new.seats ≡ log.old.seats }
 {
     if log.is_full() {
         log.compact();
+    }
+}
+
+/// A seat for one more job.
+fn make_seat(log: &mut Log)
+    requires distinct { HaveDistinctJobs (parts_of (staying log.old.entries)) }
+    requires fits { length (staying log.old.entries) < log.old.room }
+    requires seats { length (staying log.old.entries) < log.old.seats }
+    requires free { length log.old.entries < log.old.room }
+    ensures items { staying log.new.entries ≡ staying log.old.entries }
+    ensures free { length log.new.entries < log.new.room }
+    ensures seat { log.new.given < log.new.seats }
+    ensures room { log.new.room ≡ log.old.room }
+    ensures resources { log.new.resources ≡ log.old.resources }
+    ensures seats { log.new.seats ≡ log.old.seats }
+{
+    if log.is_seated_out() {
+        log.compact();
+        log.seat_again();
     }
 }
 
@@ -61,7 +84,12 @@ impl Arrivals {
         ensures spare { IfOk result (λ arrivals. n ≤ arrivals.spare) }
         ensures resources { IfOk result (λ arrivals. arrivals.resources ≡ resources) }
     {
-        let log = Log::with_room(alloc, resources, n * ENTRIES_A_PART + 1)?;
+        let log = Log::with_room(
+            alloc,
+            resources,
+            n * ENTRIES_A_PART + 1,
+            n * SEATS_A_PART + 1,
+        )?;
         Ok(Arrivals {
             log,
             count: 0,
@@ -150,6 +178,7 @@ impl Arrivals {
         ensures resources { self.new.resources ≡ self.old.resources }
     {
         make_room(&mut self.log);
+        make_seat(&mut self.log);
         self.log.push(Standing { part, on });
         self.count += 1;
     }

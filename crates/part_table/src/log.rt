@@ -1,9 +1,10 @@
 //! A log of parts as they came, which is found by job and by resource.
-ghost use Rattle.std.specs.Prelude.{◌≡◌, ℕ, ◌+◌, ◌<◌, ◌≤◌, ◌∷◌, ◌++◌, [], true, false, if◌then◌else◌, length, Some};
-ghost use Rattle.std.specs.Prelude.{slice_get, slice_set, MatchOption, IfOk, nat_eq, nat_le, map, filter, find, All, None};
+ghost use Rattle.std.specs.Prelude.{◌≡◌, ◌≢◌, ◌<◌, ◌≤◌, ◌∷◌, ◌++◌, [], true, false, length, Some};
+ghost use Rattle.std.specs.Prelude.{slice_get, slice_set, MatchOption, IfOk, vec_capacity, nat_le, map, filter, find, All, None};
 ghost use Rattle.part_table.specs.declared.standing.Entry.{Entry};
 ghost use Rattle.part_table.specs.declared.heads.TheConstants.{NOWHERE};
-ghost use Rattle.part_table.specs.Logs.{gone_entry, done_entry, IsAbsent, IsPlaceOf, IsPlaceOfFirst, key_of_waiting, staying, IsLogged};
+ghost use Rattle.part_table.specs.Logs.{gone_entry, done_entry, job_of, IsAbsent, IsPlaceOf, IsPlaceOfFirst, key_of_waiting};
+ghost use Rattle.part_table.specs.Logs.{staying, ArePlaces, AreSeated, IsLogged};
 ghost use Rattle.part_table.specs.Standings.{parts_of, is_on, is_waiting, advanced};
 ghost use Rattle.cell_base.specs.Policy.{is_loaded, HaveDistinctJobs};
 
@@ -24,12 +25,18 @@ pub struct Log {
 }
 
 impl Model for Log {
-    ghost use Rattle.std.specs.Prelude.{vec_capacity};
+    ghost use Rattle.std.specs.Prelude.{length, vec_capacity};
     ghost use Rattle.part_table.specs.Logs.{Logged, IsLogged};
 
     ghost Value = { Logged };
 
-    ghost view = { λ s. record { entries = s.entries.items; room = vec_capacity s.entries; resources = s.standing.resources } };
+    ghost view = { λ s. record {
+      entries = s.entries.items;
+      room = vec_capacity s.entries;
+      resources = s.standing.resources;
+      given = length s.seats.places;
+      seats = s.seats.room;
+    } };
 
     ghost invariant = { λ s. IsLogged s.entries.items (vec_capacity s.entries) s.seats s.standing s.waiting };
 }
@@ -41,20 +48,44 @@ fn key_of_waiting(item: Standing) -> u16
     if item.part.done { OFF } else { item.on.0 }
 }
 
-/// The entries are found again by their jobs and resources.
+/// The entries, whose parts have seats, are found again by their jobs and resources.
 fn list_again(entries: &[Entry], seats: &mut Seats, standing: &mut Heads, waiting: &mut Heads)
     requires empty { IsLogged [] standing.old.room seats.old standing.old waiting.old }
     requires within { length entries.now ≤ standing.old.room }
     requires stay { All (λ entry. entry.stays ≡ true) entries.now }
     requires distinct { HaveDistinctJobs (map (λ entry. entry.item.part) entries.now) }
+    requires seated { AreSeated entries.now seats.old }
     ensures logged { IsLogged entries.now standing.old.room seats.new standing.new waiting.new }
     ensures resources { standing.new.resources ≡ standing.old.resources }
+    ensures given { length seats.new.places ≡ length seats.old.places }
+    ensures seats { seats.new.room ≡ seats.old.room }
 {
-    for entry in entries {
+    for (at, entry) in entries.iter().enumerate() {
         let item = entry.item;
-        seats.come(item.part.job);
+        seats.go_on(item.part.job, entry.seat, at as u32);
         standing.push(item.on.0);
         waiting.push(key_of_waiting(item));
+    }
+}
+
+/// The parts of the entries have new seats.
+fn seat_again(entries: &mut Vec<Entry>, seats: &mut Seats)
+    requires stay { All (λ entry. entry.stays ≡ true) entries.old.items }
+    requires distinct { HaveDistinctJobs (map (λ entry. entry.item.part) entries.old.items) }
+    requires none { seats.old.places ≡ [] }
+    requires room { length entries.old.items ≤ seats.old.room }
+    requires few { length entries.old.items ≤ NOWHERE }
+    ensures items { map (λ entry. entry.item) entries.new.items ≡ map (λ entry. entry.item) entries.old.items }
+    ensures stay { All (λ entry. entry.stays ≡ true) entries.new.items }
+    ensures placed { ArePlaces entries.new.items seats.new }
+    ensures capacity { vec_capacity entries.new ≡ vec_capacity entries.old }
+    ensures given { length seats.new.places ≡ length entries.old.items }
+    ensures room { seats.new.room ≡ seats.old.room }
+{
+    for at in 0..entries.len() {
+        let mut entry = entries[at];
+        entry.seat = seats.come(entry.item.part.job, at as u32);
+        entries[at] = entry;
     }
 }
 
@@ -88,16 +119,18 @@ fn listed(alloc: Global, entries: &[Entry]) -> Result<List<Part>, NoMemory>
 }
 
 impl Log {
-    /// An empty log with room for `n` entries.
-    pub fn with_room(alloc: Global, resources: u16, n: u32) -> Result<Log, NoMemory>
-        requires { n < NOWHERE }
+    /// An empty log with room for `n` entries and for some seats.
+    pub fn with_room(alloc: Global, resources: u16, n: u32, seats: u32) -> Result<Log, NoMemory>
+        requires room { n < NOWHERE }
+        requires seats { seats < NOWHERE }
         ensures entries { IfOk result (λ log. log.entries ≡ []) }
         ensures room { IfOk result (λ log. log.room ≡ n) }
+        ensures seats { IfOk result (λ log. log.seats ≡ seats) }
         ensures resources { IfOk result (λ log. log.resources ≡ resources) }
     {
         Ok(Log {
             entries: Vec::with_capacity(alloc, n as usize)?,
-            seats: Seats::with_room(alloc, n)?,
+            seats: Seats::with_room(alloc, seats)?,
             standing: Heads::with_room(alloc, resources, n)?,
             waiting: Heads::with_room(alloc, resources, n)?,
         })
@@ -106,15 +139,21 @@ impl Log {
     /// One entry more. It takes no memory.
     pub fn push(&mut self, item: Standing)
         requires room { length self.old.entries < self.old.room }
+        requires seat { self.old.given < self.old.seats }
         requires absent { IsAbsent self.old.entries item.part.job }
-        ensures entries { self.new.entries ≡ self.old.entries ++ (record { item = item; stays = true }) ∷ [] }
+        ensures items { staying self.new.entries ≡ staying self.old.entries ++ item ∷ [] }
         ensures room { self.new.room ≡ self.old.room }
         ensures resources { self.new.resources ≡ self.old.resources }
+        ensures seats { self.new.seats ≡ self.old.seats }
     {
-        self.seats.come(item.part.job);
+        let seat = self.seats.come(item.part.job, self.entries.len() as u32);
         self.standing.push(item.on.0);
         self.waiting.push(key_of_waiting(item));
-        self.entries.push_reserved(Entry { item, stays: true });
+        self.entries.push_reserved(Entry {
+            item,
+            stays: true,
+            seat,
+        });
     }
 
     /// The place of the entry of a job, where one stays.
@@ -122,24 +161,32 @@ impl Log {
         ensures { MatchOption result (IsAbsent self.now.entries job) (IsPlaceOf self.now.entries job) }
     {
         let at = self.seats.place_of(job)?;
-        if self.entries[at as usize].stays {
-            Some(at)
-        } else {
-            None
-        }
+        if self.is_at(job, at) { Some(at) } else { None }
     }
 
     /// The same, where the part may stand at a place that is told: there it is found without a look-up of its job.
     pub fn place_near(&self, job: JobId, near: u32) -> Option<u32>
         ensures { MatchOption result (IsAbsent self.now.entries job) (IsPlaceOf self.now.entries job) }
     {
-        if (near as usize) < self.entries.len() {
-            let entry = self.entries[near as usize];
-            if entry.stays && entry.item.part.job.0 == job.0 {
-                return Some(near);
-            }
+        if self.is_at(job, near) {
+            Some(near)
+        } else {
+            self.place_of(job)
         }
-        self.place_of(job)
+    }
+
+    /// Whether an entry of the job stays at a place.
+    fn is_at(&self, job: JobId, at: u32) -> bool
+        ensures here { result ≡ true → IsPlaceOf self.now.entries job at }
+        ensures away { result ≡ false → (entry : Entry) → slice_get self.now.entries at ≡ Some entry → entry.stays ≡ true
+            → job_of entry ≢ job.0 }
+    {
+        if (at as usize) < self.entries.len() {
+            let entry = self.entries[at as usize];
+            entry.stays && entry.item.part.job.0 == job.0
+        } else {
+            false
+        }
     }
 
     /// The entry at a place.
@@ -157,6 +204,7 @@ impl Log {
             → self.new.entries ≡ slice_set self.old.entries at (gone_entry entry) }
         ensures room { self.new.room ≡ self.old.room }
         ensures resources { self.new.resources ≡ self.old.resources }
+        ensures seats { self.new.seats ≡ self.old.seats }
     {
         let mut entry = self.entries[at as usize];
         entry.stays = false;
@@ -172,6 +220,7 @@ impl Log {
             → self.new.entries ≡ slice_set self.old.entries at (done_entry entry) }
         ensures room { self.new.room ≡ self.old.room }
         ensures resources { self.new.resources ≡ self.old.resources }
+        ensures seats { self.new.seats ≡ self.old.seats }
     {
         let mut entry = self.entries[at as usize];
         entry.item.part.done = true;
@@ -186,11 +235,12 @@ impl Log {
         ensures items { staying self.new.entries ≡ advanced (staying self.old.entries) job place done on }
         ensures room { self.new.room ≡ self.old.room }
         ensures resources { self.new.resources ≡ self.old.resources }
+        ensures seats { self.new.seats ≡ self.old.seats }
     {
-        self.seats.go_on(job, at);
         let mut entry = self.entries[at as usize];
         entry.stays = false;
         self.entries[at as usize] = entry;
+        self.seats.go_on(job, entry.seat, self.entries.len() as u32);
         self.standing.take_off(at);
         self.waiting.take_off(at);
         let part = Part {
@@ -201,7 +251,11 @@ impl Log {
         let item = Standing { part, on };
         self.standing.push(on.0);
         self.waiting.push(key_of_waiting(item));
-        self.entries.push_reserved(Entry { item, stays: true });
+        self.entries.push_reserved(Entry {
+            item,
+            stays: true,
+            seat: entry.seat,
+        });
     }
 
     /// Whether no entry more fits.
@@ -243,15 +297,23 @@ impl Log {
         listed(alloc, &self.entries)
     }
 
+    /// Whether no seat is left for one job more.
+    pub fn is_seated_out(&self) -> bool
+        ensures { result ≡ nat_le self.now.seats self.now.given }
+    {
+        self.seats.is_full()
+    }
+
     /// Only the entries that stay, in their order. It takes no memory.
     pub fn compact(&mut self)
         requires { HaveDistinctJobs (parts_of (staying self.old.entries)) }
         ensures entries { self.new.entries ≡ filter (λ entry. entry.stays) self.old.entries }
         ensures room { self.new.room ≡ self.old.room }
         ensures resources { self.new.resources ≡ self.old.resources }
+        ensures given { self.new.given ≡ self.old.given }
+        ensures seats { self.new.seats ≡ self.old.seats }
     {
         self.entries.retain(|entry| entry.stays);
-        self.seats.clear();
         self.standing.clear();
         self.waiting.clear();
         list_again(
@@ -260,5 +322,21 @@ impl Log {
             &mut self.standing,
             &mut self.waiting,
         );
+    }
+
+    /// The entries, which all stay, take the first seats. It takes no memory.
+    pub fn seat_again(&mut self)
+        requires stay { All (λ entry. entry.stays ≡ true) self.old.entries }
+        requires distinct { HaveDistinctJobs (parts_of (staying self.old.entries)) }
+        requires few { length self.old.entries ≤ self.old.seats }
+        ensures items { staying self.new.entries ≡ staying self.old.entries }
+        ensures length { length self.new.entries ≡ length self.old.entries }
+        ensures room { self.new.room ≡ self.old.room }
+        ensures resources { self.new.resources ≡ self.old.resources }
+        ensures given { self.new.given ≡ length self.old.entries }
+        ensures seats { self.new.seats ≡ self.old.seats }
+    {
+        self.seats.clear();
+        seat_again(&mut self.entries, &mut self.seats);
     }
 }

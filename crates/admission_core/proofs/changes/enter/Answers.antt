@@ -8,6 +8,7 @@ use Rattle.neighborhood_counts.specs.Counts.{IsMaskOf, first_full}
 use Rattle.admission_core.specs.CoreState.{AreCounts}
 use Rattle.policy_laws.proofs.Granting.{entry-granted, without-absent}
 use Rattle.policy_laws.proofs.Room.{room_for, few_parts}
+use Rattle.admission_core.proofs.Rowing.{work_by_row}
 use Rattle.admission_core.proofs.Saturating.{mask_is_of, entry_over}
 use Rattle.admission_core.proofs.Tallying.{counts_entered, work_entered, work_of-le, work-le}
 use Rattle.admission_core.proofs.changes.enter.Goals as goal
@@ -15,7 +16,7 @@ use Rattle.admission_core.proofs.changes.enter.Goals as goal
 pub enter-requires-clause-mask : goal.enter-requires-clause-mask
 enter-requires-clause-mask c =
     let sound = c.requires.sound in
-    subst (IsMaskOf c.args.tally.now.counts) (sym c.mask.ensures)
+    subst (IsMaskOf c.args.tally.now.counts) (sym c.requires.there.mask)
     (mask_is_of c.args.table.now sound.fits c.args.tally.now.counts c.args.tally.now.parts.parts sound.tallied.counts
     (stage_of c.args.part))
 
@@ -24,7 +25,7 @@ enter-requires-clause-room c =
     let cell = c.args.table.now in
     let parts = c.args.tally.now.parts.parts in
     let sound = c.requires.sound in
-    ap (first_full c.args.tally.now.counts) c.mask.ensures
+    ap (first_full c.args.tally.now.counts) c.requires.there.mask
     ∙ entry_over cell sound.fits c.args.tally.now.counts parts sound.tallied.counts c.args.part sound.admitted.within
     ∙ (entry-granted cell parts c.args.part c.requires.granted).next
 
@@ -50,7 +51,7 @@ overflow_add-tally c =
       arith,
       sound.tallied.work,
       work-le cell sound.fits parts sound.admitted.state.standing (few_parts cell sound.fits parts sound.admitted),
-      c.work_of.ensures,
+      (work_by_row cell c.args.part c.args.there c.requires.there c.work.result c.work.ensures),
       work_of-le cell sound.fits parts c.args.part c.requires.stage,
     )
 
@@ -71,11 +72,11 @@ returns-clause-tallied c =
       );
       counts = subst (λ (parts : List Part). AreCounts cell parts c.enter.new.self) (sym now)
           (counts_entered cell c.requires.sound.fits parts c.args.tally.now.counts c.enter.new.self tallied.counts c.enter.ensures.length
-          c.enter.ensures.capacities c.args.part c.mask.result c.mask.ensures c.enter.ensures.counts);
+          c.enter.ensures.capacities c.args.part c.args.there.mask c.requires.there.mask c.enter.ensures.counts);
       work = omega (
         arith,
         tallied.work,
-        c.work_of.ensures,
+        (work_by_row cell c.args.part c.args.there c.requires.there c.work.result c.work.ensures),
         work_entered cell c.requires.sound.fits parts c.args.part,
         ap (λ (parts : List Part). work cell parts) now,
       );

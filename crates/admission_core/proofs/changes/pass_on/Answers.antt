@@ -7,8 +7,8 @@ use Rattle.admission_core.proofs.Moving.{part_known}
 use Rattle.admission_core.proofs.Marking.{marked_come, marked_without}
 use Rattle.admission_core.proofs.changes.pass_on.Goals as goal
 
-pub resource_at-from-requires : goal.resource_at-from-requires
-resource_at-from-requires c =
+pub row_of-here-requires : goal.row_of-here-requires
+row_of-here-requires c =
     (part_known c.args.table.now c.args.tally.now.parts.parts c.args.found.part.job c.args.found.part c.requires.sound.admitted
     c.requires.found).stage
 
@@ -19,5 +19,5 @@ unmark_free-requires-clause-marked c =
     let left = without parts c.args.found.part.job in
     subst (λ (parts : List Part). IsMarked cell parts c.mark.new.self) (sym c.put_on.ensures.parts)
     (marked_come cell left c.args.occupied.now (marked_without cell parts c.args.occupied.now c.requires.marked c.args.found.part.job)
-    c.mark.new.self c.args.next c.resource_at.result c.resource_at.ensures.value c.mark.ensures.ranks c.mark.ensures.resources
+    c.mark.new.self c.args.next c.row_of-there.result.on c.row_of-there.ensures.on c.mark.ensures.ranks c.mark.ensures.resources
     c.mark.ensures.marks)

@@ -12,27 +12,23 @@ use Rattle.part_table.specs.Parts.{gone_on}
 use Rattle.part_table.proofs.Standings.{length-without}
 use Rattle.admission_core.specs.CoreState.{AreCounts}
 use Rattle.admission_core.proofs.Moving.{part_known}
+use Rattle.admission_core.proofs.Rowing.{work_by_row}
 use Rattle.policy_laws.proofs.Room.{few_parts}
 use Rattle.admission_core.proofs.Saturating.{mask_is_of, only_held, move_over}
 use Rattle.admission_core.proofs.Tallying.{counts_moved, work_entered, work_without, work_of-le, work-le}
 use Rattle.admission_core.proofs.changes.put_on.Goals as goal
 
-pub mask-requires : goal.mask-requires
-mask-requires c =
-    (part_known c.args.table.now c.args.tally.now.parts.parts c.args.found.part.job c.args.found.part c.requires.sound.admitted
-    c.requires.found).stage
-
 pub shift-requires-clause-from_mask : goal.shift-requires-clause-from_mask
 shift-requires-clause-from_mask c =
     let sound = c.requires.sound in
-    subst (IsMaskOf c.args.tally.now.counts) (sym c.mask.ensures)
+    subst (IsMaskOf c.args.tally.now.counts) (sym c.requires.here.mask)
     (mask_is_of c.args.table.now sound.fits c.args.tally.now.counts c.args.tally.now.parts.parts sound.tallied.counts
     (stage_of c.args.found.part))
 
 pub shift-requires-clause-to_mask : goal.shift-requires-clause-to_mask
 shift-requires-clause-to_mask c =
     let sound = c.requires.sound in
-    subst (IsMaskOf c.args.tally.now.counts) (sym c.mask-2.ensures)
+    subst (IsMaskOf c.args.tally.now.counts) (sym c.requires.there.mask)
     (mask_is_of c.args.table.now sound.fits c.args.tally.now.counts c.args.tally.now.parts.parts sound.tallied.counts
     (stage_of c.args.next))
 
@@ -42,7 +38,7 @@ shift-requires-clause-room c =
     let parts = c.args.tally.now.parts.parts in
     let sound = c.requires.sound in
     let here = part_known cell parts c.args.found.part.job c.args.found.part sound.admitted c.requires.found in
-    ap₂ (λ to from. first_full c.args.tally.now.counts (bits_only_of to from)) c.mask-2.ensures c.mask.ensures
+    ap₂ (λ to from. first_full c.args.tally.now.counts (bits_only_of to from)) c.requires.there.mask c.requires.here.mask
     ∙ move_over cell sound.fits c.args.tally.now.counts parts sound.tallied.counts c.args.found.part c.args.next sound.admitted.state.distinct
     here.stands sound.admitted.within
     ∙ c.requires.room
@@ -53,8 +49,8 @@ shift-requires-clause-held c =
     let parts = c.args.tally.now.parts.parts in
     let sound = c.requires.sound in
     let here = part_known cell parts c.args.found.part.job c.args.found.part sound.admitted c.requires.found in
-    subst (λ from. AreHeld c.args.tally.now.counts (bits_only_of from c.mask-2.result)) (sym c.mask.ensures)
-    (subst (λ to. AreHeld c.args.tally.now.counts (bits_only_of (mask_of cell (stage_of c.args.found.part)) to)) (sym c.mask-2.ensures)
+    subst (λ from. AreHeld c.args.tally.now.counts (bits_only_of from c.args.there.mask)) (sym c.requires.here.mask)
+    (subst (λ to. AreHeld c.args.tally.now.counts (bits_only_of (mask_of cell (stage_of c.args.found.part)) to)) (sym c.requires.there.mask)
     (only_held cell sound.fits c.args.tally.now.counts parts sound.tallied.counts c.args.found.part c.args.next sound.admitted.state.distinct
     here.stands))
 
@@ -62,11 +58,6 @@ pub advance_near-requires-clause-present : goal.advance_near-requires-clause-pre
 advance_near-requires-clause-present c =
     (part_known c.args.table.now c.args.tally.now.parts.parts c.args.found.part.job c.args.found.part c.requires.sound.admitted
     c.requires.found).loaded
-
-pub work_of-requires : goal.work_of-requires
-work_of-requires c =
-    (part_known c.args.table.now c.args.tally.now.parts.parts c.args.found.part.job c.args.found.part c.requires.sound.admitted
-    c.requires.found).stage
 
 pub overflow_sub-tally : goal.overflow_sub-tally
 overflow_sub-tally c =
@@ -77,7 +68,7 @@ overflow_sub-tally c =
     omega (
       arith,
       sound.tallied.work,
-      c.work_of.ensures,
+      (work_by_row cell c.args.found.part c.args.here c.requires.here c.work.result c.work.ensures),
       work_without cell sound.fits parts c.args.found.part sound.admitted.state.distinct here.stands,
     )
 
@@ -90,7 +81,7 @@ overflow_add-tally c =
       arith,
       sound.tallied.work,
       work-le cell sound.fits parts sound.admitted.state.standing (few_parts cell sound.fits parts sound.admitted),
-      c.work_of-2.ensures,
+      (work_by_row cell c.args.next c.args.there c.requires.there c.work-2.result c.work-2.ensures),
       work_of-le cell sound.fits parts c.args.next c.requires.stage,
     )
 
@@ -127,13 +118,13 @@ returns-clause-tallied c =
       );
       counts = subst (λ (parts : List Part). AreCounts cell parts c.shift.new.self) (sym (now c))
           (counts_moved cell sound.fits parts c.args.tally.now.counts c.shift.new.self tallied.counts c.shift.ensures.length
-          c.shift.ensures.capacities part distinct here.stands c.args.next c.mask.result c.mask-2.result c.mask.ensures c.mask-2.ensures
+          c.shift.ensures.capacities part distinct here.stands c.args.next c.args.here.mask c.args.there.mask c.requires.here.mask c.requires.there.mask
           c.shift.ensures.counts);
       work = omega (
         arith,
         tallied.work,
-        c.work_of.ensures,
-        c.work_of-2.ensures,
+        (work_by_row cell c.args.found.part c.args.here c.requires.here c.work.result c.work.ensures),
+        (work_by_row cell c.args.next c.args.there c.requires.there c.work-2.result c.work-2.ensures),
         work_without cell sound.fits parts part distinct here.stands,
         work_entered cell sound.fits (without parts part.job) c.args.next,
         ap (λ (parts : List Part). work cell parts) (now c),

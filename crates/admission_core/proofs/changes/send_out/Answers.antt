@@ -6,8 +6,8 @@ use Rattle.admission_core.proofs.Marking.{marked_without}
 use Rattle.admission_core.proofs.Moving.{part_known}
 use Rattle.admission_core.proofs.changes.send_out.Goals as goal
 
-pub resource_at-from-requires : goal.resource_at-from-requires
-resource_at-from-requires c =
+pub row_of-here-requires : goal.row_of-here-requires
+row_of-here-requires c =
     (part_known c.args.table.now c.args.tally.now.parts.parts c.args.found.part.job c.args.found.part c.requires.sound.admitted
     c.requires.found).stage
 

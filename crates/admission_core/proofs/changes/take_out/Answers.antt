@@ -8,19 +8,15 @@ use Rattle.neighborhood_counts.specs.Counts.{IsMaskOf, AreHeld}
 use Rattle.part_table.proofs.Standings.{length-without}
 use Rattle.admission_core.specs.CoreState.{AreCounts}
 use Rattle.admission_core.proofs.Moving.{part_known}
+use Rattle.admission_core.proofs.Rowing.{work_by_row}
 use Rattle.admission_core.proofs.Saturating.{mask_is_of, mask_held}
 use Rattle.admission_core.proofs.Tallying.{counts_left, work_without}
 use Rattle.admission_core.proofs.changes.take_out.Goals as goal
 
-pub mask-requires : goal.mask-requires
-mask-requires c =
-    (part_known c.args.table.now c.args.tally.now.parts.parts c.args.found.part.job c.args.found.part c.requires.sound.admitted
-    c.requires.found).stage
-
 pub leave-requires-clause-mask : goal.leave-requires-clause-mask
 leave-requires-clause-mask c =
     let sound = c.requires.sound in
-    subst (IsMaskOf c.args.tally.now.counts) (sym c.mask.ensures)
+    subst (IsMaskOf c.args.tally.now.counts) (sym c.requires.here.mask)
     (mask_is_of c.args.table.now sound.fits c.args.tally.now.counts c.args.tally.now.parts.parts sound.tallied.counts
     (stage_of c.args.found.part))
 
@@ -29,7 +25,7 @@ leave-requires-clause-held c =
     let sound = c.requires.sound in
     let parts = c.args.tally.now.parts.parts in
     let stands = (part_known c.args.table.now parts c.args.found.part.job c.args.found.part sound.admitted c.requires.found).stands in
-    subst (AreHeld c.args.tally.now.counts) (sym c.mask.ensures)
+    subst (AreHeld c.args.tally.now.counts) (sym c.requires.here.mask)
     (mask_held c.args.table.now sound.fits c.args.tally.now.counts parts sound.tallied.counts c.args.found.part c.args.found.part
     sound.admitted.state.distinct stands)
 
@@ -37,11 +33,6 @@ pub depart_near-requires : goal.depart_near-requires
 depart_near-requires c =
     (part_known c.args.table.now c.args.tally.now.parts.parts c.args.found.part.job c.args.found.part c.requires.sound.admitted
     c.requires.found).loaded
-
-pub work_of-requires : goal.work_of-requires
-work_of-requires c =
-    (part_known c.args.table.now c.args.tally.now.parts.parts c.args.found.part.job c.args.found.part c.requires.sound.admitted
-    c.requires.found).stage
 
 pub overflow_sub-tally : goal.overflow_sub-tally
 overflow_sub-tally c =
@@ -52,7 +43,7 @@ overflow_sub-tally c =
     omega (
       arith,
       sound.tallied.work,
-      c.work_of.ensures,
+      (work_by_row cell c.args.found.part c.args.here c.requires.here c.work.result c.work.ensures),
       work_without cell sound.fits parts c.args.found.part sound.admitted.state.distinct stands,
     )
 
@@ -81,11 +72,11 @@ returns-clause-tallied c =
       );
       counts = subst (λ (parts : List Part). AreCounts cell parts c.leave.new.self) (sym now)
           (counts_left cell sound.fits parts c.args.tally.now.counts c.leave.new.self tallied.counts c.leave.ensures.length
-          c.leave.ensures.capacities part distinct here.stands c.mask.result c.mask.ensures c.leave.ensures.counts);
+          c.leave.ensures.capacities part distinct here.stands c.args.here.mask c.requires.here.mask c.leave.ensures.counts);
       work = omega (
         arith,
         tallied.work,
-        c.work_of.ensures,
+        (work_by_row cell c.args.found.part c.args.here c.requires.here c.work.result c.work.ensures),
         work_without cell sound.fits parts part distinct here.stands,
         ap (λ (parts : List Part). work cell parts) now,
       );

@@ -26,6 +26,7 @@ invariant_of-self c =
       );
       within = omega (arith, c.self.invariant.within);
       fits = omega (arith, c.self.invariant.fits, c.take_out.ensures.room);
+      seats = omega (arith, c.self.invariant.seats, c.take_out.ensures.seats);
     }
 
 pub returns-in-Some-clause-items : goal.returns-in-Some-clause-items
