@@ -1,5 +1,5 @@
 -- One line more of a record, and what the bytes are where there is none.
-use Rattle.std.proofs.Common.{◌≡◌, ℕ, zero, suc, ◌+◌, ◌<◌, ◌≤◌, ◌⊎◌, Bool, true, false, not, ◌&&◌, ◌==◌, List, [], ◌∷◌, ◌++◌, length}
+use Rattle.std.proofs.Common.{◌≡◌, ℕ, ◌+◌, ◌<◌, ◌≤◌, ◌⊎◌, Bool, true, false, not, ◌&&◌, ◌==◌, List, [], ◌∷◌, ◌++◌, length}
 use Rattle.std.proofs.Common.{append_assoc, append-nil, length-append, Some, None, Ok, Err, refl, sym, ap, ◌∙◌, subst, inl, inr, arith, ne_eqb}
 use Rattle.std.specs.List.{join_with_byte}
 use Rattle.std.specs.Option.{option_map}
@@ -15,9 +15,8 @@ use Rattle.record_text.specs.declared.stages.Stage.{Stage}
 use Rattle.record_text.specs.declared.stages.Stage.TheVariants.{Between}
 use Rattle.record_text.specs.BadLines.{pieces, text_of_lines, IsRecordOf, RefusedAt}
 use Rattle.record_text.specs.Blocks.{AreWellFormed}
-use Rattle.record_text.specs.Progress.{Reading, is_between, is_whole, on_line, read_from, run}
+use Rattle.record_text.specs.Progress.{Reading, is_whole, on_line, read_from, run}
 use Rattle.record_text.specs.Reading.{◌>>=◌}
-use Rattle.record_text.specs.Records.{text_of_blocks}
 use Rattle.record_text.specs.Remains.{LinesLeft, AreRead}
 use Rattle.record_text.specs.Turns.{IsTurn, Suits, line_at, turn_after, turn_of, with_line}
 use Rattle.record_text.proofs.Exact.{answers_formed, read_bad_line, read_past}

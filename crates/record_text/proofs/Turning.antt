@@ -1,6 +1,5 @@
 -- What a line says in its turn is what the reading does with it.
-use Rattle.std.proofs.Common.{◌≡◌, ℕ, zero, suc, ◌-◌, ◌<◌, Bool, true, false, cond, ◌==◌, List, [], ◌∷◌, ◌++◌, Option, Some, None, ◌≢◌, ⊎_elim, refl, sym, ap, ◌∙◌, arith}
-use Rattle.std.specs.Prelude.{IfSome}
+use Rattle.std.proofs.Common.{◌≡◌, ℕ, ◌-◌, ◌<◌, Bool, true, false, cond, ◌==◌, List, [], ◌∷◌, ◌++◌, Option, Some, None, ◌≢◌, ⊎_elim, refl, sym, ap, ◌∙◌, arith}
 use Rattle.std.specs.Option.{option_map, option_map_or}
 use Rattle.std.proofs.lemmas.Bool.{cases_eq, eq-eqb, ne_eqb}
 use Rattle.cell_base.specs.declared.cells.Cell.{Cell}
@@ -12,13 +11,12 @@ use Rattle.record_text.specs.declared.blocks.Block.{Block}
 use Rattle.record_text.specs.declared.blocks.Tail.TheVariants as tails
 use Rattle.record_text.specs.declared.record_lines.RecordLine.{RecordLine}
 use Rattle.record_text.specs.declared.record_lines.RecordLine.TheVariants as lines
-use Rattle.record_text.specs.declared.record_lines.Turn.{Turn}
 use Rattle.record_text.specs.declared.record_lines.Turn.TheVariants as turns
 use Rattle.record_text.specs.declared.stages.Stage.{Stage}
 use Rattle.record_text.specs.declared.stages.Stage.TheVariants.{Between, Entries, Left, Steps}
-use Rattle.record_text.specs.Progress.{Reading, closed, on_head, on_entry, on_entries, on_left, on_steps, on_line}
+use Rattle.record_text.specs.Progress.{closed, on_head, on_entry, on_entries, on_left, on_steps, on_line}
 use Rattle.record_text.specs.Reading.{Words, ◌>>=◌, entry_at, head_at, left_at, plan_at, step_at}
-use Rattle.record_text.specs.Turns.{IsTurn, LineFits, Suits, before_steps, line_at, turn_after, turn_of, with_line}
+use Rattle.record_text.specs.Turns.{IsTurn, Suits, before_steps, line_at, turn_after, turn_of, with_line}
 use Rattle.record_text.proofs.Requesting.{step_fits}
 use Rattle.record_text.proofs.Wording.{entry_at-sound, step_at-sound}
 

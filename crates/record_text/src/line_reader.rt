@@ -49,6 +49,7 @@ impl<'a> LineReader<'a> {
     pub fn new(cell: &'a Cell, bytes: &'a [u8]) -> Result<LineReader<'a>, RecordFault>
         requires { CellFits cell.now }
         ensures begun { IfOk result (λ left. AreRead left bytes.now unread) }
+        ensures first { IfOk result (λ left. left.number ≡ 1) }
         ensures cell { IfOk result (λ left. left.cell ≡ cell.now) }
         ensures refused { IfErr result (RefusedAt cell.now bytes.now) }
     {

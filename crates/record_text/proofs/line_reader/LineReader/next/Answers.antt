@@ -1,5 +1,5 @@
 -- One line more is read, and what the bytes are where there is none.
-use Rattle.std.proofs.Common.{◌≡◌, ℕ, ◌+◌, ◌<◌, ◌≤◌, ◌⊎◌, length, sym, ap, ◌∙◌, subst}
+use Rattle.std.proofs.Common.{◌≡◌, ℕ, ◌+◌, ◌<◌, ◌≤◌, ◌⊎◌, length, sym, ap, subst}
 use Rattle.record_text.specs.declared.record.RecordFault.TheVariants.{Bad}
 use Rattle.record_text.specs.declared.record_lines.Turn.{Turn}
 use Rattle.record_text.specs.declared.record_lines.Turn.TheVariants as turns
