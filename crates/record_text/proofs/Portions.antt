@@ -30,7 +30,7 @@ use Rattle.record_text.proofs.Running.{run, run_cons, run_one, run_nothing, run-
 use Rattle.record_text.proofs.Splitting.{joined-pieces, pieces-behind}
 
 -- lines that are read lead on
-run_reached : (cell : Cell) (n : ℕ) (blocks : List Block) (at : Stage) (before lines : List (List ℕ)) (r : Reading)
+pub run_reached : (cell : Cell) (n : ℕ) (blocks : List Block) (at : Stage) (before lines : List (List ℕ)) (r : Reading)
     → n ≡ length before + 1 → IsReached cell blocks at before → run cell n blocks at lines ≡ Some r
     → IsReached cell r.0 r.1 (before ++ lines)
 run_reached cell n blocks at before [] r count reached ran =
@@ -73,7 +73,7 @@ module _ (cell : Cell) (n : ℕ) (bytes : List ℕ) where
   }
 
 -- the text before the rest of bytes are the lines that were cut from it
-text_before : (lines : List (List ℕ)) (rest : List ℕ)
+pub text_before : (lines : List (List ℕ)) (rest : List ℕ)
     → join_with_byte 10 (lines ++ pieces rest) ≡ text_of_lines lines ++ join_with_byte 10 (pieces rest)
 text_before lines rest = by lines (pieces_some rest).0 (pieces_some rest).1 (pieces_some rest).2 where
   by : (lines : List (List ℕ)) (p : List ℕ) (ps : List (List ℕ)) → pieces rest ≡ p ∷ ps

@@ -89,7 +89,7 @@ module _ (cell : Cell) where
       let parts = or_parts (was_halted entry.told) (holds_halt entries) none in
       rw parts.0 (none_halted entries parts.1)
 
-  last_of : (front : List Entry) (last : Entry) → slice_get (front ++ last ∷ []) (length (front ++ last ∷ []) - 1) ≡ Some last
+  pub last_of : (front : List Entry) (last : Entry) → slice_get (front ++ last ∷ []) (length (front ++ last ∷ []) - 1) ≡ Some last
   last_of front last = ap (slice_get (front ++ last ∷ [])) (omega (arith, length-append front (last ∷ []))) ∙ at front where
     at : (front : List Entry) → slice_get (front ++ last ∷ []) (length front) ≡ Some last
     at [] = refl

@@ -1,4 +1,8 @@
+pub mod Adding
+pub mod Arms
+pub mod BlockLines
 pub mod Carrying
+pub mod Going
 pub mod Judged
 pub mod Legal
 pub mod Onward

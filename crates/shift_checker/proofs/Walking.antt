@@ -36,11 +36,11 @@ moved f here cell now then x a b is = is ∙ ap (λ c. f c now) a ∙ ap (f cell
 pub one_more : (P : ℕ → Type 0) (i : ℕ) → ((j : ℕ) → j < i → P j) → P i → (j : ℕ) → j < i + 1 → P j
 one_more P i before here j below = elim (lt-or-eq j i below) [ inl less ↦ before j less | inr same ↦ subst P (sym same) here ]
 
-after-append : (cell : Cell) (parts : List Part) (xs ys : List Entry) → after cell parts (xs ++ ys) ≡ after cell (after cell parts xs) ys
+pub after-append : (cell : Cell) (parts : List Part) (xs ys : List Entry) → after cell parts (xs ++ ys) ≡ after cell (after cell parts xs) ys
 after-append cell parts [] ys = refl
 after-append cell parts (x ∷ xs) ys = after-append cell (state_after_entry cell parts x.request x.told) xs ys
 
-granted-append : (cell : Cell) (xs ys : List Entry) → granted_requests (xs ++ ys) ≡ granted_requests xs ++ granted_requests ys
+pub granted-append : (cell : Cell) (xs ys : List Entry) → granted_requests (xs ++ ys) ≡ granted_requests xs ++ granted_requests ys
 granted-append cell [] ys = refl
 granted-append cell (x ∷ xs) ys =
     granted_more cell x (xs ++ ys)
@@ -112,7 +112,7 @@ few_so_far cell entries i =
 
 -- ---- a step
 
-all_granted-append : (cell : Cell) (parts : List Part) (xs ys : List Request)
+pub all_granted-append : (cell : Cell) (parts : List Part) (xs ys : List Request)
     → all_granted cell parts (xs ++ ys) ≡ (all_granted cell parts xs && all_granted cell (after_requests cell parts xs) ys)
 all_granted-append cell parts [] ys = refl
 all_granted-append cell parts (x ∷ xs) ys =

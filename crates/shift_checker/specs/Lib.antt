@@ -1,3 +1,4 @@
 pub mod Carrying
 pub mod Judging
+pub mod Lines
 pub mod Replies

@@ -6,9 +6,10 @@ ghost use Rattle.record_text.specs.Blocks.{AreWellFormed};
 ghost use Rattle.shift_checker.specs.Judging.{judge, IsVerdictOn};
 
 use crate::Verdict;
+use crate::line_walk::LineWalk;
 use crate::walk::Walk;
 use cell_base::{Cell, List, NoMemory};
-use record_text::{Block, BlockReader, RecordFault};
+use record_text::{Block, LineReader, RecordFault};
 use std::alloc::Global;
 
 /// The verdict on the blocks of a record, as `read_record` gives them. Memory is taken once, for the parts.
@@ -21,20 +22,23 @@ pub fn check(alloc: Global, cell: &Cell, blocks: &List<Block>) -> Result<Verdict
     Ok(walk.blocks(blocks.as_slice()))
 }
 
-/// The verdict on the record that some bytes are. Each block is judged as soon as it is read, and none is kept. Behind a line
-/// that fails the blocks are still read, since a later line may be none of a record.
+/// The verdict on the record that some bytes are. Each line is judged as soon as it is read, and none is kept. Behind a line that
+/// fails the others are still read, since a later one may be none of a record.
 pub fn check_text(alloc: Global, cell: &Cell, bytes: &[u8]) -> Result<Verdict, RecordFault>
     requires { CellFits cell.now }
     ensures judged { IfOk result (IsVerdictOn cell.now bytes.now) }
     ensures refused { IfErr result (RefusedAt cell.now bytes.now) }
 {
-    let mut left = BlockReader::new(alloc, cell, bytes)?;
-    let mut walk = Walk::new(alloc, cell)?;
+    let mut left = LineReader::new(cell, bytes)?;
+    let mut walk = LineWalk::new(alloc, cell)?;
     let mut verdict = Verdict::Yes;
-    while let Some(block) = left.next()? {
+    loop {
+        let number = left.number();
+        let Some(line) = left.next()? else {
+            return Ok(verdict);
+        };
         if let Verdict::Yes = verdict {
-            verdict = walk.block(&block);
+            verdict = walk.line(number, &line);
         }
     }
-    Ok(verdict)
 }

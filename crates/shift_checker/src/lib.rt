@@ -19,6 +19,7 @@
 
 mod checking;
 pub mod laws;
+mod line_walk;
 mod replies;
 mod verdict;
 mod walk;

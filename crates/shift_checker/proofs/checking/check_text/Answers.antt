@@ -1,75 +1,36 @@
--- One block more is judged, if none before it has a line that fails.
-use Rattle.std.proofs.Common.{◌∷◌, ◌++◌, [], Ok, ap, sym, ◌∙◌, subst}
+-- One line more is judged, if none before it failed.
+use Rattle.std.proofs.Common.{Ok, rules, ap, subst, refl}
 use Rattle.cell_base.specs.declared.cells.Cell.{Cell}
-use Rattle.record_text.specs.BadLines.{IsRecordOf}
-use Rattle.record_text.specs.Remains.{IsReadTo}
-use Rattle.shift_checker.proofs.Judged.{all_judged, formed_all, goes_on, stays, walk_before, walk_formed, walk_lines}
-use Rattle.shift_checker.proofs.checking.check_text.Goals.{in-Yes, in_default-verdict}
+use Rattle.record_text.specs.BadLines.{RefusedAt}
+use Rattle.record_text.specs.Remains.{AreRead}
+use Rattle.record_text.specs.Turns.{with_line}
+use Rattle.shift_checker.proofs.Judged.{all_judged, stays_wrong}
 use Rattle.shift_checker.proofs.checking.check_text.Goals as goal
 
-pub block-verdict-requires-clause-formed : goal.block-verdict-requires-clause-formed
-block-verdict-requires-clause-formed c =
+pub returns-in_err-line-clause-refused : goal.returns-in_err-line-clause-refused
+returns-in_err-line-clause-refused c =
     let so_far = c.loop-walk.invariant in
-    let read : IsReadTo c.next.new.self c.args.bytes.now (so_far.given ++ c.in-Some.block ∷ []) =
-    rw c.in-Some.is at (c.in_ok-block.ensures.block c.args.bytes.now so_far.given so_far.read) in
-    walk_formed c.args.cell.now c.args.bytes.now c.loop-walk.left c.next.new.self c.loop-walk.walk c.loop-walk.verdict so_far
-    c.in_ok-block.ensures.cell c.in-Some.block read c.in-Yes.is
+    let why : RefusedAt c.args.cell.now c.args.bytes.now c.in_err-line.field-0.0 =
+    subst (λ (cell : Cell). RefusedAt cell c.args.bytes.now c.in_err-line.field-0.0) so_far.of
+    (rw c.in_err-line.was at (c.next.ensures.refused c.args.bytes.now so_far.so_far so_far.read)) in
+    search (rules, why)
 
-pub block-verdict-requires-clause-lines : goal.block-verdict-requires-clause-lines
-block-verdict-requires-clause-lines c =
+pub returns-in_default-clause-judged : goal.returns-in_default-clause-judged
+returns-in_default-clause-judged c =
     let so_far = c.loop-walk.invariant in
-    let read : IsReadTo c.next.new.self c.args.bytes.now (so_far.given ++ c.in-Some.block ∷ []) =
-    rw c.in-Some.is at (c.in_ok-block.ensures.block c.args.bytes.now so_far.given so_far.read) in
-    walk_lines c.args.cell.now c.args.bytes.now c.loop-walk.left c.next.new.self c.loop-walk.walk c.loop-walk.verdict so_far
-    c.in_ok-block.ensures.cell c.in-Some.block read
-
-pub block-verdict-requires-clause-before : goal.block-verdict-requires-clause-before
-block-verdict-requires-clause-before c =
-    let so_far = c.loop-walk.invariant in
-    let read : IsReadTo c.next.new.self c.args.bytes.now (so_far.given ++ c.in-Some.block ∷ []) =
-    rw c.in-Some.is at (c.in_ok-block.ensures.block c.args.bytes.now so_far.given so_far.read) in
-    walk_before c.args.cell.now c.args.bytes.now c.loop-walk.left c.next.new.self c.loop-walk.walk c.loop-walk.verdict so_far
-    c.in_ok-block.ensures.cell c.in-Some.block read c.in-Yes.is
-
-pub loop-walk-preserved-after-verdict : goal.loop-walk-preserved-after-verdict
-loop-walk-preserved-after-verdict c =
-    let so_far = c.loop-walk.invariant in
-    let read : IsReadTo c.next.new.self c.args.bytes.now (so_far.given ++ c.in-Some.block ∷ []) =
-    rw c.in-Some.is at (c.in_ok-block.ensures.block c.args.bytes.now so_far.given so_far.read) in
-    elim c.match-verdict.branch [
-      | in-Yes w ↦
-          goes_on c.args.cell.now c.args.bytes.now c.loop-walk.left c.next.new.self c.loop-walk.walk c.loop-walk.verdict so_far
-          c.in_ok-block.ensures.cell c.in-Some.block read c.match-verdict.walk c.match-verdict.verdict w.in-Yes.is
-          (w.verdict-is ∙ w.block-verdict.ensures.verdict)
-          (λ right. w.walk-is ∙ w.block-verdict.ensures.state (sym w.verdict-is ∙ right))
-      | in_default-verdict w ↦
-          stays c.args.cell.now c.args.bytes.now c.loop-walk.left c.next.new.self c.loop-walk.walk c.loop-walk.verdict so_far
-          c.in_ok-block.ensures.cell c.in-Some.block read c.match-verdict.walk c.match-verdict.verdict w.in_default-verdict.not-Yes
-          w.verdict-is
-    ]
+    let none = ap Ok c.in_default.is in
+    let left = c.in_ok-line.ensures in
+    all_judged c.args.cell.now c.args.bytes.now c.loop-walk.left c.loop-walk.walk c.loop-walk.verdict so_far
+    (left.ended c.args.bytes.now so_far.so_far so_far.read none) (left.whole c.args.bytes.now so_far.so_far so_far.read none)
+    (left.formed c.args.bytes.now so_far.so_far so_far.read none)
 
 pub loop-walk-preserved : goal.loop-walk-preserved
 loop-walk-preserved c =
     let so_far = c.loop-walk.invariant in
-    let read : IsReadTo c.next.new.self c.args.bytes.now (so_far.given ++ c.in-Some.block ∷ []) =
-    rw c.in-Some.is at (c.in_ok-block.ensures.block c.args.bytes.now so_far.given so_far.read) in
-    elim c.match-verdict.branch [
-      | in-Yes w ↦
-          goes_on c.args.cell.now c.args.bytes.now c.loop-walk.left c.next.new.self c.loop-walk.walk c.loop-walk.verdict so_far
-          c.in_ok-block.ensures.cell c.in-Some.block read c.match-verdict.walk c.match-verdict.verdict w.in-Yes.is
-          (w.verdict-is ∙ w.block-verdict.ensures.verdict)
-          (λ right. w.walk-is ∙ w.block-verdict.ensures.state (sym w.verdict-is ∙ right))
-      | in_default-verdict w ↦
-          stays c.args.cell.now c.args.bytes.now c.loop-walk.left c.next.new.self c.loop-walk.walk c.loop-walk.verdict so_far
-          c.in_ok-block.ensures.cell c.in-Some.block read c.match-verdict.walk c.match-verdict.verdict w.in_default-verdict.not-Yes
-          w.verdict-is
-    ]
-
-pub returns-clause-judged : goal.returns-clause-judged
-returns-clause-judged c =
-    let so_far = c.loop-walk.invariant in
-    let cell = c.args.cell.now in
-    all_judged cell c.args.bytes.now so_far.given c.loop-walk.verdict
-    (subst (λ (cell : Cell). IsRecordOf cell c.args.bytes.now so_far.given) so_far.of
-    (c.in_ok-block.ensures.whole c.args.bytes.now so_far.given so_far.read (ap Ok c.in_default.is)))
-    (formed_all cell c.args.bytes.now c.loop-walk.left so_far.of so_far.given so_far.read) so_far.judged
+    let left = c.in_ok-line.ensures in
+    let read : AreRead c.next.new.self c.args.bytes.now
+    (with_line c.loop-walk.left.number so_far.so_far.0 so_far.so_far.1 c.in-Some.line) =
+    rw c.in-Some.is at (left.line c.args.bytes.now so_far.so_far so_far.read) in
+    stays_wrong c.args.cell.now c.args.bytes.now c.loop-walk.left c.next.new.self c.loop-walk.walk c.loop-walk.verdict so_far
+    left.cell c.in-Some.line (rw c.in-Some.is at left.fits) (rw c.in-Some.is at left.suits) (rw c.in-Some.is at left.number) read
+    c.loop-walk.walk c.loop-walk.verdict c.in_default-verdict.not-Yes refl

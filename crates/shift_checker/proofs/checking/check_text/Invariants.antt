@@ -1,4 +1,4 @@
--- The blocks so far are judged.
+-- The lines so far are judged.
 use Rattle.std.proofs.Common.{length}
 use Rattle.shift_checker.proofs.Judged.{AreJudged}
 use Rattle.shift_checker.proofs.checking.check_text.Given as goal
