@@ -140,7 +140,7 @@ pub fn refusal_text(why: &Refusal) -> &'static str {
 }
 
 /// Why a part can't be carried, or a frame is not taken.
-#[derive(Clone, Copy, Debug, PartialEq, Eq)]
+#[derive(Clone, Copy)]
 pub enum Misfit {
     NoType,
     NoPlace,

@@ -20,7 +20,7 @@ const WHY: &[u8] = b"why";
 const GRANTS: &[u8] = b"grants";
 
 /// What a line asks for.
-#[derive(Clone, Copy, Debug, PartialEq, Eq)]
+#[derive(Clone, Copy)]
 pub enum Ask {
     /// A session asks for a step.
     Step { session: u16, request: Request },
