@@ -29,6 +29,11 @@ fn opens_and_answers(rt: HostRuntime) -> Result<(), Fail> {
     assert_eq!(rt; core.parts_left(), 1);
     assert_eq!(rt; core.part(0), waiting);
     assert_eq!(rt; core.count(ResId(0)), 1);
+    let work = Request::Process { machine: ResId(0) };
+    assert_eq!(rt; core.take_plan_step(), Some(work));
+    assert_eq!(rt; core.take_plan_step(), Some(Request::Unload { job }));
+    assert_eq!(rt; core.take_plan_step(), None);
+    assert_eq!(rt; core.parts_left(), 0);
     let _core = may_be_shared(core);
     Ok(())
 }

@@ -13,8 +13,17 @@ pub fn plan(alloc: Global, core: Core) -> Result<List<Request>, NoMemory>
     ensures drains { IfOk result (Drains core.cell core.parts) }
     ensures length { IfOk result (λ steps. length steps ≡ work core.cell core.parts) }
 {
-    let mut steps = List::new(alloc);
     let mut drainer = Drainer::new(core);
+    steps_left(alloc, &mut drainer)
+}
+
+/// The steps that are left, which are taken.
+fn steps_left(alloc: Global, drainer: &mut Drainer) -> Result<List<Request>, NoMemory>
+    ensures steps { IfOk result (λ steps. steps ≡ plan_of drainer.old.cell drainer.old.parts) }
+    ensures drains { IfOk result (Drains drainer.old.cell drainer.old.parts) }
+    ensures length { IfOk result (λ steps. length steps ≡ work drainer.old.cell drainer.old.parts) }
+{
+    let mut steps = List::new(alloc);
     for _ in 0..drainer.length() {
         if let Some(step) = drainer.next() {
             steps.try_push(step)?;

@@ -1,6 +1,6 @@
 //! With memory at hand the table is made.
 use crate::Parts;
-use cell_base::{Cell, List};
+use cell_base::{Cell, JobId, List};
 use std::test::Fail;
 
 #[test]
@@ -12,5 +12,6 @@ fn a_table_is_made(rt: HostRuntime) -> Result<(), Fail> {
     };
     let parts = Parts::with_room(alloc, &cell, 3)?;
     assert_eq!(rt; parts.len(), 0);
+    assert_eq!(rt; parts.find(JobId(7)), None);
     Ok(())
 }

@@ -4,8 +4,8 @@ use Rattle.std.proofs.lemmas.List.{length-append}
 use Rattle.cell_base.specs.declared.requests.Request.{Request}
 use Rattle.cell_base.specs.Plans.{plan_of}
 use Rattle.admission_core.specs.CoreState.{CoreState}
-use Rattle.drain_planner.proofs.plans.plan.Goals as goal
-use Rattle.drain_planner.proofs.plans.plan.Goals.{in-Some+in_ok-try_push, in_default}
+use Rattle.drain_planner.proofs.plans.steps_left.Goals as goal
+use Rattle.drain_planner.proofs.plans.steps_left.Goals.{in-Some+in_ok-try_push, in_default}
 
 -- the plan of a state
 abbrev plan_at : CoreState → List Request
@@ -22,15 +22,15 @@ loop-preserved c = elim c.match-next.branch [
       let pushed : c.match-next.steps ≡ c.loop.steps ++ w.in-Some.step ∷ [] = w.steps-is ∙ w.in_ok-try_push.ensures.ok in (
         w.in-Some.ensures.cell ∙ c.loop.invariant.0,
         ap (λ xs. xs ++ plan_at c.next.new.self) pushed
-            ∙ step_on c.loop.steps (plan_at c.loop.drainer) (plan_at c.args.core) (plan_at c.next.new.self) w.in-Some.step
+            ∙ step_on c.loop.steps (plan_at c.loop.drainer) (plan_at c.args.drainer.now) (plan_at c.next.new.self) w.in-Some.step
             c.loop.invariant.1 w.in-Some.ensures.some,
         omega (arith, ap length pushed, length-append c.loop.steps (w.in-Some.step ∷ []), c.loop.invariant.2),
       )
   | in_default w ↦
       let none : plan_at c.loop.drainer ≡ [] = ap (plan_of c.loop.drainer.cell) (c.next.ensures.none.0 w.in_default.is) in
-      let made : length c.loop.steps ≡ length (plan_at c.args.core) =
+      let made : length c.loop.steps ≡ length (plan_at c.args.drainer.now) =
       omega (arith, ap length c.loop.invariant.1, length-append c.loop.steps (plan_at c.loop.drainer), ap length none) in
-      let all : c.length-end.result ≡ length (plan_at c.args.core) =
-      c.length-end.ensures.steps ∙ ap (λ state. length (plan_at state)) c.new-drainer.ensures in
+      let all : c.length-end.result ≡ length (plan_at c.args.drainer.now) =
+      c.length-end.ensures.steps in
       absurd (omega (arith, made, all, c.loop.invariant.2, c.loop-test.true))
 ]
