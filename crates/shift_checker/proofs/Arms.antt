@@ -30,23 +30,23 @@ use Rattle.shift_checker.specs.declared.verdict.Verdict.{Verdict}
 use Rattle.shift_checker.specs.declared.verdict.Verdict.TheVariants.{Yes, No}
 use Rattle.shift_checker.specs.Carrying.{Carried, unbegun, halted_in, settled, carried_over}
 use Rattle.shift_checker.specs.Judging.{granted_requests, fails_unless, is_told_rightly, judge_left, judge_plan, verdict_from}
-use Rattle.shift_checker.specs.Lines.{IsAt, IsWalked, LineWalked, carried_by, carried_in, halted_by, judged}
+use Rattle.shift_checker.specs.Lines.{IsAt, IsWalked, Walked, carried_by, carried_in, halted_by, judged}
 use Rattle.shift_checker.proofs.Adding.{at, entry_line, judged_entry, judged_halt, judged_head, judged_left, judged_planned}
 use Rattle.shift_checker.proofs.Adding.{judged_steps, step_line, step_lines}
 use Rattle.shift_checker.proofs.Carrying.{after_requests-append, last_of}
 use Rattle.shift_checker.proofs.Going.{verdict_more, number_more, granted_more, last_refused, step_more, last_granted, last_stays, length-steps}
 use Rattle.shift_checker.proofs.BlockLines.{over_more}
 use Rattle.shift_checker.proofs.Verdicts.{right_front, wrong_after}
-use Rattle.shift_checker.proofs.Walking.{after-append, granted-append}
+use Rattle.shift_checker.proofs.Joined.{after-append, granted-append}
 
 -- the walk behind one line more
-pub record Goes (n : ℕ) (cell : Cell) (next : Reading) (result : Verdict) (new : LineWalked) : Type 0 where
+pub record Goes (n : ℕ) (cell : Cell) (next : Reading) (result : Verdict) (new : Walked) : Type 0 where
   pub verdict : result ≡ verdict_from 1 (judged cell next)
   pub walked : result ≡ Yes → IsWalked (n + 1) next new
 
-module _ (w : LineWalked) (n : ℕ) (so_far : Reading) (is : IsWalked n so_far w) where
+module _ (w : Walked) (n : ℕ) (so_far : Reading) (is : IsWalked n so_far w) where
   -- a line that adds its own to those before it
-  pub goes : (next : Reading) (o : Option Why) (result : Verdict) (new : LineWalked) → new.cell ≡ w.cell
+  pub goes : (next : Reading) (o : Option Why) (result : Verdict) (new : Walked) → new.cell ≡ w.cell
       → judged w.cell next ≡ judged w.cell so_far ++ o ∷ [] → result ≡ verdict_from n (o ∷ [])
       → (result ≡ Yes → IsAt new.cell (n + 1) (carried_over new.cell unbegun next.0) next.1 new)
       → (result ≡ Yes → new.count + length (option_to_list new.halted) < n + 1)
@@ -82,7 +82,7 @@ settled_few cell at names = by (names == at.count + 1) refl where
   by true is = rw is (omega arith)
   by false is = rw is (omega arith)
 
-module _ (w : LineWalked) (n : ℕ) (given : List Block) where
+module _ (w : Walked) (n : ℕ) (given : List Block) where
   abbrev cell : Cell
   cell = w.cell
 
@@ -131,7 +131,7 @@ module _ (w : LineWalked) (n : ℕ) (given : List Block) where
     by (Answered (Refused why)) = omega arith
     by Halted = omega arith
 
-  abbrev after_this : Entry → LineWalked
+  abbrev after_this : Entry → Walked
   after_this entry = record w {
     parts = state_after_entry cell w.parts entry.request entry.told;
     count = w.count + length (granted_requests (entry ∷ []));
@@ -244,7 +244,7 @@ module _ (w : LineWalked) (n : ℕ) (given : List Block) where
         tail = tails.Planned left steps;
       }))
 
-  pub empty_goes : (stage : Stage) (result : Verdict) (new : LineWalked) → IsWalked n (given, stage) w
+  pub empty_goes : (stage : Stage) (result : Verdict) (new : Walked) → IsWalked n (given, stage) w
       → Suits (turn_of stage) (lines.Plan 0) → new.cell ≡ cell
       → result ≡ verdict_from n (fails_unless (length w.parts == 0) whys.Parts ∷ [])
       → (result ≡ Yes → carried_by new ≡ carried_by w)
@@ -299,7 +299,7 @@ module _ (w : LineWalked) (n : ℕ) (given : List Block) where
     is_right = is_granted (reply_to cell w.parts step)
 
     -- a step that is not granted
-    pub refused_goes : (stage : Stage) (result : Verdict) (new : LineWalked) → IsWalked n (given, stage) w
+    pub refused_goes : (stage : Stage) (result : Verdict) (new : Walked) → IsWalked n (given, stage) w
         → Suits (turn_of stage) (lines.Step step) → new.cell ≡ cell → is_right ≡ false → result ≡ No n whys.Step
         → Goes n cell (with_line n given stage (lines.Step step)) result new
     refused_goes (Steps head entries left missing steps) result new is suits same refused says =
@@ -379,7 +379,7 @@ module _ (w : LineWalked) (n : ℕ) (given : List Block) where
     more_goes (Left head entries left) result is suits right more says = absurd suits
 
     -- and the last one
-    pub last_goes : (stage : Stage) (result : Verdict) (new : LineWalked) → IsWalked n (given, stage) w
+    pub last_goes : (stage : Stage) (result : Verdict) (new : Walked) → IsWalked n (given, stage) w
         → Suits (turn_of stage) (lines.Step step) → new.cell ≡ cell → is_right ≡ true → w.missing ≡ 1
         → result ≡ verdict_from w.plan (fails_unless (length (state_after cell w.parts step) == 0) whys.Parts ∷ [])
         → (result ≡ Yes → carried_by new ≡ record (carried_by w) { parts = w.kept })
@@ -458,7 +458,7 @@ zero_or_more : (n : ℕ) → (n ≡ 0) ⊎ (0 < n)
 zero_or_more zero = inl refl
 zero_or_more (suc n) = inr (omega arith)
 
-module _ (w : LineWalked) (n : ℕ) (so_far : Reading) (is : IsWalked n so_far w) (result : Verdict) (new : LineWalked)
+module _ (w : Walked) (n : ℕ) (so_far : Reading) (is : IsWalked n so_far w) (result : Verdict) (new : Walked)
     (same : new.cell ≡ w.cell) where
   abbrev Next : RecordLine → Type 0
   Next line = Goes n w.cell (with_line n so_far.0 so_far.1 line) result new

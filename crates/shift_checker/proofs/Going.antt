@@ -16,7 +16,7 @@ use Rattle.shift_checker.specs.Judging.{fails_unless, judge_plan, judge_step, ve
 use Rattle.shift_checker.proofs.Adding.{step_line, step_lines, steps_more}
 use Rattle.shift_checker.proofs.Carrying.{after_requests-append}
 use Rattle.shift_checker.proofs.Verdicts.{all_right, right_after, wrong_after}
-use Rattle.shift_checker.proofs.Walking.{all_granted-append}
+use Rattle.shift_checker.proofs.Joined.{all_granted-append}
 
 -- ---- verdicts on lines, and one line more
 
@@ -41,7 +41,7 @@ module _ (cell : Cell) where
       i (omega (arith, below))
 
   module _ (parts : List Part) (steps : List Request) where
-    steps_right : all_granted cell parts steps ≡ true → (n : ℕ) → verdict_from n (step_lines cell parts steps) ≡ Yes
+    pub steps_right : all_granted cell parts steps ≡ true → (n : ℕ) → verdict_from n (step_lines cell parts steps) ≡ Yes
     steps_right granted n =
         all_right (judge_step cell parts steps) n 0 (length steps)
         (λ i below. ap (judge_step cell parts steps) (zero-add i) ∙ each_granted parts steps granted i below)

@@ -13,24 +13,28 @@ use Rattle.shift_checker.specs.declared.verdict.Verdict.{Verdict}
 use Rattle.shift_checker.specs.declared.verdict.Verdict.TheVariants.{Yes, No}
 use Rattle.shift_checker.specs.Carrying.{unbegun, carried_lines}
 use Rattle.shift_checker.specs.Judging.{IsVerdictOn, verdict_from}
-use Rattle.shift_checker.specs.Lines.{IsWalked, LineWalked, judged, unmoved}
+use Rattle.shift_checker.specs.Lines.{IsWalked, Walked, judged, unmoved}
 use Rattle.shift_checker.proofs.Arms.{stays}
 use Rattle.shift_checker.proofs.Carrying.{judge_by_walk}
 
 -- a walk that has found no line that fails is behind the lines that were read
-pub record IsBehind (cell : Cell) (n : ℕ) (so_far : Reading) (walk : LineWalked) : Type 0 where
+pub record IsBehind (cell : Cell) (n : ℕ) (so_far : Reading) (walk : Walked) : Type 0 where
   pub of : walk.cell ≡ cell
   pub walked : IsWalked n so_far walk
 
 -- lines have been read of the bytes, and this is the verdict on them
-pub record AreJudged (cell : Cell) (bytes : List ℕ) (left : LinesLeft) (walk : LineWalked) (verdict : Verdict) : Type 0 where
+pub record AreJudged (cell : Cell) (bytes : List ℕ) (left : LinesLeft) (walk : Walked) (verdict : Verdict) : Type 0 where
   pub so_far : Reading
   pub of : left.cell ≡ cell
   pub read : AreRead left bytes so_far
   pub judged : verdict ≡ verdict_from 1 (judged cell so_far)
   pub here : verdict ≡ Yes → IsBehind cell left.number so_far walk
 
-pub none_judged : (cell : Cell) (bytes : List ℕ) (left : LinesLeft) (walk : LineWalked) → left.cell ≡ cell → AreRead left bytes unread
+-- before the first line
+pub begun : (cell : Cell) → IsWalked 1 unread (unmoved cell)
+begun cell = record { right = refl; number = refl; here = refl; few = omega arith; fits = tt }
+
+pub none_judged : (cell : Cell) (bytes : List ℕ) (left : LinesLeft) (walk : Walked) → left.cell ≡ cell → AreRead left bytes unread
     → left.number ≡ 1 → walk ≡ unmoved cell → AreJudged cell bytes left walk Yes
 none_judged cell bytes left walk of read first is = record {
   so_far = unread;
@@ -38,16 +42,15 @@ none_judged cell bytes left walk of read first is = record {
   read = read;
   judged = refl;
   here = λ yes. record {
-    of = ap (λ (walk : LineWalked). walk.cell) is;
+    of = ap (λ (walk : Walked). walk.cell) is;
     walked =
         subst (λ n. IsWalked n unread walk) (sym first)
-        (subst (IsWalked 1 unread) (sym is)
-        (record { right = refl; number = refl; here = refl; few = omega arith; fits = tt }));
+        (subst (IsWalked 1 unread) (sym is) (begun cell));
   };
 }
 
 -- nothing more is there to be read
-pub all_judged : (cell : Cell) (bytes : List ℕ) (left : LinesLeft) (walk : LineWalked) (verdict : Verdict)
+pub all_judged : (cell : Cell) (bytes : List ℕ) (left : LinesLeft) (walk : Walked) (verdict : Verdict)
     → (so_far : AreJudged cell bytes left walk verdict)
     → so_far.so_far.1 ≡ Between → IsRecordOf left.cell bytes so_far.so_far.0 → AreWellFormed left.cell so_far.so_far.0
     → IsVerdictOn cell bytes verdict
@@ -63,7 +66,7 @@ all_judged cell bytes left walk verdict so_far ended written formed =
     }
 
 -- one line more was read
-module _ (cell : Cell) (bytes : List ℕ) (left new : LinesLeft) (walk : LineWalked) (verdict : Verdict)
+module _ (cell : Cell) (bytes : List ℕ) (left new : LinesLeft) (walk : Walked) (verdict : Verdict)
     (so_far : AreJudged cell bytes left walk verdict) (of : new.cell ≡ left.cell) (line : RecordLine) (fits : LineFits left.cell line)
     (suits : Suits left.turn line) (number : new.number ≡ left.number + 1)
     (read : AreRead new bytes (with_line left.number so_far.so_far.0 so_far.so_far.1 line)) where
@@ -74,7 +77,7 @@ module _ (cell : Cell) (bytes : List ℕ) (left new : LinesLeft) (walk : LineWal
   may_come = subst (λ turn. Suits turn line) so_far.read.turn suits
 
   -- where a line failed already the verdict stays
-  module _ (then : LineWalked) (other : Verdict) where
+  module _ (then : Walked) (other : Verdict) where
     pub stays_wrong : (verdict ≡ Yes → ⊥) → other ≡ verdict → AreJudged cell bytes new then other
     stays_wrong wrong is = by verdict refl
       where

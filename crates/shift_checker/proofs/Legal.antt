@@ -1,8 +1,7 @@
 -- The record of a legal history and its plan is right.
 use Rattle.std.proofs.Common.{◌≡◌, ℕ, zero, suc, ◌+◌, ◌<◌, Bool, true, false, cond, ◌==◌, List, [], ◌∷◌}
-use Rattle.std.proofs.Common.{◌++◌, length, append-nil, None, refl, sym, ap, ◌∙◌, subst, arith, eq-eqb}
+use Rattle.std.proofs.Common.{◌++◌, length, append-nil, zero-add, None, refl, sym, ap, ◌∙◌, subst, arith, eq-eqb}
 use Rattle.std.specs.List.{All}
-use Rattle.std.proofs.lemmas.Bool.{and_parts}
 use Rattle.cell_base.specs.declared.cells.Cell.{Cell}
 use Rattle.cell_base.specs.declared.requests.Part.{Part}
 use Rattle.cell_base.specs.declared.requests.Request.{Request}
@@ -10,8 +9,7 @@ use Rattle.cell_base.specs.declared.requests.Told.{Told}
 use Rattle.cell_base.specs.declared.requests.Told.TheVariants.{Answered, Halted}
 use Rattle.cell_base.specs.declared.shifts.Entry.{Entry}
 use Rattle.cell_base.specs.Fits.{CellFits, RequestFits}
-use Rattle.cell_base.specs.Histories.{is_granted, state_after_entry, after, all_granted, IsToldRightly, IsLegal}
-use Rattle.cell_base.specs.Outcomes.{reply_to, state_after}
+use Rattle.cell_base.specs.Histories.{is_granted, state_after_entry, after, after_requests, IsToldRightly, IsLegal}
 use Rattle.cell_base.specs.Plans.{Drains, plan_of}
 use Rattle.cell_base.specs.Scripts.{holds_halt}
 use Rattle.policy_laws.proofs.Admission.{admission_law}
@@ -23,11 +21,11 @@ use Rattle.record_text.specs.Records.{block_of}
 use Rattle.shift_checker.specs.declared.verdict.Why.TheVariants as whys
 use Rattle.shift_checker.specs.declared.verdict.Verdict.TheVariants.{Yes}
 use Rattle.shift_checker.specs.Judging.{fails_unless, is_told_rightly, judge_entry, judge_entries}
-use Rattle.shift_checker.specs.Judging.{judge_step, judge_tail, judge_block, verdict_from, judge}
+use Rattle.shift_checker.specs.Judging.{judge_tail, judge_block, verdict_from, judge}
 use Rattle.shift_checker.proofs.Replying.{same_itself}
 use Rattle.shift_checker.specs.Replies.{same_reply}
-use Rattle.shift_checker.proofs.Verdicts.{right_after}
-use Rattle.shift_checker.proofs.Walking.{entries_right, steps_right}
+use Rattle.shift_checker.proofs.Going.{steps_right}
+use Rattle.shift_checker.proofs.Verdicts.{all_right, right_after}
 
 module _ (cell : Cell) where
   -- what is told rightly passes the test
@@ -44,23 +42,12 @@ module _ (cell : Cell) where
   legal_at parts (entry ∷ entries) (suc i) legal within =
       legal_at (state_after_entry cell parts entry.request entry.told) entries i legal.1 (omega (arith, within))
 
-  granted_at : (parts : List Part) (steps : List Request) (i : ℕ) → all_granted cell parts steps ≡ true → i < length steps
-      → judge_step cell parts steps i ≡ None
-  granted_at parts [] i granted within = absurd (omega (arith, within))
-  granted_at parts (step ∷ steps) zero granted within =
-      let both = and_parts (is_granted (reply_to cell parts step)) (all_granted cell (state_after cell parts step) steps) granted in
-      ap (λ right. fails_unless right whys.Step) both.0
-  granted_at parts (step ∷ steps) (suc i) granted within =
-      let both = and_parts (is_granted (reply_to cell parts step)) (all_granted cell (state_after cell parts step) steps) granted in
-      granted_at (state_after cell parts step) steps i both.1 (omega (arith, within))
-
   -- the tail that tells of the parts and of a plan that drains them is right
   tail_right : (parts : List Part) (plan : List Request) (n : ℕ) → Drains cell parts plan
       → verdict_from n (judge_tail cell parts (tails.Planned (length parts) plan)) ≡ Yes
   tail_right parts plan n drains =
-      rw (eq-eqb (length parts) (length parts) refl)
-      (steps_right cell parts plan (n + 1) drains.granted (ap (λ (ps : List Part). nothing ps) drains.emptied)
-      (λ i below. granted_at parts plan i drains.granted below))
+      let none : nothing (after_requests cell parts plan) ≡ true = ap (λ (ps : List Part). nothing ps) drains.emptied in
+      rw (eq-eqb (length parts) (length parts) refl, drains.granted, none) (steps_right cell parts plan drains.granted (n + 1 + 1))
     where
       nothing : List Part → Bool
       nothing ps = length ps == 0
@@ -72,7 +59,8 @@ module _ (cell : Cell) where
       let parts : List Part = after cell [] history in
       let Right : Tail → Type 0 = λ tail. verdict_from 2 (judge_entries cell [] history ++ judge_tail cell parts tail) ≡ Yes in
       let entries : verdict_from 2 (judge_entries cell [] history) ≡ Yes =
-      entries_right cell [] history 2 (length history) (omega arith) (λ i below. legal_at [] history i legal below) in
+      all_right (judge_entry cell [] history) 2 0 (length history)
+      (λ i below. ap (judge_entry cell [] history) (zero-add i) ∙ legal_at [] history i legal below) in
       subst (λ (halts : Bool). Right (cond halts tails.Halted (tails.Planned (length parts) plan))) (sym unhalted)
       (right_after 2 (judge_entries cell [] history) (judge_tail cell parts (tails.Planned (length parts) plan)) entries
       ∙ tail_right parts plan (2 + length (judge_entries cell [] history)) drains)

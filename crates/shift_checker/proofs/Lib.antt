@@ -2,11 +2,12 @@ pub mod Adding
 pub mod Arms
 pub mod BlockLines
 pub mod Carrying
+pub mod Following
 pub mod Going
+pub mod Joined
 pub mod Judged
 pub mod Legal
-pub mod Onward
+pub mod Numbers
 pub mod Replying
 pub mod Rows
 pub mod Verdicts
-pub mod Walking

@@ -1,11 +1,10 @@
 -- What a walk over the blocks carries from each one to the next.
-use Rattle.std.specs.Prelude.{ℕ, ◌+◌, ◌-◌, ◌<◌, ◌==◌, if◌then◌else◌, Option, None, List, [], ◌∷◌, ◌++◌, length, slice_get, IfSome}
+use Rattle.std.specs.Prelude.{ℕ, ◌+◌, ◌-◌, ◌==◌, if◌then◌else◌, Option, None, List, [], ◌∷◌, ◌++◌, length, slice_get}
 use Rattle.std.specs.Option.{option_map, option_to_list}
 use Rattle.cell_base.specs.declared.cells.Cell.{Cell}
 use Rattle.cell_base.specs.declared.requests.Part.{Part}
 use Rattle.cell_base.specs.declared.requests.Request.{Request}
 use Rattle.cell_base.specs.declared.shifts.Entry.{Entry}
-use Rattle.cell_base.specs.Fits.{RequestFits}
 use Rattle.cell_base.specs.Histories.{after, after_requests}
 use Rattle.record_text.specs.declared.blocks.Block.{Block}
 use Rattle.record_text.specs.declared.blocks.Tail.{Tail}
@@ -51,16 +50,6 @@ carried_lines cell at (block ∷ blocks) =
     let begun = settled cell at block.after in
     judge_block cell begun.parts begun.count block ++ carried_lines cell (carried_on cell begun block) blocks
 
--- what contracts see of a walk: the cell, and where it is
-pub record Walked : Type 0 where
-  pub cell : Cell
-  pub at : Carried
-
 -- before the first block
 abbrev pub unbegun : Carried
 unbegun = record { parts = []; count = 0; halted = None }
-
--- each request that counts, or may, has a line before the n-th, and the halted one fits the cell
-pub record IsBefore (cell : Cell) (n : ℕ) (at : Carried) : Type 0 where
-  pub counted : at.count + length (option_to_list at.halted) < n
-  pub fits : IfSome at.halted (RequestFits cell)

@@ -2,3 +2,4 @@ pub mod Carrying
 pub mod Judging
 pub mod Lines
 pub mod Replies
+pub mod Saying

@@ -52,7 +52,7 @@ judged cell so_far =
 
 -- what contracts see of it: the parts and those before the plan, how many requests count, the halted one that may count too, the
 -- number of the plan line, and how many of its steps are missing
-pub record LineWalked : Type 0 where
+pub record Walked : Type 0 where
   pub cell : Cell
   pub parts : List Part
   pub kept : List Part
@@ -62,11 +62,11 @@ pub record LineWalked : Type 0 where
   pub missing : ℕ
 
 -- before the first line
-abbrev pub unmoved : Cell → LineWalked
+abbrev pub unmoved : Cell → Walked
 unmoved cell = record { cell = cell; parts = []; kept = []; count = 0; halted = None; plan = 0; missing = 0 }
 
 -- what it carries on
-abbrev pub carried_by : LineWalked → Carried
+abbrev pub carried_by : Walked → Carried
 carried_by walk = record { parts = walk.parts; count = walk.count; halted = walk.halted }
 
 -- the halted request after an entry
@@ -74,7 +74,7 @@ abbrev pub halted_by : Option Request → Entry → Option Request
 halted_by halted entry = if was_halted entry.told then Some entry.request else halted
 
 -- it is in the plan of a block, whose line is the n-th, and has tried these steps
-pub record IsInPlan (cell : Cell) (at : Carried) (n more : ℕ) (steps : List Request) (walk : LineWalked) : Type 0 where
+pub record IsInPlan (cell : Cell) (at : Carried) (n more : ℕ) (steps : List Request) (walk : Walked) : Type 0 where
   pub before : record (carried_by walk) { parts = walk.kept } ≡ at
   pub parts : walk.parts ≡ after_requests cell at.parts steps
   pub granted : all_granted cell at.parts steps ≡ true
@@ -83,14 +83,14 @@ pub record IsInPlan (cell : Cell) (at : Carried) (n more : ℕ) (steps : List Re
   pub plan : walk.plan + length steps + 1 ≡ n
 
 -- it is where the n-th line is the next one
-abbrev pub IsAt : Cell → ℕ → Carried → Stage → LineWalked → Type 0
+abbrev pub IsAt : Cell → ℕ → Carried → Stage → Walked → Type 0
 IsAt cell n at Between walk = carried_by walk ≡ at
 IsAt cell n at (Entries head entries) walk = carried_by walk ≡ carried_in cell at head entries
 IsAt cell n at (Left head entries left) walk = carried_by walk ≡ carried_in cell at head entries
 IsAt cell n at (Steps head entries left missing steps) walk = IsInPlan cell (carried_in cell at head entries) n missing steps walk
 
 -- the lines before the n-th are right, and it is behind them
-pub record IsWalked (n : ℕ) (so_far : Reading) (walk : LineWalked) : Type 0 where
+pub record IsWalked (n : ℕ) (so_far : Reading) (walk : Walked) : Type 0 where
   pub right : verdict_from 1 (judged walk.cell so_far) ≡ Yes
   pub number : n ≡ 1 + length (judged walk.cell so_far)
   pub here : IsAt walk.cell n (carried_over walk.cell unbegun so_far.0) so_far.1 walk

@@ -6,7 +6,7 @@ ghost use Rattle.record_text.specs.Blocks.{AreWellFormed};
 ghost use Rattle.shift_checker.specs.Judging.{judge, IsVerdictOn};
 
 use crate::Verdict;
-use crate::line_walk::LineWalk;
+use crate::block_lines::walk_blocks;
 use crate::walk::Walk;
 use cell_base::{Cell, List, NoMemory};
 use record_text::{Block, LineReader, RecordFault};
@@ -19,7 +19,7 @@ pub fn check(alloc: Global, cell: &Cell, blocks: &List<Block>) -> Result<Verdict
     ensures { IfOk result (λ verdict. verdict ≡ judge cell.now blocks.now) }
 {
     let mut walk = Walk::new(alloc, cell)?;
-    Ok(walk.blocks(blocks.as_slice()))
+    Ok(walk_blocks(&mut walk, blocks.as_slice()))
 }
 
 /// The verdict on the record that some bytes are. Each line is judged as soon as it is read, and none is kept. Behind a line that
@@ -30,7 +30,7 @@ pub fn check_text(alloc: Global, cell: &Cell, bytes: &[u8]) -> Result<Verdict, R
     ensures refused { IfErr result (RefusedAt cell.now bytes.now) }
 {
     let mut left = LineReader::new(cell, bytes)?;
-    let mut walk = LineWalk::new(alloc, cell)?;
+    let mut walk = Walk::new(alloc, cell)?;
     let mut verdict = Verdict::Yes;
     loop {
         let number = left.number();

@@ -10,16 +10,16 @@
 //! }
 //! ```
 //!
-//! `check_text` does both at once, block by block, and so takes the memory of one block.
+//! `check_text` does both at once, line by line as the text is read, and so takes the memory of the parts alone.
 //!
 //! The state is empty before the first block. A shift that was halted at a request leaves open whether it was written:
 //! it was where the head of the next block names one more grant. The steps of a plan are tried, and change nothing.
 //! `laws` says that the record of a legal shift and its plan is right.
 #![tactic(auto)]
 
+mod block_lines;
 mod checking;
 pub mod laws;
-mod line_walk;
 mod replies;
 mod verdict;
 mod walk;

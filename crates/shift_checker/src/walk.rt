@@ -1,219 +1,203 @@
-//! The walk over the blocks of a record, which carries one state along.
-ghost use Rattle.std.specs.Prelude.{◌≡◌, ◌+◌, ◌<◌, ◌≤◌, ◌^◌, ◌∷◌, [], length, None, All, sum_by, IfOk, IfSome};
+//! The walk over the lines of a record, which judges each as it is read, and keeps none.
+ghost use Rattle.std.specs.Prelude.{◌≡◌, ◌+◌, ◌-◌, ◌<◌, ◌^◌, ◌∷◌, [], length, false, true, ◌==◌, IfOk, IfSome};
 ghost use Rattle.cell_base.specs.Fits.{CellFits, RequestFits};
-ghost use Rattle.cell_base.specs.Histories.{after, state_after_entry};
-ghost use Rattle.record_text.specs.Blocks.{BlockIsWellFormed, AreNumbered, line_count, steps_of};
-ghost use Rattle.shift_checker.specs.declared.verdict.Verdict.TheVariants.{Yes};
-ghost use Rattle.shift_checker.specs.Judging.{granted_requests, judge_entries, judge_left, judge_steps};
-ghost use Rattle.shift_checker.specs.Judging.{judge_tail, judge_block, verdict_from, is_told_rightly};
-ghost use Rattle.shift_checker.specs.Carrying.{unbegun, IsBefore, halted_in, settled, carried_on, carried_lines};
+ghost use Rattle.cell_base.specs.Histories.{is_granted, state_after_entry};
+ghost use Rattle.cell_base.specs.Outcomes.{reply_to, state_after};
+ghost use Rattle.record_text.specs.Progress.{Reading};
+ghost use Rattle.record_text.specs.Turns.{LineFits, Suits, turn_of, with_line};
+ghost use Rattle.shift_checker.specs.declared.verdict.Verdict.TheVariants.{No, Yes};
+ghost use Rattle.shift_checker.specs.declared.verdict.Why.TheVariants as whys;
+ghost use Rattle.shift_checker.specs.Carrying.{settled};
+ghost use Rattle.shift_checker.specs.Judging.{fails_unless, granted_requests, is_told_rightly, verdict_from};
+ghost use Rattle.shift_checker.specs.Lines.{IsWalked, carried_by, halted_by, judged, unmoved};
 
-use crate::replies::{is_granted, last_request, same_reply};
+use crate::replies::{is_granted, same_reply};
 use crate::{Verdict, Why};
 use cell_base::{Cell, Entry, NoMemory, Request, Told};
 use plain_recount::Recount;
-use record_text::{Block, Tail};
+use record_text::RecordLine;
 use std::alloc::Global;
 use std::marker::Model;
 
-/// The parts, how many requests count so far, and the halted request that may count too.
+/// The parts, how many requests count so far, and the halted request that may count too; in a plan, the number of its line
+/// and how many steps are missing. While the steps of a plan are tried, the parts before it are kept.
 #[derive(Drop)]
 pub struct Walk<'a> {
     recount: Recount<'a>,
     count: u64,
     halted: Option<Request>,
+    plan: u32,
+    missing: u64,
 }
 
 impl<'a> Model for Walk<'a> {
-    ghost use Rattle.shift_checker.specs.Carrying.{Walked};
+    ghost use Rattle.shift_checker.specs.Lines.{Walked};
 
     ghost Value = { Walked };
 
     ghost view = { λ s. record {
       cell = s.recount.cell;
-      at = record { parts = s.recount.parts; count = s.count; halted = s.halted };
+      parts = s.recount.parts;
+      kept = s.recount.kept;
+      count = s.count;
+      halted = s.halted;
+      plan = s.plan;
+      missing = s.missing;
     } };
 }
 
 impl<'a> Walk<'a> {
-    /// The empty state of a cell, before the first block.
+    /// The empty state of a cell, before the first line.
     pub fn new(alloc: Global, cell: &'a Cell) -> Result<Walk<'a>, NoMemory>
         requires { CellFits cell.now }
-        ensures { IfOk result (λ walk. walk ≡ record { cell = cell.now; at = unbegun }) }
+        ensures { IfOk result (λ walk. walk ≡ unmoved cell.now) }
     {
         let recount = Recount::new(alloc, cell)?;
         Ok(Walk {
             recount,
             count: 0,
             halted: None,
+            plan: 0,
+            missing: 0,
         })
     }
 
-    /// Goes over all blocks of a file, up to the first line that fails.
-    pub fn blocks(&mut self, blocks: &[Block]) -> Verdict
-        requires each { All (BlockIsWellFormed self.old.cell) blocks.now }
-        requires numbered { AreNumbered 1 blocks.now }
-        requires lines { sum_by line_count blocks.now < 2 ^ 32 }
-        requires begun { self.old.at ≡ unbegun }
-        ensures { result ≡ verdict_from 1 (carried_lines self.old.cell self.old.at blocks.now) }
+    /// Goes on by the line of this number.
+    pub fn line(&mut self, number: u32, line: &RecordLine) -> Verdict
+        requires fits { LineFits self.old.cell line.now }
+        requires walked { (so_far : Reading) × IsWalked number so_far self.old × Suits (turn_of so_far.1) line.now }
+        ensures verdict { (so_far : Reading) → IsWalked number so_far self.old → Suits (turn_of so_far.1) line.now
+            → result ≡ verdict_from 1 (judged self.old.cell (with_line number so_far.0 so_far.1 line.now)) }
+        ensures walked { (so_far : Reading) → IsWalked number so_far self.old → Suits (turn_of so_far.1) line.now
+            → result ≡ Yes → IsWalked (number + 1) (with_line number so_far.0 so_far.1 line.now) self.new }
+        ensures cell { self.new.cell ≡ self.old.cell }
     {
-        for block in blocks {
-            let verdict = self.block(block);
-            if let Verdict::No { .. } = verdict {
-                return verdict;
-            }
+        match *line {
+            RecordLine::Head { after, .. } => self.head(number, after),
+            RecordLine::Entry(entry) => self.entry(number, &entry),
+            RecordLine::Left(left) => self.left(number, left),
+            RecordLine::Plan(steps) => self.plan(number, steps),
+            RecordLine::Step(step) => self.step(number, &step),
         }
-        Verdict::Yes
     }
 
-    /// Goes over the next block, up to its first line that fails.
-    pub fn block(&mut self, block: &Block) -> Verdict
-        requires formed { BlockIsWellFormed self.old.cell block.now }
-        requires lines { block.now.first_line + line_count block.now ≤ 2 ^ 32 }
-        requires before { IsBefore self.old.cell block.now.first_line self.old.at }
-        ensures verdict { let begun = settled self.old.cell self.old.at block.now.after in
-            result ≡ verdict_from block.now.first_line (judge_block self.old.cell begun.parts begun.count block.now) }
-        ensures state { result ≡ Yes → self.new
-            ≡ record self.old { at = carried_on self.old.cell (settled self.old.cell self.old.at block.now.after) block.now } }
-    {
-        self.settle(block.after);
-        if block.after != self.count {
-            return Verdict::No {
-                line: block.first_line,
-                why: Why::After,
-            };
-        }
-        let verdict = self.entries(block.first_line, block.entries.as_slice());
-        if let Verdict::No { .. } = verdict {
-            return verdict;
-        }
-        self.tail(block)
-    }
-
-    /// Lets the halted request count where the next head names one more.
-    fn settle(&mut self, named: u64)
-        requires halted { IfSome self.old.at.halted (RequestFits self.old.cell) }
-        requires few { self.old.at.count + 1 < 2 ^ 64 }
-        ensures { self.new ≡ record self.old { at = settled self.old.cell self.old.at named } }
+    /// The halted request counts where the head names one more.
+    fn head(&mut self, number: u32, after: u64) -> Verdict
+        requires halted { IfSome self.old.halted (RequestFits self.old.cell) }
+        requires few { self.old.count + 1 < 2 ^ 64 }
+        ensures verdict { result ≡ verdict_from number
+            (fails_unless (after == (settled self.old.cell (carried_by self.old) after).count) whys.After ∷ []) }
+        ensures state { let begun = settled self.old.cell (carried_by self.old) after in
+            self.new ≡ record self.old { parts = begun.parts; count = begun.count; halted = begun.halted } }
     {
         if let Some(request) = self.halted {
-            if named == self.count + 1 {
+            if after == self.count + 1 {
                 self.recount.ask(&request);
                 self.count += 1;
             }
         }
         self.halted = None;
+        verdict(after == self.count, number, Why::After)
     }
 
-    fn entries(&mut self, first_line: u32, entries: &[Entry]) -> Verdict
-        requires fit { All (λ entry. RequestFits self.old.cell entry.request) entries.now }
-        requires lines { first_line + length entries.now < 2 ^ 32 }
-        requires few { self.old.at.count < first_line }
-        ensures verdict { result ≡ verdict_from (first_line + 1) (judge_entries self.old.cell self.old.at.parts entries.now) }
-        ensures state { result ≡ Yes → self.new ≡ record self.old {
-          at = record self.old.at {
-            parts = after self.old.cell self.old.at.parts entries.now;
-            count = self.old.at.count + length (granted_requests entries.now);
-          };
-        } }
-    {
-        for (i, entry) in entries.iter().enumerate() {
-            if !self.is_told_rightly(entry) {
-                return Verdict::No {
-                    line: first_line + 1 + i as u32,
-                    why: Why::Reply,
-                };
-            }
-        }
-        Verdict::Yes
-    }
-
-    /// Whether an entry is told rightly. The state is then that after the entry.
-    fn is_told_rightly(&mut self, entry: &Entry) -> bool
+    /// The state is then that after the entry.
+    fn entry(&mut self, number: u32, entry: &Entry) -> Verdict
         requires fits { RequestFits self.old.cell entry.now.request }
-        requires few { self.old.at.count + 1 < 2 ^ 64 }
-        ensures told { result ≡ is_told_rightly self.old.cell self.old.at.parts entry.now.request entry.now.told }
+        requires few { self.old.count + 1 < 2 ^ 64 }
+        ensures verdict { result ≡ verdict_from number
+            (fails_unless (is_told_rightly self.old.cell self.old.parts entry.now.request entry.now.told) whys.Reply ∷ []) }
         ensures state { self.new ≡ record self.old {
-          at = record self.old.at {
-            parts = state_after_entry self.old.cell self.old.at.parts entry.now.request entry.now.told;
-            count = self.old.at.count + length (granted_requests (entry.now ∷ []));
-          };
+          parts = state_after_entry self.old.cell self.old.parts entry.now.request entry.now.told;
+          count = self.old.count + length (granted_requests (entry.now ∷ []));
+          halted = halted_by self.old.halted entry.now;
         } }
     {
-        match entry.told {
+        let right = match entry.told {
             Told::Answered(reply) => {
                 if is_granted(reply) {
                     self.count += 1;
                 }
                 same_reply(self.recount.ask(&entry.request), reply)
             }
-            Told::Halted => is_granted(self.recount.decide(&entry.request)),
-        }
+            Told::Halted => {
+                self.halted = Some(entry.request);
+                is_granted(self.recount.decide(&entry.request))
+            }
+        };
+        verdict(right, number, Why::Reply)
     }
 
-    fn tail(&mut self, block: &Block) -> Verdict
-        requires steps { All (RequestFits self.old.cell) (steps_of block.now.tail) }
-        requires lines { block.now.first_line + line_count block.now ≤ 2 ^ 32 }
-        requires settled { self.old.at.halted ≡ None }
-        ensures verdict { result ≡ verdict_from (block.now.first_line + 1 + length block.now.entries)
-            (judge_tail self.old.cell self.old.at.parts block.now.tail) }
-        ensures state { result ≡ Yes → self.new
-            ≡ record self.old { at = record self.old.at { halted = halted_in block.now.entries block.now.tail } } }
+    fn left(&self, number: u32, left: u32) -> Verdict
+        ensures { result ≡ verdict_from number (fails_unless (left == length self.now.parts) whys.Left ∷ []) }
     {
-        match &block.tail {
-            Tail::Planned { left, steps } => {
-                let line = block.first_line + 1 + block.entries.len() as u32;
-                self.planned(line, *left, steps.as_slice())
-            }
-            Tail::Halted => {
-                self.halted = last_request(block.entries.as_slice());
-                Verdict::Yes
-            }
-        }
+        verdict(left == self.recount.parts_left(), number, Why::Left)
     }
 
-    /// The left line, and the plan after it. The steps are tried, and change nothing.
-    fn planned(&mut self, line: u32, left: u32, steps: &[Request]) -> Verdict
-        requires fit { All (RequestFits self.old.cell) steps.now }
-        requires lines { line + 2 + length steps.now ≤ 2 ^ 32 }
-        ensures verdict { result ≡ verdict_from line
-            (judge_left self.old.at.parts left ∷ judge_steps self.old.cell self.old.at.parts steps.now) }
-        ensures state { self.new ≡ self.old }
+    /// The steps are tried, and change nothing. A plan of none is right where no part is left.
+    fn plan(&mut self, number: u32, steps: u64) -> Verdict
+        ensures empty { steps ≡ 0 → result ≡ verdict_from number (fails_unless (length self.old.parts == 0) whys.Parts ∷ []) }
+        ensures ended { steps ≡ 0 → result ≡ Yes → carried_by self.new ≡ carried_by self.old }
+        ensures begun { 0 < steps → result ≡ Yes }
+        ensures state { 0 < steps → self.new ≡ record self.old { kept = self.old.parts; plan = number; missing = steps } }
+        ensures cell { self.new.cell ≡ self.old.cell }
     {
-        if left != self.recount.parts_left() {
-            return Verdict::No {
-                line,
-                why: Why::Left,
-            };
-        }
         self.recount.keep();
-        let verdict = plan(&mut self.recount, line + 1, steps);
-        self.recount.go_back();
-        verdict
+        self.plan = number;
+        self.missing = steps;
+        if steps == 0 {
+            return self.end();
+        }
+        Verdict::Yes
     }
-}
 
-/// The plan line and the lines of its steps. A step that is not granted comes first, since the plan line is right then.
-fn plan(recount: &mut Recount<'_>, line: u32, steps: &[Request]) -> Verdict
-    requires fit { All (RequestFits recount.old.cell) steps.now }
-    requires lines { line + 1 + length steps.now ≤ 2 ^ 32 }
-    ensures verdict { result ≡ verdict_from line (judge_steps recount.old.cell recount.old.parts steps.now) }
-    ensures cell { recount.new.cell ≡ recount.old.cell }
-    ensures kept { recount.new.kept ≡ recount.old.kept }
-{
-    for (j, step) in steps.iter().enumerate() {
-        if !is_granted(recount.ask(step)) {
+    fn step(&mut self, number: u32, step: &Request) -> Verdict
+        requires fits { RequestFits self.old.cell step.now }
+        requires missing { 0 < self.old.missing }
+        ensures refused { is_granted (reply_to self.old.cell self.old.parts step.now) ≡ false → result ≡ No number whys.Step }
+        ensures more { is_granted (reply_to self.old.cell self.old.parts step.now) ≡ true → 1 < self.old.missing → result ≡ Yes }
+        ensures state { is_granted (reply_to self.old.cell self.old.parts step.now) ≡ true → 1 < self.old.missing
+            → self.new ≡ record self.old {
+              parts = state_after self.old.cell self.old.parts step.now;
+              missing = self.old.missing - 1;
+            } }
+        ensures last { is_granted (reply_to self.old.cell self.old.parts step.now) ≡ true → self.old.missing ≡ 1
+            → result ≡ verdict_from self.old.plan
+            (fails_unless (length (state_after self.old.cell self.old.parts step.now) == 0) whys.Parts ∷ []) }
+        ensures ended { is_granted (reply_to self.old.cell self.old.parts step.now) ≡ true → self.old.missing ≡ 1 → result ≡ Yes
+            → carried_by self.new ≡ record (carried_by self.old) { parts = self.old.kept } }
+        ensures cell { self.new.cell ≡ self.old.cell }
+    {
+        if !is_granted(self.recount.ask(step)) {
             return Verdict::No {
-                line: line + 1 + j as u32,
+                line: number,
                 why: Why::Step,
             };
         }
+        self.missing -= 1;
+        if self.missing == 0 {
+            return self.end();
+        }
+        Verdict::Yes
     }
-    if recount.parts_left() != 0 {
-        return Verdict::No {
-            line,
-            why: Why::Parts,
-        };
+
+    /// No step of the plan is missing: no part may be left, and those before the plan are back.
+    fn end(&mut self) -> Verdict
+        ensures verdict { result ≡ verdict_from self.old.plan (fails_unless (length self.old.parts == 0) whys.Parts ∷ []) }
+        ensures state { self.new ≡ record self.old { parts = self.old.kept; kept = self.old.parts } }
+    {
+        let left = self.recount.parts_left();
+        self.recount.go_back();
+        verdict(left == 0, self.plan, Why::Parts)
     }
-    Verdict::Yes
+}
+
+/// The verdict on one line.
+fn verdict(right: bool, line: u32, why: Why) -> Verdict
+    ensures { result ≡ verdict_from line (fails_unless right why ∷ []) }
+{
+    if right {
+        Verdict::Yes
+    } else {
+        Verdict::No { line, why }
+    }
 }

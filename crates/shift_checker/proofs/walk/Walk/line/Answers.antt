@@ -2,7 +2,7 @@
 use Rattle.record_text.specs.Turns.{Suits, turn_of}
 use Rattle.record_text.specs.declared.record_lines.RecordLine.TheVariants as lines
 use Rattle.shift_checker.proofs.Arms.{head_goes, entry_goes, left_goes, plan_answered, some_missing, step_answered}
-use Rattle.shift_checker.proofs.line_walk.LineWalk.line.Goals as goal
+use Rattle.shift_checker.proofs.walk.Walk.line.Goals as goal
 
 pub step-requires-clause-missing : goal.step-requires-clause-missing
 step-requires-clause-missing c =
