@@ -14,8 +14,7 @@ use record_text::{Line, MAX_RECORD_BYTES};
 use shift_checker::{Verdict, Why, check_text};
 use std::alloc::Global;
 
-/// The verdict on a record file of this cell, or the end in its place. Beside the bytes of the file there is one block of it
-/// at a time.
+/// The verdict on a record file of this cell, or the end in its place.
 pub fn check_record<F: Files>(
     alloc: Global,
     files: &mut F,

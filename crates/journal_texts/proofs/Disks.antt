@@ -1,6 +1,6 @@
 -- What was done to a disk, by what its calls say.
 use Rattle.std.specs.Prelude.{IfSome, IsSomeAnd, ⊤}
-use Rattle.std.proofs.Common.{◌⊎◌, inl, inr, ℕ, List, [], Option, Some, None, refl}
+use Rattle.std.proofs.Common.{◌⊎◌, inl, inr, ℕ, List, [], Option, Some, None}
 use Rattle.outside_io.specs.Disk.{LeavesOnly, Turns}
 use Rattle.durable_cell.specs.Made.{IsUnmade}
 use Rattle.move_journal.specs.Journals.{StandsFor}
