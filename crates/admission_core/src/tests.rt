@@ -2,11 +2,21 @@
 use crate::Core;
 use cell_base::{JobId, Part, Refusal, Reply, Request, ResId, TypeId, cell_fits, request_fits};
 use small_cells::cell_of_one;
+use std::process::Abort;
 use std::test::Fail;
 
 /// What other threads may have.
 fn may_be_shared<T: Send + Sync>(value: T) -> T {
     value
+}
+
+/// A core with one part is emptied by the steps of its plan.
+fn takes_its_plan(rt: &impl Abort, core: &mut Core, job: JobId) {
+    let work = Request::Process { machine: ResId(0) };
+    assert_eq!(rt; core.take_plan_step(), Some(work));
+    assert_eq!(rt; core.take_plan_step(), Some(Request::Unload { job }));
+    assert_eq!(rt; core.take_plan_step(), None);
+    assert_eq!(rt; core.parts_left(), 0);
 }
 
 #[test]
@@ -29,11 +39,7 @@ fn opens_and_answers(rt: HostRuntime) -> Result<(), Fail> {
     assert_eq!(rt; core.parts_left(), 1);
     assert_eq!(rt; core.part(0), waiting);
     assert_eq!(rt; core.count(ResId(0)), 1);
-    let work = Request::Process { machine: ResId(0) };
-    assert_eq!(rt; core.take_plan_step(), Some(work));
-    assert_eq!(rt; core.take_plan_step(), Some(Request::Unload { job }));
-    assert_eq!(rt; core.take_plan_step(), None);
-    assert_eq!(rt; core.parts_left(), 0);
+    takes_its_plan(&rt, &mut core, job);
     let _core = may_be_shared(core);
     Ok(())
 }

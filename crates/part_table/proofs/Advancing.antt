@@ -36,11 +36,11 @@ module _ (entries : List Entry) (job : JobId) (at : ℕ) (old : Entry) (place : 
   pub of_job : old.item.part.job.0 ≡ job.0
   of_job = sym (ap (λ (x : Entry). x.item.part.job.0) same) ∙ is.3
 
-  pub stays_there : old.stays ≡ true
+  stays_there : old.stays ≡ true
   stays_there = sym (ap (λ (x : Entry). x.stays) same) ∙ is.2
 
   left : staying (set entries at (gone_entry old)) ≡ without_job (staying entries) job
-  left = staying_taken entries at old job there (sym (ap (λ (x : Entry). x.stays) same) ∙ is.2) of_job is.4
+  left = staying_taken entries at old job there stays_there of_job is.4
 
   pub absent_left : IsAbsent (set entries at (gone_entry old)) job
   absent_left = absent_from_not_loaded (set entries at (gone_entry old)) job (rw left (absent_departed (staying entries) job))

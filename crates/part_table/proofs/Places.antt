@@ -17,15 +17,6 @@ module _ {X : Type 0} where
   get_in_push (z ∷ xs) y x (suc k) e =
       ⊎_elim (λ there. inl there) (λ last. inr (omega (arith, last.0), last.1)) (get_in_push xs y x k e)
 
-  pub get_before_push : (xs : List X) (y x : X) (k : ℕ) → slice_get xs k ≡ Some x → slice_get (xs ++ y ∷ []) k ≡ Some x
-  get_before_push [] y x k e = absurd (none-some x e)
-  get_before_push (z ∷ xs) y x zero e = e
-  get_before_push (z ∷ xs) y x (suc k) e = get_before_push xs y x k e
-
-  pub get_last : (xs : List X) (y : X) → slice_get (xs ++ y ∷ []) (length xs) ≡ Some y
-  get_last [] y = refl
-  get_last (z ∷ xs) y = get_last xs y
-
   -- what stands in a list after a write
   pub get_in_set : (xs : List X) (i k : ℕ) (y x : X) → slice_get (set xs i y) k ≡ Some x
       → ((k ≡ i) × (y ≡ x)) ⊎ (k ≢ i × (slice_get xs k ≡ Some x))
@@ -36,18 +27,6 @@ module _ {X : Type 0} where
   get_in_set (z ∷ xs) (suc i) (suc k) y x e =
       ⊎_elim (λ here. inl (omega (arith, here.0), here.1)) (λ other. inr (λ same. other.0 (omega (arith, same)), other.1))
       (get_in_set xs i k y x e)
-
-  pub get_at_set : (xs : List X) (i : ℕ) (y x : X) → slice_get xs i ≡ Some x → slice_get (set xs i y) i ≡ Some y
-  get_at_set [] i y x e = absurd (none-some x e)
-  get_at_set (z ∷ xs) zero y x e = refl
-  get_at_set (z ∷ xs) (suc i) y x e = get_at_set xs i y x e
-
-  pub get_beside_set : (xs : List X) (i k : ℕ) (y x : X) → (k ≡ i → ⊥) → slice_get xs k ≡ Some x → slice_get (set xs i y) k ≡ Some x
-  get_beside_set [] i k y x other e = absurd (none-some x e)
-  get_beside_set (z ∷ xs) zero zero y x other e = absurd (other refl)
-  get_beside_set (z ∷ xs) zero (suc k) y x other e = e
-  get_beside_set (z ∷ xs) (suc i) zero y x other e = e
-  get_beside_set (z ∷ xs) (suc i) (suc k) y x other e = get_beside_set xs i k y x (λ same. other (omega (arith, same))) e
 
   -- what stands in the first elements, and among those that pass a test
   pub get_in_take : (xs : List X) (i k : ℕ) (x : X) → slice_get (take i xs) k ≡ Some x → slice_get xs k ≡ Some x
