@@ -19,7 +19,8 @@ use Rattle.record_text.specs.Progress.{closed}
 use Rattle.shift_checker.specs.declared.verdict.Why.{Why}
 use Rattle.shift_checker.specs.declared.verdict.Why.TheVariants as whys
 use Rattle.shift_checker.specs.Carrying.{Carried, unbegun, settled, carried_over, carried_lines}
-use Rattle.shift_checker.specs.Judging.{fails_unless, indices, is_told_rightly, judge_entry, judge_entries, judge_left, judge_plan, judge_step, judge_tail}
+use Rattle.shift_checker.specs.Judging.{fails_unless, indices, is_told_rightly, judge_entry, judge_entries}
+use Rattle.shift_checker.specs.Judging.{judge_left, judge_plan, judge_step, judge_tail}
 use Rattle.shift_checker.specs.Lines.{carried_in, judge_front, judged}
 use Rattle.shift_checker.proofs.BlockLines.{lines_more}
 
@@ -107,7 +108,8 @@ module _ (cell : Cell) (given : List Block) where
   pub judged_head : (n shift names : ℕ)
       → judged cell (given, Entries (record { first_line = n; shift = shift; after = names }) [])
       ≡ judged cell (given, Between) ++ fails_unless (names == (settled cell at names).count) whys.After ∷ []
-  judged_head n shift names = ap (λ ls. ls ++ fails_unless (names == (settled cell at names).count) whys.After ∷ []) (sym (append-nil before))
+  judged_head n shift names =
+      ap (λ ls. ls ++ fails_unless (names == (settled cell at names).count) whys.After ∷ []) (sym (append-nil before))
 
   module _ (head : Head) (entries : List Entry) where
     abbrev front : List (Option Why)

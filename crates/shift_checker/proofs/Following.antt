@@ -1,6 +1,7 @@
 -- The lines of a block, read one after the other.
 use Rattle.std.proofs.Common.{◌≡◌, ℕ, zero, suc, ◌+◌, ◌-◌, ◌<◌, ◌≤◌, false, List, [], ◌∷◌, ◌++◌, map, length, take}
-use Rattle.std.proofs.Common.{append_assoc, append-nil, length-append, add-zero, zero-add, Some, refl, sym, ap, ◌∙◌, subst, arith, eq-eqb, ne_eqb}
+use Rattle.std.proofs.Common.{append_assoc, append-nil, length-append, add-zero, zero-add, Some, refl, sym, ap, ◌∙◌, subst, arith}
+use Rattle.std.proofs.Common.{eq-eqb, ne_eqb}
 use Rattle.std.specs.List.{All, slice_get}
 use Rattle.std.proofs.lemmas.Bool.{or_parts}
 use Rattle.std.proofs.lemmas.List.Elements.{All-nil, All-cons, All-append, All-map}
@@ -26,7 +27,7 @@ use Rattle.shift_checker.specs.declared.verdict.Verdict.TheVariants.{No}
 use Rattle.shift_checker.specs.Judging.{verdict_from}
 use Rattle.shift_checker.specs.Lines.{judged}
 use Rattle.shift_checker.specs.Saying.{block_says, tail_says}
-use Rattle.shift_checker.proofs.Arms.{stays}
+use Rattle.shift_checker.proofs.Staying.{stays}
 
 -- what is read with lines, the first of which is the n-th
 abbrev pub with_lines : ℕ → Reading → List RecordLine → Reading
@@ -110,7 +111,8 @@ module _ (given : List Block) (head : Head) where
   body_leads n entries tails.Halted ends =
       subst (λ (es : List Entry). LeadTo n (given, Entries head []) (map lines.Entry es ++ []) (closed given head es tails.Halted))
       (sym ends.are)
-      (subst (λ (ls : List RecordLine). LeadTo n (given, Entries head []) ls (closed given head (ends.front ++ ends.last ∷ []) tails.Halted))
+      (subst (λ (ls : List RecordLine). LeadTo n (given, Entries head []) ls
+      (closed given head (ends.front ++ ends.last ∷ []) tails.Halted))
       (sym (append-nil (map lines.Entry (ends.front ++ ends.last ∷ [])) ∙ map_last ends.front))
       (entries_lead n [] ends.front (lines.Entry ends.last ∷ []) (closed given head (ends.front ++ ends.last ∷ []) tails.Halted)
       ends.unhalted

@@ -9,7 +9,8 @@ use Rattle.cell_base.specs.Outcomes.{reply_to, state_after}
 use Rattle.shift_checker.specs.Judging.{granted_requests}
 use Rattle.shift_checker.proofs.Carrying.{granted_more}
 
-pub after-append : (cell : Cell) (parts : List Part) (xs ys : List Entry) → after cell parts (xs ++ ys) ≡ after cell (after cell parts xs) ys
+pub after-append : (cell : Cell) (parts : List Part) (xs ys : List Entry)
+    → after cell parts (xs ++ ys) ≡ after cell (after cell parts xs) ys
 after-append cell parts [] ys = refl
 after-append cell parts (x ∷ xs) ys = after-append cell (state_after_entry cell parts x.request x.told) xs ys
 

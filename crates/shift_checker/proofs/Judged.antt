@@ -14,7 +14,7 @@ use Rattle.shift_checker.specs.declared.verdict.Verdict.TheVariants.{Yes, No}
 use Rattle.shift_checker.specs.Carrying.{unbegun, carried_lines}
 use Rattle.shift_checker.specs.Judging.{IsVerdictOn, verdict_from}
 use Rattle.shift_checker.specs.Lines.{IsWalked, Walked, judged, unmoved}
-use Rattle.shift_checker.proofs.Arms.{stays}
+use Rattle.shift_checker.proofs.Staying.{stays}
 use Rattle.shift_checker.proofs.Carrying.{judge_by_walk}
 
 -- a walk that has found no line that fails is behind the lines that were read

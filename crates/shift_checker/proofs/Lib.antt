@@ -8,6 +8,8 @@ pub mod Joined
 pub mod Judged
 pub mod Legal
 pub mod Numbers
+pub mod PlanArms
 pub mod Replying
 pub mod Rows
+pub mod Staying
 pub mod Verdicts

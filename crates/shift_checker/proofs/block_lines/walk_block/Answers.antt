@@ -76,8 +76,8 @@ returns-clause-walked c = λ given is yes.
     let all : with_lines block.first_line start (take here.at (block_says block)) ≡ (given ++ block ∷ [], Between) =
     ap (with_lines block.first_line start) (take_all here.at (block_says block) (omega (arith, count, length-says block))) ∙ leads.there in
     subst (λ (r : Reading). IsWalked (block.first_line + line_count block) r here.walk) all
-    (subst (λ (n : ℕ). IsWalked (block.first_line + n) (with_lines block.first_line start (take here.at (block_says block))) here.walk) count
-    (here.invariant.walked given is))
+    (subst (λ (n : ℕ). IsWalked (block.first_line + n) (with_lines block.first_line start (take here.at (block_says block))) here.walk)
+    count (here.invariant.walked given is))
 
 pub returns-clause-verdict : goal.returns-clause-verdict
 returns-clause-verdict c = λ given is.

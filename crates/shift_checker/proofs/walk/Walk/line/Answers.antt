@@ -1,7 +1,8 @@
 -- Each kind of line goes on.
 use Rattle.record_text.specs.Turns.{Suits, turn_of}
 use Rattle.record_text.specs.declared.record_lines.RecordLine.TheVariants as lines
-use Rattle.shift_checker.proofs.Arms.{head_goes, entry_goes, left_goes, plan_answered, some_missing, step_answered}
+use Rattle.shift_checker.proofs.Arms.{head_goes, entry_goes, left_goes}
+use Rattle.shift_checker.proofs.PlanArms.{plan_answered, some_missing, step_answered}
 use Rattle.shift_checker.proofs.walk.Walk.line.Goals as goal
 
 pub step-requires-clause-missing : goal.step-requires-clause-missing
