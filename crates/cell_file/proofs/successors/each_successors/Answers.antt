@@ -26,7 +26,7 @@ loop-k-preserved c =
     let fits : NextFits places (length found) next = rw kept.count c.in_ok-successors_of.ensures.fit in
     record {
       so_far = rw pushed (each_more step found c.args.items.now c.loop-k.k v next _ c.loop-k-test.true c.index-items-k.is
-      (sym here ∙ read) kept.so_far);
+          (sym here ∙ read) kept.so_far);
       count = rw pushed (omega (arith, length-append found (next ∷ []), kept.count));
       fit = rw pushed (fit_push places found next kept.fit fits);
     }

@@ -21,7 +21,7 @@ loop-i-preserved c =
     let gives : next_session cell found (view v) ≡ Ok session = rw kept.count read in
     record {
       so_far = rw pushed (each_more (next_session cell) found c.args.items.now c.loop-i.i v session _ c.loop-i-test.true
-      c.index-items-i.is gives kept.so_far);
+          c.index-items-i.is gives kept.so_far);
       count = rw pushed (omega (arith, length-append found (session ∷ []), kept.count));
       fit = rw pushed (All-push (SessionFits cell) found session kept.fit c.in_ok-session.ensures.fits);
     }
