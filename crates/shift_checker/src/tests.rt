@@ -1,7 +1,7 @@
 //! Verdicts on records of a small cell.
-use crate::{Verdict, Why, check};
+use crate::{Verdict, Why, check, check_text};
 use cell_base::{NoMemory, ResId, cell_fits};
-use record_text::read_record;
+use record_text::{RecordFault, read_record};
 use small_cells::crossing;
 use std::alloc::Global;
 use std::test::Fail;
@@ -18,9 +18,22 @@ fn verdict_on(alloc: Global, text: &[u8]) -> Result<Option<Verdict>, NoMemory> {
     }
 }
 
+/// The same, judged as the text is read.
+fn verdict_as_read(alloc: Global, text: &[u8]) -> Result<Option<Verdict>, NoMemory> {
+    let cell = crossing(alloc)?;
+    if !cell_fits(&cell) {
+        return Ok(None);
+    }
+    match check_text(alloc, &cell, text) {
+        Ok(verdict) => Ok(Some(verdict)),
+        Err(RecordFault::Bad { .. }) => Ok(None),
+        Err(RecordFault::Memory) => Err(NoMemory),
+    }
+}
+
 #[test]
 fn verdicts_on_texts(rt: HostRuntime) -> Result<(), Fail> {
-    let table: [(&[u8], Option<Verdict>); 7] = [
+    let table: [(&[u8], Option<Verdict>); 8] = [
         (
             b"shift 1 after 0\n1 load 7 A granted\nleft 1\nplan 4\nprocess M1\nmove 7\nprocess M2\nunload 7\n",
             Some(Verdict::Yes),
@@ -60,9 +73,15 @@ shift 1 after 2\n1 move 7 granted\n1 process M2 granted\n1 unload 7 granted\nlef
             Some(Verdict::Yes),
         ),
         (b"shift 1 after 0\n1 load 7 A granted\n", None),
+        // a line that is none of a record, behind one that fails
+        (
+            b"shift 1 after 1\n1 load 7 A granted\nleft 1\nplan 4\nprocess M1\nmove 7\nprocess M3\nunload 7\n",
+            None,
+        ),
     ];
     for (text, verdict) in table {
         assert_eq!(rt; verdict_on(rt.alloc(), text)?, verdict);
+        assert_eq!(rt; verdict_as_read(rt.alloc(), text)?, verdict);
     }
     Ok(())
 }
