@@ -1,4 +1,5 @@
 pub mod Asking
+pub mod Clauses
 pub mod Entering
 pub mod Leading
 pub mod Standing

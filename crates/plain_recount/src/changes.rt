@@ -1,11 +1,8 @@
 //! The changes of granted requests.
 ghost use Rattle.std.specs.Prelude.{◌≡◌, ◌≤◌, ◌<◌, length, position, IfSome};
 ghost use Rattle.std.specs.Vec.{vec_capacity};
-ghost use Rattle.cell_base.specs.declared.requests.Reply.TheVariants.{Granted};
-ghost use Rattle.cell_base.specs.Stages.{IsStage, stage_of};
-ghost use Rattle.cell_base.specs.Policy.{is_of_job};
-ghost use Rattle.cell_base.specs.Outcomes.{part_of, outcome_of_entry, outcome_of_move, reply_to, state_after};
-ghost use Rattle.cell_base.specs.Fits.{RequestFits, units_of};
+ghost use Rattle.plain_recount.specs.Clauses.{Granted, IsStage, RequestFits, is_of_job, outcome_of_entry, outcome_of_move, part_of};
+ghost use Rattle.plain_recount.specs.Clauses.{reply_to, stage_of, state_after, units_of};
 ghost use Rattle.plain_recount.specs.Asking.{place_asked};
 ghost use Rattle.plain_recount.specs.Standing.{IsSound};
 

@@ -1,4 +1,5 @@
 pub mod Carrying
+pub mod Clauses
 pub mod Judging
 pub mod Lines
 pub mod Replies

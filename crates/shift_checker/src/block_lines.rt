@@ -1,9 +1,6 @@
 //! The lines of blocks that were read, and the walk over them.
 ghost use Rattle.std.specs.Prelude.{◌≡◌, ◌+◌, ◌<◌, ◌≤◌, ◌^◌, ◌∷◌, ◌++◌, [], length, slice_get, Some, List as Items};
-ghost use Rattle.record_text.specs.declared.blocks.Block.{Block};
-ghost use Rattle.record_text.specs.declared.stages.Stage.TheVariants.{Between};
-ghost use Rattle.record_text.specs.Blocks.{AreWellFormed, BlockIsWellFormed, line_count, tail_count};
-ghost use Rattle.record_text.specs.Turns.{unread};
+ghost use Rattle.shift_checker.specs.Clauses.{AreWellFormed, Between, Block, BlockIsWellFormed, line_count, tail_count, unread};
 ghost use Rattle.shift_checker.specs.declared.verdict.Verdict.TheVariants.{Yes};
 ghost use Rattle.shift_checker.specs.Carrying.{unbegun, carried_lines};
 ghost use Rattle.shift_checker.specs.Judging.{verdict_from};

@@ -1,10 +1,7 @@
 //! The walk over the lines of a record, which judges each as it is read, and keeps none.
 ghost use Rattle.std.specs.Prelude.{◌≡◌, ◌+◌, ◌-◌, ◌<◌, ◌^◌, ◌∷◌, [], length, false, true, ◌==◌, IfOk, IfSome};
-ghost use Rattle.cell_base.specs.Fits.{CellFits, RequestFits};
-ghost use Rattle.cell_base.specs.Histories.{is_granted, state_after_entry};
-ghost use Rattle.cell_base.specs.Outcomes.{reply_to, state_after};
-ghost use Rattle.record_text.specs.Progress.{Reading};
-ghost use Rattle.record_text.specs.Turns.{LineFits, Suits, turn_of, with_line};
+ghost use Rattle.shift_checker.specs.Clauses.{CellFits, LineFits, Reading, RequestFits, Suits, is_granted, reply_to, state_after};
+ghost use Rattle.shift_checker.specs.Clauses.{state_after_entry, turn_of, with_line};
 ghost use Rattle.shift_checker.specs.declared.verdict.Verdict.TheVariants.{No, Yes};
 ghost use Rattle.shift_checker.specs.declared.verdict.Why.TheVariants as whys;
 ghost use Rattle.shift_checker.specs.Carrying.{settled};
