@@ -20,6 +20,9 @@ pub const LINE_BYTES: usize = 160;
 /// Where many lines are made one after the other, one `Line` serves: each begins with `begin` and ends with `close`.
 ///
 /// Each call asks for room in `LINE_BYTES`, and says how long the line is at most after it.
+///
+/// The small calls are made inline, so that words whose text is known are copied as constants: without that a record took an eighth more
+/// instructions (28 November 2026).
 #[derive(Drop)]
 pub struct Line {
     bytes: [u8; LINE_BYTES],
@@ -58,6 +61,7 @@ impl Line {
     }
 
     /// Begins the line anew with this word.
+    #[inline(always)]
     pub fn begin(&mut self, word: &[u8])
         requires { length word.now ≤ LINE_BYTES }
         ensures { self.new ≡ word.now }
@@ -76,6 +80,7 @@ impl Line {
     }
 
     /// Appends a space and a word.
+    #[inline(always)]
     pub fn word(&mut self, word: &[u8])
         requires { length self.old + 1 + length word.now ≤ LINE_BYTES }
         ensures bytes { self.new ≡ self.old ++ 32 ∷ word.now }
@@ -96,6 +101,7 @@ impl Line {
     }
 
     /// The same of a number of 32 bits, which is mostly a short one.
+    #[inline(always)]
     pub fn short_number(&mut self, n: u32)
         requires { length self.old + 11 ≤ LINE_BYTES }
         ensures bytes { self.new ≡ self.old ++ 32 ∷ decimal n }
@@ -106,6 +112,7 @@ impl Line {
     }
 
     /// Appends a newline.
+    #[inline(always)]
     pub fn close(&mut self)
         requires { length self.old + 1 ≤ LINE_BYTES }
         ensures { self.new ≡ self.old ++ 10 ∷ [] }
@@ -123,6 +130,7 @@ impl Line {
     }
 
     /// The bytes, the newline with them where the line has its end.
+    #[inline(always)]
     pub fn bytes(&self) -> &[u8]
         ensures value { result.now ≡ self.now }
         ensures short { length self.now ≤ LINE_BYTES }
@@ -130,12 +138,14 @@ impl Line {
         &self.bytes[..self.len]
     }
 
+    #[inline(always)]
     fn clear(&mut self)
         ensures { self.new ≡ [] }
     {
         self.len = 0;
     }
 
+    #[inline(always)]
     fn space(&mut self)
         requires { length self.old + 1 ≤ LINE_BYTES }
         ensures bytes { self.new ≡ self.old ++ 32 ∷ [] }
@@ -144,6 +154,7 @@ impl Line {
         self.push(b' ');
     }
 
+    #[inline(always)]
     fn push(&mut self, byte: u8)
         requires { length self.old + 1 ≤ LINE_BYTES }
         ensures bytes { self.new ≡ self.old ++ byte ∷ [] }
@@ -153,6 +164,7 @@ impl Line {
         self.len += 1;
     }
 
+    #[inline(always)]
     fn append(&mut self, bytes: &[u8])
         requires { length self.old + length bytes.now ≤ LINE_BYTES }
         ensures bytes { self.new ≡ self.old ++ bytes.now }

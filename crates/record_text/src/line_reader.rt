@@ -1,13 +1,7 @@
 //! The lines of a record, read one after the other.
 ghost use Rattle.std.specs.Prelude.{◌≡◌, ◌+◌, ◌<◌, ◌≤◌, ◌⊎◌, true, false, length, Ok, None, IfOk, IfErr, IfSome, List as Items, ℕ};
-ghost use Rattle.cell_base.specs.Fits.{CellFits};
-ghost use Rattle.record_text.specs.declared.record.TheConstants.{MAX_RECORD_BYTES};
-ghost use Rattle.record_text.specs.declared.stages.Stage.TheVariants.{Between};
-ghost use Rattle.record_text.specs.BadLines.{IsRecordOf, RefusedAt};
-ghost use Rattle.record_text.specs.Blocks.{AreWellFormed};
-ghost use Rattle.record_text.specs.Progress.{Reading};
-ghost use Rattle.record_text.specs.Remains.{AreRead};
-ghost use Rattle.record_text.specs.Turns.{LineFits, Suits, unread, with_line};
+ghost use Rattle.record_text.specs.Clauses.{AreRead, AreWellFormed, Between, CellFits, IsRecordOf, LineFits, MAX_RECORD_BYTES, Reading};
+ghost use Rattle.record_text.specs.Clauses.{RefusedAt, Suits, unread, with_line};
 
 use crate::record::{MAX_RECORD_BYTES, RecordFault, cut_line};
 use crate::record_lines::{RecordLine, Turn, line_at, turn_after};
