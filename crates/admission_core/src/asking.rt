@@ -1,4 +1,6 @@
 //! A request that is decided and, where it is granted, applied: the part of its job is looked up once for both.
+//!
+//! An ask and its reply are made inline, whole: as calls they took a shift of refusals a quarter more instructions (28 November 2026).
 ghost use Rattle.std.specs.Prelude.{◌≡◌, Some};
 ghost use Rattle.cell_base.specs.Outcomes.{outcome_of_move, outcome_of_unload};
 ghost use Rattle.admission_core.specs.Clauses.{RequestFits, part_of, reply_to, state_after};
@@ -14,6 +16,7 @@ use cell_base::{JobId, Refusal, Reply, Request};
 use part_table::Found;
 
 /// The reply to a request, and its change if it is granted.
+#[inline(always)]
 pub fn ask(
     table: &LeadTable,
     tally: &mut Tally,
@@ -42,6 +45,7 @@ pub fn ask(
 }
 
 /// The move of the part that was found.
+#[inline(always)]
 fn ask_to_move(
     table: &LeadTable,
     tally: &mut Tally,
@@ -65,6 +69,7 @@ fn ask_to_move(
 }
 
 /// The unload of the part that was found.
+#[inline(always)]
 fn ask_to_unload(
     table: &LeadTable,
     tally: &mut Tally,
@@ -87,6 +92,7 @@ fn ask_to_unload(
 }
 
 /// A request that names no part of the state.
+#[inline(always)]
 fn ask_other(
     table: &LeadTable,
     tally: &mut Tally,

@@ -11,6 +11,7 @@ use crate::tally::Tally;
 use cell_base::{Part, Refusal, Reply, Request, ResId};
 
 /// The reply to a request.
+#[inline(always)]
 pub fn reply_to(table: &LeadTable, tally: &Tally, request: &Request) -> Reply
     requires sound { IsSound table.now tally.now }
     requires request { RequestFits table.now request.now }
@@ -46,6 +47,7 @@ pub fn reply_to(table: &LeadTable, tally: &Tally, request: &Request) -> Reply
 }
 
 /// The reply to a part that comes new into the cell.
+#[inline(always)]
 fn reply_to_entry(table: &LeadTable, tally: &Tally, part: Part) -> Reply
     requires sound { IsSound table.now tally.now }
     requires stage { IsStage table.now (stage_of part) }
@@ -58,6 +60,7 @@ fn reply_to_entry(table: &LeadTable, tally: &Tally, part: Part) -> Reply
 }
 
 /// The reply to the work on a resource.
+#[inline(always)]
 fn reply_to_process(table: &LeadTable, tally: &Tally, machine: ResId) -> Reply
     requires sound { IsSound table.now tally.now }
     requires machine { RequestFits table.now (Process machine) }
@@ -70,6 +73,7 @@ fn reply_to_process(table: &LeadTable, tally: &Tally, machine: ResId) -> Reply
 }
 
 /// The reply to the move of a part.
+#[inline(always)]
 pub fn reply_to_move(table: &LeadTable, tally: &Tally, part: Part, branch: u16) -> Reply
     requires sound { IsSound table.now tally.now }
     requires found { part_of tally.now.parts.parts part.job ≡ Some part }
@@ -91,6 +95,7 @@ pub fn reply_to_move(table: &LeadTable, tally: &Tally, part: Part, branch: u16) 
 }
 
 /// The reply to the unload of a part.
+#[inline(always)]
 pub fn reply_to_unload(table: &LeadTable, part: Part) -> Reply
     requires { IsStage table.now (stage_of part) }
     ensures { (parts : List Part) → result ≡ (outcome_of_unload table.now parts (Some part)).0 }

@@ -15,6 +15,7 @@ use outside_io::{Failed, Sink};
 use record_text::{Line, head_line, left_line, plan_line, write_entry, write_step};
 
 /// Puts one line.
+#[inline(always)]
 pub fn print_line<K: Sink>(out: &mut K, line: &Line) -> Result<(), Failed>
     ensures whole { OnOk result (TookAll (sink_told K.taken K.was_put K.faults out.old out.new) (line.now ∷ [])) }
     ensures part { OnErr result (TookSome (sink_told K.taken K.was_put K.faults out.old out.new) (line.now ∷ [])) }

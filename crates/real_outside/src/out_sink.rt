@@ -50,6 +50,7 @@ impl<W: Write> OutSink<W> {
     }
 
     // The answer, and one fault more where it is one.
+    #[inline(always)]
     fn counted(&mut self, answer: io::Result<()>) -> Result<(), Failed>
         ensures { HasCause (write_faults self.old) (write_faults self.new) result }
     {
@@ -72,6 +73,7 @@ impl<W: Write> Sink for OutSink<W> {
     ghost faults = { write_faults };
 
     // A write that takes nothing of a piece that isn't empty is an error of `write_all`.
+    #[inline(always)]
     fn put(&mut self, piece: &[u8]) -> Result<(), Failed> {
         let written = self.inner.write_all(piece);
         self.counted(written)

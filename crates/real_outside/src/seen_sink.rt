@@ -47,7 +47,8 @@ impl<'a, K, R: Eprint> SeenSink<'a, K, R> {
         self.line.as_slice()
     }
 
-    // What is done before a put.
+    // What is done before a put, where anything is. It is no part of a put's code, since a long record makes half a million of these.
+    #[cold]
     fn see(&mut self, piece: &[u8])
         ensures { self.new.inner ≡ self.old.inner }
     {
@@ -69,8 +70,11 @@ impl<K: Sink, R: Eprint> Sink for SeenSink<'_, K, R> {
 
     ghost faults = { λ sink. K.faults sink.inner };
 
+    #[inline(always)]
     fn put(&mut self, piece: &[u8]) -> Result<(), Failed> {
-        self.see(piece);
+        if self.seen.keeps || self.seen.wipes {
+            self.see(piece);
+        }
         self.inner.put(piece)
     }
 }

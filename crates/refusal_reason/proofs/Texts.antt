@@ -1,4 +1,4 @@
--- Texts of lines: how they grow, how they are cut, and that each line has one newline.
+-- Texts of lines: how they grow.
 use Rattle.std.proofs.Common.{codes, cond, ap₂, ⊎_elim, length-append, ◌≡◌, ℕ, ◌+◌, ◌<◌, ◌≤◌, ◌^◌, Bool, true, false, List, [], ◌∷◌, ◌++◌}
 use Rattle.std.proofs.Common.{length, take, drop, get_or, map, All, Contains, Some, None, position, refl, ap, subst, ◌∙◌, sym, arith}
 use Rattle.std.specs.List.{concat, flat_map, range_with_len, position_or_len}
@@ -70,48 +70,3 @@ module _ (cell : Cell) (r : ℕ) where
       ∙ map_same (λ s. stage_line cell (stage_numbered cell (number_of cell s))) (stage_line cell) (neighborhood cell r)
       (λ s c. ap (stage_line cell)
       ((numbering_law cell).numbered s (All-contains (IsStage cell) (neighborhood cell r) s members_standing c)))
-
--- ---- the first line of a text
-
-module _ (text line rest : List ℕ) (is : IsLine line) (made : text ≡ line ++ rest) where
-  split : text ≡ is.words ++ 10 ∷ rest
-  split = made ∙ ap (λ bytes. bytes ++ rest) is.ended ∙ append_assoc is.words (10 ∷ []) rest
-
-  newline_here : is_newline (get_or text (length is.words) 0) ≡ true
-  newline_here = ap (λ (bytes : List ℕ). is_newline (get_or bytes (length is.words) 0)) split
-      ∙ ap is_newline (get_or-append_seam is.words 10 rest 0)
-
-  long : length is.words < length text
-  long = omega (arith, ap length split, length-append is.words (10 ∷ rest))
-
-  none_before : (k : ℕ) → k < length is.words → is_newline (get_or text k 0) ≡ false
-  none_before k within =
-      ap (λ (bytes : List ℕ). is_newline (get_or bytes k 0)) split
-      ∙ ap is_newline (get_or_append_left is.words (10 ∷ rest) 0 k within)
-      ∙ is.one k 0 within
-
-  pub first_newline_at : (at : ℕ) → position is_newline text ≡ Some at → at ≡ length is.words
-  first_newline_at at found =
-      let first = position-Some is_newline text at 0 found in
-      ⊎_elim
-      (λ (h : at < length is.words). absurd (both_ways _ (none_before at h) first.1))
-      (λ (h : length is.words ≤ at). ⊎_elim
-      (λ (g : length is.words < at). absurd (both_ways _ (first.2 (length is.words) g) newline_here))
-      (λ (g : at ≤ length is.words). omega arith)
-      (cases_lt (length is.words) at))
-      (cases_lt at (length is.words))
-
-  pub newline_somewhere : position is_newline text ≡ None → ⊥
-  newline_somewhere none = ⊎_elim
-      (λ (h : position_or_len is_newline text < length text). none-some _
-      (sym none ∙ ap (λ b. cond b (Some (position_or_len is_newline text)) None) (lt-ltb _ _ h)))
-      (λ (h : length text ≤ position_or_len is_newline text). both_ways _
-      (fails_before_first is_newline text (length is.words) 0 (omega (arith, long))) newline_here)
-      (cases_lt (position_or_len is_newline text) (length text))
-
-  pub cut_line : (at : ℕ) → at ≡ length is.words → (take (at + 1) text ≡ line) × (drop (at + 1) text ≡ rest)
-  cut_line at e =
-      let long : at + 1 ≡ length line = omega (arith, ap length is.ended, length-append is.words (10 ∷ [])) in (
-        ap (λ n. take n text) long ∙ ap (take (length line)) made ∙ take-append_seam line rest,
-        ap (λ n. drop n text) long ∙ ap (drop (length line)) made ∙ drop-append_seam line rest,
-      )

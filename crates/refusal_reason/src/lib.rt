@@ -2,15 +2,14 @@
 //!
 //! A request that is refused for a full neighborhood is told the resource and two numbers. `explain` names the jobs that
 //! stand in that neighborhood, as many as the resource has units; each other refusal needs no job. `show_text` is the text
-//! of a cell's resources, each with the stages of its neighborhood, and `first_line` gives out its lines one by one;
-//! `resource_line`, `write_stage` and `write_member` make them alone:
+//! of a cell's resources, each with the stages of its neighborhood; `resource_line`, `write_stage` and `write_member` make
+//! its lines alone:
 //!
 //! ```text
 //! if let Reply::Refused(why) = core.decide(&request) {
 //!     let jobs = explain(alloc, &core, &why)?;
 //! }
-//! let text = show_text(alloc, &core)?;
-//! let (line, rest) = first_line(text.as_slice());     // resource M1 capacity 1 order 1
+//! let text = show_text(alloc, &core)?;     // "resource M1 capacity 1 order 1", and so on
 //! ```
 #![tactic(auto)]
 
@@ -19,7 +18,7 @@ mod reasons;
 mod shown;
 
 pub use reasons::explain;
-pub use shown::{first_line, resource_line, show_text, write_member, write_stage};
+pub use shown::{resource_line, show_text, write_member, write_stage};
 
 #[cfg(test)]
 mod tests;

@@ -1,16 +1,14 @@
-//! The text that shows a cell's neighborhoods, made and given out line by line.
-ghost use Rattle.std.specs.Prelude.{◌≡◌, ℕ, ◌<◌, ◌++◌, length, map, position, OnOk, IfOk, List as Items};
+//! The text that shows a cell's neighborhoods, and its lines.
+ghost use Rattle.std.specs.Prelude.{◌≡◌, ◌<◌, ◌++◌, length, map, OnOk, IfOk};
 ghost use Rattle.std.specs.Bool.{OnTrue};
 ghost use Rattle.std.specs.List.{All, concat};
 ghost use Rattle.cell_base.specs.Neighborhoods.{leads, masks_of};
 ghost use Rattle.cell_base.specs.Numbers.{IsNumber, stage_numbered};
-ghost use Rattle.record_text.specs.BadLines.{is_newline};
-ghost use Rattle.refusal_reason.specs.Shown.{IsLine, resource_line, stage_line, resource_lines, show_lines};
+ghost use Rattle.refusal_reason.specs.Shown.{resource_line, stage_line, resource_lines, show_lines};
 
 use crate::reasons::is_member;
 use admission_core::Core;
 use cell_base::{Cell, List, NoMemory, ResId};
-use memchr::memchr;
 use record_text::{Line, add_resource, add_type};
 use route_table::{StageNo, StageTable};
 use std::alloc::Global;
@@ -93,23 +91,4 @@ pub fn write_member(
         write_stage(line, table, stage);
     }
     is
-}
-
-/// The first line of a text with its newline, and what stands after it.
-pub fn first_line(text: &[u8]) -> (&[u8], &[u8])
-    ensures whole { result.0.now ++ result.1.now ≡ text.now }
-    ensures shorter { 0 < length text.now → length result.1.now < length text.now }
-    ensures line { (line rest : Items ℕ) → IsLine line → text.now ≡ line ++ rest → (result.0.now ≡ line) × (result.1.now ≡ rest) }
-{
-    match first_newline(text) {
-        None => (text, &[]),
-        Some(at) => (&text[..at + 1], &text[at + 1..]),
-    }
-}
-
-/// Where the first newline stands.
-fn first_newline(text: &[u8]) -> Option<usize>
-    ensures { result ≡ position is_newline text.now }
-{
-    memchr(b'\n', text)
 }

@@ -33,6 +33,7 @@ impl Rounds {
     }
 
     /// The next session that has not ended asks its present step; where all have ended, none does. It takes no memory.
+    #[inline(always)]
     pub fn ask(&mut self, core: &mut Core, shift: &Shift) -> Option<Entry>
         requires shift { ShiftFits core.old.cell shift.now }
         requires ready { AreReady shift.now self.old }
@@ -98,6 +99,7 @@ fn first_going(progress: &[Progress; SESSIONS], shift: &Shift, from: u64, to: u6
 }
 
 // Session `k + 1`, which has not ended, asks its present step.
+#[inline(always)]
 fn take_turn(core: &mut Core, shift: &Shift, k: u64, progress: &mut [Progress; SESSIONS]) -> Entry
     requires shift { ShiftFits core.old.cell shift.now }
     requires session { k < length shift.now.scripts }
@@ -119,6 +121,7 @@ fn take_turn(core: &mut Core, shift: &Shift, k: u64, progress: &mut [Progress; S
 }
 
 // A session asks its present step, and goes on by the reply.
+#[inline(always)]
 fn ask_step(
     core: &mut Core,
     session: u16,
