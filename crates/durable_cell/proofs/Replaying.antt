@@ -7,6 +7,8 @@ use Rattle.cell_base.specs.declared.requests.Part.{Part}
 use Rattle.cell_base.specs.declared.shifts.Grant.{Grant}
 use Rattle.cell_base.specs.Histories.{after_requests, requests_of}
 use Rattle.cell_base.specs.Outcomes.{state_after}
+use Rattle.entry_codec.specs.declared.encoder.TheConstants.{ENTRY_SIZE}
+use Rattle.move_journal.specs.declared.head_write.TheConstants.{TEXT_AT}
 use Rattle.admission_core.specs.CoreState.{CoreState}
 use Rattle.durable_cell.specs.Replays.{HasReplayed}
 use Rattle.shift_recovery.specs.declared.faults.JournalFault.{JournalFault}
@@ -40,12 +42,12 @@ pub stray_stays : (cell : Cell) (parts : List Part) (at found : ℕ) (grants : L
 stray_stays cell parts at found [] grant is = absurd (cc)
 stray_stays cell parts at found (first ∷ grants) grant is =
     let next = state_after cell parts first.request in
-    stays (is_due cell parts first.request) at found (first_stray cell next (at + 17) grants)
-    (first_stray cell next (at + 17) (grants ++ grant ∷ [])) is (stray_stays cell next (at + 17) found grants grant)
+    stays (is_due cell parts first.request) at found (first_stray cell next (at + ENTRY_SIZE) grants)
+    (first_stray cell next (at + ENTRY_SIZE) (grants ++ grant ∷ [])) is (stray_stays cell next (at + ENTRY_SIZE) found grants grant)
 
 -- where none strays the next one does exactly where it isn't due
 pub stray_more : (cell : Cell) (parts : List Part) (at gate : ℕ) (grants : List Grant) (grant : Grant)
-    → first_stray cell parts at grants ≡ None → gate ≡ at + 17 * length grants
+    → first_stray cell parts at grants ≡ None → gate ≡ at + ENTRY_SIZE * length grants
     → first_stray cell parts at (grants ++ grant ∷ [])
     ≡ stray_by (is_due cell (after_requests cell parts (requests_of grants)) grant.request) gate None
 stray_more cell parts at gate [] grant is gate_is =
@@ -53,9 +55,9 @@ stray_more cell parts at gate [] grant is gate_is =
     ap (λ (n : ℕ). stray_by (is_due cell parts grant.request) n None) same
 stray_more cell parts at gate (first ∷ grants) grant is gate_is =
     let next = state_after cell parts first.request in
-    let way = goes_on (is_due cell parts first.request) at (first_stray cell next (at + 17) grants) is in
-    ap (λ (b : Bool). stray_by b at (first_stray cell next (at + 17) (grants ++ grant ∷ []))) way.0
-    ∙ stray_more cell next (at + 17) gate grants grant way.1 (omega (arith, gate_is))
+    let way = goes_on (is_due cell parts first.request) at (first_stray cell next (at + ENTRY_SIZE) grants) is in
+    ap (λ (b : Bool). stray_by b at (first_stray cell next (at + ENTRY_SIZE) (grants ++ grant ∷ []))) way.0
+    ∙ stray_more cell next (at + ENTRY_SIZE) gate grants grant way.1 (omega (arith, gate_is))
 
 -- after a stray the replay stays where it is
 pub strayed_stays : (start old new : CoreState) (first found : ℕ) (grants : List Grant) (grant : Grant) → new.cell ≡ old.cell
@@ -69,7 +71,7 @@ strayed_stays start old new first found grants grant same has = record {
 -- one grant more is replayed where it is due, and strays where it isn't
 pub one_more : (start old new : CoreState) (first gate : ℕ) (grants : List Grant) (grant : Grant) (due : Bool) → new.cell ≡ old.cell
     → due ≡ is_due old.cell old.parts grant.request → (due ≡ true → new.parts ≡ state_after old.cell old.parts grant.request)
-    → gate ≡ first + 17 * length grants → HasReplayed start first grants old None
+    → gate ≡ first + ENTRY_SIZE * length grants → HasReplayed start first grants old None
     → HasReplayed start first (grants ++ grant ∷ []) new (stray_by due gate None)
 one_more start old new first gate grants grant due same due_is moved gate_is has =
     let parts_are : old.parts ≡ after_requests start.cell [] (requests_of grants) = has.state refl in
@@ -88,7 +90,7 @@ both_ok B (Err e) a b = tt
 
 -- what the bytes open as, where they are read as grants of which one strays or none
 pub opened_by : (cell : Cell) (file text : List ℕ) (room first : ℕ) (grants : List Grant) (stray : Option ℕ)
-    → read_as file text room ≡ Ok (Some grants) → first ≡ 13 + length text → first_stray cell [] first grants ≡ stray
+    → read_as file text room ≡ Ok (Some grants) → first ≡ TEXT_AT + length text → first_stray cell [] first grants ≡ stray
     → opened_as cell file text room ≡ option_map_or (λ at. Err (Damaged at)) stray (Ok grants)
 opened_by cell file text room first grants stray read first_is strays =
     ap (replayed_reading cell text) read

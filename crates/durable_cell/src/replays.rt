@@ -8,6 +8,7 @@ ghost use Rattle.durable_cell.specs.Replays.{HasReplayed};
 
 use admission_core::Core;
 use cell_base::{Grant, NoMemory, Reply, Request, request_fits};
+use entry_codec::ENTRY_SIZE;
 use shift_recovery::Taker;
 
 /// The most grants of a journal for which there may be room, and the most entries of a history.
@@ -34,7 +35,7 @@ impl<K: Taker> Taker for Replay<K> {
 
 // Replays a grant more, whose gate stands at an offset. Gives where the first stray stands.
 fn replay_one(core: &mut Core, stray: Option<u64>, at: u64, grant: &Grant) -> Option<u64>
-    ensures { (start : CoreState) (first : ℕ) (grants : Sequence OneGrant) → at ≡ first + 17 * length grants
+    ensures { (start : CoreState) (first : ℕ) (grants : Sequence OneGrant) → at ≡ first + ENTRY_SIZE * length grants
         → HasReplayed start first grants core.old stray → HasReplayed start first (grants ++ grant.now ∷ []) core.new result }
 {
     match stray {

@@ -11,7 +11,7 @@
 //! | 12 to 13 | for place the type |
 //! | 14 to 15 | for place the place |
 //!
-//! No other bytes are a record.
+//! No other bytes are a record. A journal writes each record after a gate, which is one byte.
 ghost use Rattle.std.specs.Prelude.{◌≡◌, ◌++◌, Some};
 ghost use Rattle.std.specs.Int.{to_be_bytes, w16, w32};
 ghost use Rattle.cell_base.specs.declared.shifts.Grant.{Grant};
@@ -19,6 +19,9 @@ ghost use Rattle.entry_codec.specs.Records.{fields, record_of, HasRecord, IsInRa
 ghost use Rattle.entry_codec.specs.Decoding.{grant_of};
 
 use cell_base::{Grant, Request};
+
+/// The bytes of a gate and the record after it: the step from one gate of a journal to the next.
+pub const ENTRY_SIZE: u64 = 17;
 
 /// The record of a grant.
 pub fn encode(grant: &Grant) -> [u8; 16]

@@ -17,7 +17,7 @@ mod decoder;
 mod encoder;
 
 pub use decoder::decode;
-pub use encoder::encode;
+pub use encoder::{ENTRY_SIZE, encode};
 
 #[cfg(test)]
 mod tests;

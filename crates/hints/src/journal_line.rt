@@ -6,13 +6,10 @@ use crate::quoted::{Quoted, Shown};
 use crate::reading::bytes_of;
 use crate::texts::{OTHER_SHIFT, OTHER_START, journal_text};
 use cell_file::MAX_CELL_BYTES;
-use entry_codec::decode;
+use entry_codec::{ENTRY_SIZE, decode};
 use outside_io::Files;
 use shift_recovery::JournalFault;
 use std::alloc::Global;
-
-/// The bytes of a gate and the record after it.
-const GATED: u64 = 17;
 
 /// The offset that a head which ends early is refused at.
 const HEAD: u64 = 9;
@@ -116,7 +113,7 @@ fn found_at<F: Files>(alloc: Global, files: &mut F, name: &str, at: u64) -> &'st
     if at == HEAD {
         return "where the head ends early";
     }
-    let limit = u32::try_from(at.saturating_add(GATED)).unwrap_or(u32::MAX);
+    let limit = u32::try_from(at.saturating_add(ENTRY_SIZE)).unwrap_or(u32::MAX);
     match bytes_of(alloc, files, name, limit) {
         Some(bytes) => gate_text(bytes.as_slice().get(at as usize..)),
         None => "a gate",

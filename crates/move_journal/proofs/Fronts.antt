@@ -3,11 +3,12 @@ use Rattle.std.proofs.lemmas.List.{append-nil, take_at}
 use Rattle.std.proofs.Common.{◌-◌, take, ◌≡◌, ℕ, ◌*◌, List, [], ◌∷◌, ◌++◌, length, refl, sym, ◌∙◌, ap, arith, append_assoc, length-append}
 use Rattle.std.specs.List.{AllByRecursion}
 use Rattle.cell_base.specs.declared.shifts.Grant.{Grant}
+use Rattle.entry_codec.specs.declared.encoder.TheConstants.{ENTRY_SIZE}
 use Rattle.entry_codec.specs.Records.{record_of}
 use Rattle.entry_codec.specs.RecordLaws.{length-record_of}
 use Rattle.move_journal.specs.Journals.{head, entries, front, gate_of, group_bytes, IsRead}
 
-pub length-entries : (grants : List Grant) → length (entries grants) ≡ 17 * length grants
+pub length-entries : (grants : List Grant) → length (entries grants) ≡ ENTRY_SIZE * length grants
 length-entries [] = refl
 length-entries (grant ∷ grants) =
     omega (arith, length-entries grants, length-record_of grant, length-append (1 ∷ record_of grant) (entries grants))

@@ -19,10 +19,8 @@ ghost use Rattle.move_journal.specs.Disks.{Rests};
 ghost use Rattle.move_journal.specs.Journals.{IsJournal, HoldsRecords, Staged, WithOrWithout, gate_of};
 
 use crate::stable_write::write_through;
+use entry_codec::ENTRY_SIZE;
 use outside_io::{Disk, Failed};
-
-/// The bytes of a gate and the record after it.
-pub const ENTRY_SIZE: u64 = 17;
 
 /// Makes records stable after the closed gate, and then opens the gate.
 pub(crate) fn write_entries<D: Disk>(disk: &mut D, gate: u64, bytes: &[u8]) -> Result<(), Failed>
@@ -78,7 +76,7 @@ pub(crate) fn with_gates(bytes: &[u8; 16]) -> [u8; 18]
 {
     let mut piece = [0; 18];
     piece[0] = 1;
-    piece[1..17].copy_from_slice(bytes);
+    piece[1..ENTRY_SIZE as usize].copy_from_slice(bytes);
     piece
 }
 

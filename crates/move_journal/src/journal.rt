@@ -9,9 +9,9 @@ ghost use Rattle.move_journal.specs.Journals.{StandsFor, IsBeforeOrAfter, IsBefo
 ghost use Rattle.move_journal.specs.Kept.{IsOpen};
 
 use crate::Group;
-use crate::entry_write::{ENTRY_SIZE, with_gates, write_entries};
+use crate::entry_write::{with_gates, write_entries};
 use cell_base::Grant;
-use entry_codec::encode;
+use entry_codec::{ENTRY_SIZE, encode};
 use outside_io::Disk;
 use std::marker::Model;
 

@@ -36,7 +36,6 @@ mod stable_write;
 
 pub use blank::{Blank, BlankForm, NAME};
 pub use cleared::{Cleared, MAX_CELL_TEXT};
-pub use entry_write::ENTRY_SIZE;
 pub use group::{Group, MAX_GROUP};
 pub use head_write::TEXT_AT;
 pub use journal::{AppendFault, Journal};

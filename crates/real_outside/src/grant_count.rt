@@ -1,10 +1,9 @@
 //! The grants that went to a disk, counted by the calls that brought them there.
 //!
-//! A journal writes records after a closed gate, 17 bytes each, makes them stable, opens the gate by a write of one byte, and makes that
-//! stable. The file's first byte is no such gate.
+//! A journal writes records after a closed gate, and a gate after each, makes them stable, opens the gate before them by a write of one
+//! byte, and makes that stable. The file's first byte is no such gate.
 
-/// The bytes of a record and the gate after it.
-const ENTRY_BYTES: u64 = 17;
+use entry_codec::ENTRY_SIZE;
 
 /// How many grants are stable, and how many the next write of a gate and the next sync are about.
 #[derive(Clone, Copy, Debug, Default)]
@@ -20,7 +19,7 @@ impl GrantCount {
         if bytes == 1 && at > 0 {
             self.opened = self.written;
         } else {
-            self.written = bytes / ENTRY_BYTES;
+            self.written = bytes / ENTRY_SIZE;
         }
     }
 

@@ -5,6 +5,7 @@ use Rattle.std.proofs.Common.{get_or, take, drop, refl, sym, ◌∙◌, ap, arit
 use Rattle.std.proofs.lemmas.List.{drop_more, drop_all, take_rest, take-append-le}
 use Rattle.shift_recovery.proofs.Windowed.{drop-drop_at}
 use Rattle.std.proofs.lemmas.Bool.Decides.{nat_tests}
+use Rattle.move_journal.specs.declared.head_write.TheConstants.{TEXT_AT}
 use Rattle.shift_recovery.specs.Readings.{first_difference}
 
 not_same : (x y : ℕ) → x ≢ y → (x == y) ≡ false
@@ -44,7 +45,7 @@ split_take (suc r) (suc a) (x ∷ l) le =
 -- the stored text from an offset on, by what the window holds of it
 module _ (file kept seen text : List ℕ) (size done at used ready len : ℕ)
     (same : seen ≡ kept)
-    (shows : (length file ≡ len) × (drop (13 + done) file ≡ drop used kept ++ drop at file))
+    (shows : (length file ≡ len) × (drop (TEXT_AT + done) file ≡ drop used kept ++ drop at file))
     (wanted : ready ≤ size - done)
     (held : ready ≤ length (drop used kept))
   where
@@ -52,7 +53,7 @@ module _ (file kept seen text : List ℕ) (size done at used ready len : ℕ)
     piece = take (used + ready - used) (drop used seen)
 
     abbrev pub rest : List ℕ
-    rest = take (size - (done + ready)) (drop (13 + (done + ready)) file)
+    rest = take (size - (done + ready)) (drop (TEXT_AT + (done + ready)) file)
 
     abbrev pub of_text : List ℕ
     of_text = take (length text - done) (drop done text)
@@ -60,18 +61,18 @@ module _ (file kept seen text : List ℕ) (size done at used ready len : ℕ)
     piece_is : piece ≡ take ready (drop used kept)
     piece_is = let n : used + ready - used ≡ ready = omega arith in (λ i. take (n i) (drop used (same i)))
 
-    stored : take (size - done) (drop (13 + done) file) ≡ piece ++ rest
+    stored : take (size - done) (drop (TEXT_AT + done) file) ≡ piece ++ rest
     stored =
-        let front : take ready (drop (13 + done) file) ≡ piece = ap (λ (l : List ℕ). take ready l) shows.1
+        let front : take ready (drop (TEXT_AT + done) file) ≡ piece = ap (λ (l : List ℕ). take ready l) shows.1
         ∙ take-append-le ready (drop used kept) (drop at file) held ∙ sym piece_is in
         let left : size - done - ready ≡ size - (done + ready) = omega (arith, wanted) in
-        let offset : 13 + done + ready ≡ 13 + (done + ready) = omega arith in
-        split_take ready (size - done) (drop (13 + done) file) wanted
-        ∙ (λ i. front i ++ take (left i) (drop-drop_at (13 + done) ready file i))
+        let offset : TEXT_AT + done + ready ≡ TEXT_AT + (done + ready) = omega arith in
+        split_take ready (size - done) (drop (TEXT_AT + done) file) wanted
+        ∙ (λ i. front i ++ take (left i) (drop-drop_at (TEXT_AT + done) ready file i))
         ∙ ap (λ (k : ℕ). piece ++ take (size - (done + ready)) (drop k file)) offset
 
     pub compared_some : (found : ℕ) → ((more : List ℕ) → first_difference done (piece ++ more) of_text ≡ Some found)
-        → first_difference done (take (size - done) (drop (13 + done) file)) (drop done text) ≡ Some found
+        → first_difference done (take (size - done) (drop (TEXT_AT + done) file)) (drop done text) ≡ Some found
     compared_some found some = (λ i. first_difference done (stored i) (sym (take_rest text done) i)) ∙ some rest
 
     pub length-piece : length piece ≡ ready
@@ -79,7 +80,7 @@ module _ (file kept seen text : List ℕ) (size done at used ready len : ℕ)
 
     pub compared_none : ((more : List ℕ)
         → first_difference done (piece ++ more) of_text ≡ first_difference (done + length piece) more (drop (length piece) of_text))
-        → first_difference done (take (size - done) (drop (13 + done) file)) (drop done text)
+        → first_difference done (take (size - done) (drop (TEXT_AT + done) file)) (drop done text)
         ≡ first_difference (done + ready) rest (drop (done + ready) text)
     compared_none none =
         (λ i. first_difference done (stored i) (sym (take_rest text done) i)) ∙ none rest

@@ -7,6 +7,7 @@ use Rattle.std.proofs.Common.{refl, sym, ◌∙◌, ap, subst, arith, append_ass
 use Rattle.std.proofs.lemmas.List.{take_at, drop_at}
 use Rattle.std.proofs.lemmas.Bool.Decides.{nat_tests}
 use Rattle.cell_base.specs.declared.shifts.Grant.{Grant}
+use Rattle.entry_codec.specs.declared.encoder.TheConstants.{ENTRY_SIZE}
 use Rattle.entry_codec.specs.Decoding.{grant_of}
 use Rattle.entry_codec.specs.Records.{record_of}
 use Rattle.entry_codec.specs.RecordLaws.{length-record_of, record_of-grant_of}
@@ -51,19 +52,19 @@ is_open gate shut = grind (arith, nat_tests)
 closed_there : (at : ℕ) (bytes : List ℕ) → gate_at at bytes ≡ Ok None → Ends bytes []
 unfolding gate_at
 closed_there at [] is = absurd (cc)
-closed_there at (gate ∷ behind) is =
-    let shut = by_none (not (gate == 1)) (nat_lt (length behind) 17) at (grant_of (take 16 behind)) is in
-    record { each = tt; gate = gate; closed = is_shut gate shut; later = behind; split = refl }
+closed_there at (gate ∷ after) is =
+    let shut = by_none (not (gate == 1)) (nat_lt (length after) ENTRY_SIZE) at (grant_of (take 16 after)) is in
+    record { each = tt; gate = gate; closed = is_shut gate shut; later = after; split = refl }
 
 open_there : (at : ℕ) (bytes : List ℕ) (grant : Grant) → gate_at at bytes ≡ Ok (Some grant)
-    → (bytes ≡ (1 ∷ record_of grant) ++ drop 17 bytes) × IsRead grant
+    → (bytes ≡ (1 ∷ record_of grant) ++ drop ENTRY_SIZE bytes) × IsRead grant
 unfolding gate_at
 open_there at [] grant is = absurd (cc)
-open_there at (gate ∷ behind) grant is =
-    let way = by_some (not (gate == 1)) (nat_lt (length behind) 17) at (grant_of (take 16 behind)) grant is in
-    let record_is : record_of grant ≡ take 16 behind = record_of-grant_of (take 16 behind) grant way.1 in
+open_there at (gate ∷ after) grant is =
+    let way = by_some (not (gate == 1)) (nat_lt (length after) ENTRY_SIZE) at (grant_of (take 16 after)) grant is in
+    let record_is : record_of grant ≡ take 16 after = record_of-grant_of (take 16 after) grant way.1 in
     let front : gate ≡ 1 = is_open gate way.0 in (
-      (λ i. front i ∷ (sym (take-append-drop 16 behind) ∙ ap (λ (l : List ℕ). l ++ drop 16 behind) (sym record_is)) i),
+      (λ i. front i ∷ (sym (take-append-drop 16 after) ∙ ap (λ (l : List ℕ). l ++ drop 16 after) (sym record_is)) i),
       ap grant_of record_is ∙ way.1,
     )
 
@@ -77,7 +78,7 @@ walk_by (Ok (Some grant)) (Ok others) grants is = inr (grant, others, refl, refl
 walk_by (Ok (Some grant)) (Err why) grants is = absurd (cc)
 
 joins : (at : ℕ) (bytes : List ℕ) (grant : Grant) (others : List Grant) → gate_at at bytes ≡ Ok (Some grant)
-    → Ends (drop 17 bytes) others → Ends bytes (grant ∷ others)
+    → Ends (drop ENTRY_SIZE bytes) others → Ends bytes (grant ∷ others)
 joins at bytes grant others is ends =
     let there = open_there at bytes grant is in
     record {
@@ -96,10 +97,10 @@ walk_back total zero at bytes grants is = elim (walk_by (gate_at at bytes) (Err 
   | inr more ↦ absurd (cc (more.3))
 ]
 walk_back total (suc room) at bytes grants is =
-    elim (walk_by (gate_at at bytes) (grants_from total room (at + 17) (drop 17 bytes)) grants is) [
+    elim (walk_by (gate_at at bytes) (grants_from total room (at + ENTRY_SIZE) (drop ENTRY_SIZE bytes)) grants is) [
       | inl shut ↦ subst (λ (g : List Grant). Ends bytes g) (sym shut.1) (closed_there at bytes shut.0)
       | inr more ↦ subst (λ (g : List Grant). Ends bytes g) (sym more.4)
-          (joins at bytes more.0 more.1 more.2 (walk_back total room (at + 17) (drop 17 bytes) more.1 more.3))
+          (joins at bytes more.0 more.1 more.2 (walk_back total room (at + ENTRY_SIZE) (drop ENTRY_SIZE bytes) more.1 more.3))
     ]
 
 -- and the other way round
@@ -110,22 +111,23 @@ gate_of_record at grant rest is some =
     (omega (arith, some, length-append (record_of grant) rest, length-record_of grant))
     (ap grant_of (take_at (record_of grant) rest 16 (length-record_of grant)) ∙ is)
 
-gate_shut : (at gate : ℕ) (behind : List ℕ) → gate ≢ 1 → gate_at at (gate ∷ behind) ≡ Ok None
+gate_shut : (at gate : ℕ) (after : List ℕ) → gate ≢ 1 → gate_at at (gate ∷ after) ≡ Ok None
 unfolding gate_at
-gate_shut at gate behind shut = ap (λ (b : Bool). gate_by b (nat_lt (length behind) 17) at (grant_of (take 16 behind))) (stays gate shut)
+gate_shut at gate after shut =
+    ap (λ (b : Bool). gate_by b (nat_lt (length after) ENTRY_SIZE) at (grant_of (take 16 after))) (stays gate shut)
   where
     stays : (gate : ℕ) → gate ≢ 1 → not (gate == 1) ≡ true
     stays gate shut = grind (arith, nat_tests)
 
-pub walk_there : (total room at : ℕ) (grants : List Grant) (gate : ℕ) (behind : List ℕ) → AllByRecursion IsRead grants
-    → gate ≢ 1 → length grants ≤ room → grants_from total room at (entries grants ++ gate ∷ behind) ≡ Ok grants
-walk_there total room at [] gate behind each shut fits = closed_ends total room at (gate ∷ behind) (gate_shut at gate behind shut)
-walk_there total zero at (grant ∷ grants) gate behind each shut fits = absurd (omega arith)
-walk_there total (suc room) at (grant ∷ grants) gate behind each shut fits =
-    let rest : List ℕ = entries grants ++ gate ∷ behind in
-    let some : 1 ≤ length rest = omega (arith, length-append (entries grants) (gate ∷ behind)) in
-    ap (grants_from total (suc room) at) (append_assoc (1 ∷ record_of grant) (entries grants) (gate ∷ behind))
+pub walk_there : (total room at : ℕ) (grants : List Grant) (gate : ℕ) (after : List ℕ) → AllByRecursion IsRead grants
+    → gate ≢ 1 → length grants ≤ room → grants_from total room at (entries grants ++ gate ∷ after) ≡ Ok grants
+walk_there total room at [] gate after each shut fits = closed_ends total room at (gate ∷ after) (gate_shut at gate after shut)
+walk_there total zero at (grant ∷ grants) gate after each shut fits = absurd (omega arith)
+walk_there total (suc room) at (grant ∷ grants) gate after each shut fits =
+    let rest : List ℕ = entries grants ++ gate ∷ after in
+    let some : 1 ≤ length rest = omega (arith, length-append (entries grants) (gate ∷ after)) in
+    ap (grants_from total (suc room) at) (append_assoc (1 ∷ record_of grant) (entries grants) (gate ∷ after))
     ∙ one_more total (suc room) room at ((1 ∷ record_of grant) ++ rest) grant (omega arith) (gate_of_record at grant rest each.0 some)
-    ∙ ap (λ (l : List ℕ). with_grant grant (grants_from total room (at + 17) l))
-    (drop_at (1 ∷ record_of grant) rest 17 (omega (arith, length-record_of grant)))
-    ∙ ap (with_grant grant) (walk_there total room (at + 17) grants gate behind each.1 shut (omega arith))
+    ∙ ap (λ (l : List ℕ). with_grant grant (grants_from total room (at + ENTRY_SIZE) l))
+    (drop_at (1 ∷ record_of grant) rest ENTRY_SIZE (omega (arith, length-record_of grant)))
+    ∙ ap (with_grant grant) (walk_there total room (at + ENTRY_SIZE) grants gate after each.1 shut (omega arith))

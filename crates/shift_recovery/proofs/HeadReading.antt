@@ -9,6 +9,8 @@ use Rattle.std.proofs.lemmas.Bool.Decides.{nat_tests}
 use Rattle.std.specs.Option.{option_map_or}
 use Rattle.std.specs.Cmp.Lexicographic.{same_text}
 use Rattle.cell_base.specs.declared.shifts.Grant.{Grant}
+use Rattle.entry_codec.specs.declared.encoder.TheConstants.{ENTRY_SIZE}
+use Rattle.move_journal.specs.declared.head_write.TheConstants.{TEXT_AT}
 use Rattle.entry_codec.specs.Decoding.{number_4}
 use Rattle.move_journal.specs.Blanks.{HasForm, name}
 use Rattle.move_journal.specs.Journals.{gate_of}
@@ -22,7 +24,7 @@ use Rattle.shift_recovery.proofs.HeadTests.{head_by, blank_by, open_by, neither,
 use Rattle.shift_recovery.specs.Readings.{has_name, head_of, first_difference, grants_from, found, after_head, from_head, read_as}
 
 -- the head shows in the first thirteen bytes
-pub head_longer : (n : ℕ) (window more : List ℕ) → (13 ≤ length window) ⊎ (more ≡ []) → head_of n (window ++ more) ≡ head_of n window
+pub head_longer : (n : ℕ) (window more : List ℕ) → (TEXT_AT ≤ length window) ⊎ (more ≡ []) → head_of n (window ++ more) ≡ head_of n window
 unfolding head_of
 head_longer n ([]) more (inl long) = absurd (omega arith)
 head_longer n (x0 ∷ []) more (inl long) = absurd (omega arith)
@@ -40,15 +42,15 @@ head_longer n (x0 ∷ x1 ∷ x2 ∷ x3 ∷ x4 ∷ x5 ∷ x6 ∷ x7 ∷ x8 ∷ x9
 head_longer n (x0 ∷ x1 ∷ x2 ∷ x3 ∷ x4 ∷ x5 ∷ x6 ∷ x7 ∷ x8 ∷ x9 ∷ x10 ∷ x11 ∷ x12 ∷ window) more (inl long) = refl
 head_longer n window more (inr none) = ap (λ (l : List ℕ). head_of n (window ++ l)) none ∙ ap (head_of n) (append-nil window)
 
-pub open_fits : (len : ℕ) (bytes : List ℕ) (size : ℕ) → head_of len bytes ≡ Open size → 13 + size ≤ len
+pub open_fits : (len : ℕ) (bytes : List ℕ) (size : ℕ) → head_of len bytes ≡ Open size → TEXT_AT + size ≤ len
 unfolding head_of
 open_fits len bytes size is =
     let way = open_by (nat_lt len 2) (slice_index bytes 0 == 0) (not (has_name len bytes)) (not (slice_index bytes 0 == 1))
-    (nat_lt len 13 || nat_lt len (13 + number_4 bytes 9)) (number_4 bytes 9) size is in
-    let long = (neither (nat_lt len 13) (nat_lt len (13 + number_4 bytes 9)) way.2).1 in
+    (nat_lt len TEXT_AT || nat_lt len (TEXT_AT + number_4 bytes 9)) (number_4 bytes 9) size is in
+    let long = (neither (nat_lt len TEXT_AT) (nat_lt len (TEXT_AT + number_4 bytes 9)) way.2).1 in
     fits (number_4 bytes 9) long way.3
   where
-    fits : (n : ℕ) → nat_lt len (13 + n) ≡ false → size ≡ n → 13 + size ≤ len
+    fits : (n : ℕ) → nat_lt len (TEXT_AT + n) ≡ false → size ≡ n → TEXT_AT + size ≤ len
     fits n long same = grind (arith, nat_tests)
 
 is_short : (n : ℕ) → nat_lt n 2 ≡ true → n ≤ 1
@@ -76,7 +78,7 @@ unfolding head_of
 form_is file form is =
     let len = length file in
     elim (blank_by (nat_lt len 2) (slice_index file 0 == 0) (not (has_name len file)) (not (slice_index file 0 == 1))
-    (nat_lt len 13 || nat_lt len (13 + number_4 file 9)) (number_4 file 9) form is) [
+    (nat_lt len TEXT_AT || nat_lt len (TEXT_AT + number_4 file 9)) (number_4 file 9) form is) [
       | inl short ↦ subst (λ f. HasForm f file) (sym short.1) (is_short len short.0)
       | inr other ↦ elim other [
         | inl shut ↦ subst (λ f. HasForm f file) (sym shut.2) (shut_form file (is_long len shut.0) (is_zero (slice_index file 0) shut.1))
@@ -93,15 +95,15 @@ reads_by_head file text room head is = ap (from_head file text room) is
 
 abbrev by_difference : List ℕ → ℕ → ℕ → Option ℕ → Result (Option (List Grant)) JournalFault
 by_difference file room size o =
-    option_map_or (λ at. Err (OtherCell at)) o (found (grants_from room room (13 + size) (drop (13 + size) file)))
+    option_map_or (λ at. Err (OtherCell at)) o (found (grants_from room room (TEXT_AT + size) (drop (TEXT_AT + size) file)))
 
-pub other_text : (file text : List ℕ) (room size at : ℕ) → first_difference 0 (take size (drop 13 file)) text ≡ Some at
+pub other_text : (file text : List ℕ) (room size at : ℕ) → first_difference 0 (take size (drop TEXT_AT file)) text ≡ Some at
     → after_head file text room size ≡ Err (OtherCell at)
 other_text file text room size at is = ap (by_difference file room size) is
 
 pub same_text_then : (file text : List ℕ) (room size : ℕ) (grants : Result (List Grant) JournalFault)
-    → first_difference 0 (take size (drop 13 file)) text ≡ None
-    → grants_from room room (13 + size) (drop (13 + size) file) ≡ grants → after_head file text room size ≡ found grants
+    → first_difference 0 (take size (drop TEXT_AT file)) text ≡ None
+    → grants_from room room (TEXT_AT + size) (drop (TEXT_AT + size) file) ≡ grants → after_head file text room size ≡ found grants
 same_text_then file text room size grants none is = (λ i. option_map_or (λ at. Err (OtherCell at)) (none i) (found (is i)))
 
 pub no_difference : (at : ℕ) (xs ys : List ℕ) → first_difference at xs ys ≡ None → xs ≡ ys
@@ -119,23 +121,24 @@ no_difference at (x ∷ xs) (y ∷ ys) is = elim (cases_eq x y) [
     passed : (x y at : ℕ) (rest : Option ℕ) → x ≢ y → (if x == y then rest else Some at) ≡ None → ⊥
     passed x y at rest other is = grind (arith, nat_tests)
 
-pub gate_after : (file text : List ℕ) (size gate : ℕ) (grants : List Grant) → 13 + size ≤ length file
-    → first_difference 0 (take size (drop 13 file)) text ≡ None → gate ≡ 13 + size + 17 * length grants → gate ≡ gate_of text grants
+pub gate_after : (file text : List ℕ) (size gate : ℕ) (grants : List Grant) → TEXT_AT + size ≤ length file
+    → first_difference 0 (take size (drop TEXT_AT file)) text ≡ None → gate ≡ TEXT_AT + size + ENTRY_SIZE * length grants
+    → gate ≡ gate_of text grants
 gate_after file text size gate grants long none is =
     omega (
       arith,
       is,
       long,
-      ap length (no_difference 0 (take size (drop 13 file)) text none),
-      length-take size (drop 13 file),
-      length-drop 13 file,
+      ap length (no_difference 0 (take size (drop TEXT_AT file)) text none),
+      length-take size (drop TEXT_AT file),
+      length-drop TEXT_AT file,
     )
 
 -- the first piece has the head of the file
 pub head_file : (file kept seen : List ℕ) (len n : ℕ) (head : Head) → len ≡ length file → n ≡ min 4096 len
     → file ≡ kept ++ drop n file → length kept ≡ n → seen ≡ kept → head ≡ head_of len seen → head_of (length file) file ≡ head
 head_file file kept seen len n head len_is n_is split size same is =
-    let side : (13 ≤ length kept) ⊎ (drop n file ≡ []) = elim (cases_lt len 13) [
+    let side : (TEXT_AT ≤ length kept) ⊎ (drop n file ≡ []) = elim (cases_lt len TEXT_AT) [
       | inl below ↦ inr (drop_all n file (omega (arith, n_is, len_is, below)))
       | inr above ↦ inl (omega (arith, size, n_is, above))
     ] in
@@ -146,7 +149,7 @@ pub short_head : (file : List ℕ) → length file ≤ 1 → head_of (length fil
 unfolding head_of
 short_head file short =
     ap (λ (b : Bool). head_by b (slice_index file 0 == 0) (not (has_name (length file) file)) (not (slice_index file 0 == 1))
-    (nat_lt (length file) 13 || nat_lt (length file) (13 + number_4 file 9)) (number_4 file 9)) (below (length file) short)
+    (nat_lt (length file) TEXT_AT || nat_lt (length file) (TEXT_AT + number_4 file 9)) (number_4 file 9)) (below (length file) short)
   where
     below : (n : ℕ) → n ≤ 1 → nat_lt n 2 ≡ true
     below n short = grind (arith, nat_tests)

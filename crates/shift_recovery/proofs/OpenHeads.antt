@@ -8,6 +8,7 @@ use Rattle.std.proofs.lemmas.List.{take-append-le}
 use Rattle.std.proofs.lemmas.Bool.Decides.{nat_tests}
 use Rattle.std.specs.Cmp.Lexicographic.{same_text}
 use Rattle.cell_base.specs.declared.shifts.Grant.{Grant}
+use Rattle.move_journal.specs.declared.head_write.TheConstants.{TEXT_AT}
 use Rattle.entry_codec.specs.Decoding.{number_4}
 use Rattle.move_journal.specs.Blanks.{name}
 use Rattle.move_journal.specs.Journals.{entries, IsJournal}
@@ -26,8 +27,8 @@ four_below file below (suc (suc (suc zero))) = below 12
 four_below file below (suc (suc (suc (suc i)))) = lit< tt
 
 -- the first thirteen bytes: an open gate, the name, and a length
-pub head_bytes : (file : List ℕ) (n : ℕ) → 13 ≤ length file → slice_index file 0 ≡ 1 → slice_range file 1 9 ≡ name
-    → ((i : ℕ) → slice_index file i < 256) → number_4 file 9 ≡ n → take 13 file ≡ (1 ∷ name) ++ to_be_bytes w32 n
+pub head_bytes : (file : List ℕ) (n : ℕ) → TEXT_AT ≤ length file → slice_index file 0 ≡ 1 → slice_range file 1 9 ≡ name
+    → ((i : ℕ) → slice_index file i < 256) → number_4 file 9 ≡ n → take TEXT_AT file ≡ (1 ∷ name) ++ to_be_bytes w32 n
 head_bytes ([]) n long first named below is = absurd (omega arith)
 head_bytes (x0 ∷ []) n long first named below is = absurd (omega arith)
 head_bytes (x0 ∷ x1 ∷ []) n long first named below is = absurd (omega arith)
@@ -55,7 +56,7 @@ pub open_head : (len : ℕ) (bytes : List ℕ) (size : ℕ) → head_of len byte
 unfolding head_of
 open_head len bytes size is =
     let way = open_by (nat_lt len 2) (slice_index bytes 0 == 0) (not (has_name len bytes)) (not (slice_index bytes 0 == 1))
-    (nat_lt len 13 || nat_lt len (13 + number_4 bytes 9)) (number_4 bytes 9) size is in
+    (nat_lt len TEXT_AT || nat_lt len (TEXT_AT + number_4 bytes 9)) (number_4 bytes 9) size is in
     (same_text (slice_range bytes 1 9) name (sym (both_true _ _ way.0).1), is_one (slice_index bytes 0) way.1, sym way.3)
 
 pub open_small : (len : ℕ) (bytes : List ℕ) (size : ℕ) → ((i : ℕ) → slice_index bytes i < 256) → head_of len bytes ≡ Open size
@@ -63,25 +64,27 @@ pub open_small : (len : ℕ) (bytes : List ℕ) (size : ℕ) → ((i : ℕ) → 
 open_small len bytes size below is = omega (arith, (open_head len bytes size is).2, below 9, below 10, below 11, below 12)
 
 -- an open head, the text after it, and grants after the text
-pub journal_found : (file kept more text : List ℕ) (len size : ℕ) (grants : List Grant) → file ≡ kept ++ more → 13 ≤ length kept
+pub journal_found : (file kept more text : List ℕ) (len size : ℕ) (grants : List Grant) → file ≡ kept ++ more → TEXT_AT ≤ length kept
     → ((i : ℕ) → slice_index kept i < 256) → head_of len kept ≡ Open size
-    → 13 + size ≤ length file → take size (drop 13 file) ≡ text → Ends (drop (13 + size) file) grants → IsJournal file text grants
+    → TEXT_AT + size ≤ length file → take size (drop TEXT_AT file) ≡ text → Ends (drop (TEXT_AT + size) file) grants
+    → IsJournal file text grants
 journal_found file kept more text len size grants split long below is fits text_is ends =
     let tests = open_head len kept size is in
-    let size_is : length text ≡ size = omega (arith, fits, ap length text_is, length-take size (drop 13 file), length-drop 13 file) in
+    let size_is : length text ≡ size =
+    omega (arith, fits, ap length text_is, length-take size (drop TEXT_AT file), length-drop TEXT_AT file) in
     let small : length text < 2 ^ 32 = omega (arith, size_is, open_small len kept size below is) in
-    let first : take 13 file ≡ (1 ∷ name) ++ to_be_bytes w32 (length text) =
-    ap (λ (l : List ℕ). take 13 l) split ∙ take-append-le 13 kept more long
+    let first : take TEXT_AT file ≡ (1 ∷ name) ++ to_be_bytes w32 (length text) =
+    ap (λ (l : List ℕ). take TEXT_AT l) split ∙ take-append-le TEXT_AT kept more long
     ∙ head_bytes kept (length text) long tests.1 tests.0 below (tests.2 ∙ sym size_is) in
-    let rest : drop 13 file ≡ text ++ (entries grants ++ ends.gate ∷ ends.later) =
-    sym (take-append-drop size (drop 13 file)) ∙ (λ i. text_is i ++ (drop-drop_at 13 size file ∙ ends.split) i) in
+    let rest : drop TEXT_AT file ≡ text ++ (entries grants ++ ends.gate ∷ ends.later) =
+    sym (take-append-drop size (drop TEXT_AT file)) ∙ (λ i. text_is i ++ (drop-drop_at TEXT_AT size file ∙ ends.split) i) in
     record {
       size = small;
       each = ends.each;
       gate = ends.gate;
       closed = ends.closed;
       later = ends.later;
-      split = sym (take-append-drop 13 file) ∙ (λ i. first i ++ rest i)
+      split = sym (take-append-drop TEXT_AT file) ∙ (λ i. first i ++ rest i)
           ∙ ap (λ (l : List ℕ). (1 ∷ name ++ to_be_bytes w32 (length text)) ++ l)
           (sym (append_assoc text (entries grants) (ends.gate ∷ ends.later)));
     }

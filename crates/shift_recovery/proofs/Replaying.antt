@@ -15,6 +15,8 @@ use Rattle.cell_base.specs.Fits.{RequestFits}
 use Rattle.cell_base.specs.Outcomes.{reply_to, state_after}
 use Rattle.cell_base.specs.Histories.{is_granted, all_granted, requests_of}
 use Rattle.cell_base.specs.Stages.{stage, is_stage, route_of, works_at}
+use Rattle.entry_codec.specs.declared.encoder.TheConstants.{ENTRY_SIZE}
+use Rattle.move_journal.specs.declared.head_write.TheConstants.{TEXT_AT}
 use Rattle.shift_recovery.specs.declared.faults.JournalFault.{JournalFault}
 use Rattle.shift_recovery.specs.declared.faults.JournalFault.TheVariants.{Damaged}
 use Rattle.shift_recovery.specs.Readings.{read_as}
@@ -46,11 +48,11 @@ fit_test cell (Place job kind place done) =
       λ fits. place_passes (is_stage cell s) (works_at cell s) done (less.1 fits.0) fits.1,
     )
 
-due_test : (fit granted : Bool) (at : ℕ) (behind : Option ℕ) → (if fit && granted then behind else Some at) ≡ None
-    → (fit ≡ true) × (granted ≡ true) × (behind ≡ None)
-due_test true true at behind is = (refl, refl, is)
-due_test true false at behind is = absurd (cc)
-due_test false granted at behind is = absurd (cc)
+due_test : (fit granted : Bool) (at : ℕ) (after : Option ℕ) → (if fit && granted then after else Some at) ≡ None
+    → (fit ≡ true) × (granted ≡ true) × (after ≡ None)
+due_test true true at after is = (refl, refl, is)
+due_test true false at after is = absurd (cc)
+due_test false granted at after is = absurd (cc)
 
 -- grants of which none strays fit, and each is granted in its turn
 pub none_strays : (cell : Cell) (parts : List Part) (at : ℕ) (grants : List Grant) → first_stray cell parts at grants ≡ None
@@ -58,8 +60,8 @@ pub none_strays : (cell : Cell) (parts : List Part) (at : ℕ) (grants : List Gr
 none_strays cell parts at [] is = (All-nil (λ (grant : Grant). RequestFits cell grant.request), refl)
 none_strays cell parts at (grant ∷ grants) is =
     let first = due_test (is_fit cell grant.request) (is_granted (reply_to cell parts grant.request)) at
-    (first_stray cell (state_after cell parts grant.request) (at + 17) grants) is in
-    let rest = none_strays cell (state_after cell parts grant.request) (at + 17) grants first.2 in (
+    (first_stray cell (state_after cell parts grant.request) (at + ENTRY_SIZE) grants) is in
+    let rest = none_strays cell (state_after cell parts grant.request) (at + ENTRY_SIZE) grants first.2 in (
       All-cons (λ (g : Grant). RequestFits cell g.request) grant grants ((fit_test cell grant.request).0 first.0) rest.0,
       and_from (is_granted (reply_to cell parts grant.request)) _ first.1 rest.1,
     )
@@ -70,19 +72,19 @@ pub due_strays_not : (cell : Cell) (parts : List Part) (at : ℕ) (grants : List
     → first_stray cell parts at grants ≡ None
 due_strays_not cell parts at [] fit granted = refl
 due_strays_not cell parts at (grant ∷ grants) fit granted =
-    let behind = first_stray cell (state_after cell parts grant.request) (at + 17) grants in
+    let after = first_stray cell (state_after cell parts grant.request) (at + ENTRY_SIZE) grants in
     let Fit : Grant → Type 0 = λ g. RequestFits cell g.request in
     let both = and_parts (is_granted (reply_to cell parts grant.request)) _ granted in
-    ap (λ (b : Bool). if b && is_granted (reply_to cell parts grant.request) then behind else Some at)
+    ap (λ (b : Bool). if b && is_granted (reply_to cell parts grant.request) then after else Some at)
     ((fit_test cell grant.request).1 (All-head Fit grant grants fit))
-    ∙ ap (λ (b : Bool). if b then behind else Some at) both.0
-    ∙ due_strays_not cell (state_after cell parts grant.request) (at + 17) grants (All-tail Fit grant grants fit) both.1
+    ∙ ap (λ (b : Bool). if b then after else Some at) both.0
+    ∙ due_strays_not cell (state_after cell parts grant.request) (at + ENTRY_SIZE) grants (All-tail Fit grant grants fit) both.1
 
 -- what is due is replayed as itself
 pub due_replayed : (cell : Cell) (text : List ℕ) (grants : List Grant) → AreDue cell grants → replayed cell text grants ≡ Ok grants
 due_replayed cell text grants due =
     ap (λ (o : Option ℕ). option_map_or (λ (at : ℕ). fault at) o (good grants))
-    (due_strays_not cell [] (13 + length text) grants due.fit due.granted)
+    (due_strays_not cell [] (TEXT_AT + length text) grants due.fit due.granted)
   where
     good : List Grant → Result (List Grant) JournalFault
     good all = Ok all

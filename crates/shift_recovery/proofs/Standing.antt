@@ -10,6 +10,7 @@ use Rattle.std.proofs.lemmas.Bool.Decides.{nat_tests}
 use Rattle.std.proofs.lemmas.Cmp.{nat_list_eq_equiv}
 use lib.Pointwise.{pointwise}
 use Rattle.cell_base.specs.declared.shifts.Grant.{Grant}
+use Rattle.move_journal.specs.declared.head_write.TheConstants.{TEXT_AT}
 use Rattle.entry_codec.specs.Decoding.{number_4}
 use Rattle.move_journal.specs.Blanks.{HasForm, name}
 use Rattle.move_journal.specs.Journals.{entries, StandsFor}
@@ -50,10 +51,10 @@ unfolding head_of
 shut_head file shut =
     let first : slice_index file 0 ≡ 0 = at_first file 0 0 shut in
     let way = shut_by (nat_lt (length file) 2) (not (has_name (length file) file)) (not (slice_index file 0 == 1))
-    (nat_lt (length file) 13 || nat_lt (length file) (13 + number_4 file 9)) (number_4 file 9) in (
+    (nat_lt (length file) TEXT_AT || nat_lt (length file) (TEXT_AT + number_4 file 9)) (number_4 file 9) in (
       way.0,
       ap (λ (b : Bool). head_by (nat_lt (length file) 2) b (not (has_name (length file) file))
-          (not (slice_index file 0 == 1)) (nat_lt (length file) 13 || nat_lt (length file) (13 + number_4 file 9))
+          (not (slice_index file 0 == 1)) (nat_lt (length file) TEXT_AT || nat_lt (length file) (TEXT_AT + number_4 file 9))
           (number_4 file 9)) (zero_test _ first) ∙ way.1,
     )
   where
@@ -72,11 +73,11 @@ named_head file gate other is =
     let there = first_of file gate is in
     let long : 9 ≤ length file = omega (arith, ap length is, length-take 9 file) in
     let way = named_by (nat_lt (length file) 2) (slice_index file 0 == 0)
-    (nat_lt (length file) 13 || nat_lt (length file) (13 + number_4 file 9)) (number_4 file 9) in (
+    (nat_lt (length file) TEXT_AT || nat_lt (length file) (TEXT_AT + number_4 file 9)) (number_4 file 9) in (
       way.0,
       (λ i. head_by (nat_lt (length file) 2) (slice_index file 0 == 0) (named_there (length file) file long there.1 i)
           (other_test (slice_index file 0) (λ one. other (sym there.0 ∙ one)) i)
-          (nat_lt (length file) 13 || nat_lt (length file) (13 + number_4 file 9)) (number_4 file 9)) ∙ way.1,
+          (nat_lt (length file) TEXT_AT || nat_lt (length file) (TEXT_AT + number_4 file 9)) (number_4 file 9)) ∙ way.1,
     )
 
 blank_head : (file : List ℕ) (form : BlankForm) → HasForm form file → (found : BlankForm) × (head_of (length file) file ≡ Blank found)
@@ -94,15 +95,16 @@ same_first at (x ∷ xs) = ap (λ (b : Bool). if b then first_difference (at + 1
     own : (x : ℕ) → (x == x) ≡ true
     own x = grind (arith, nat_tests)
 
-journal_head : (text rest : List ℕ) (len : ℕ) → length text < 2 ^ 32 → 13 + length text ≤ len
+journal_head : (text rest : List ℕ) (len : ℕ) → length text < 2 ^ 32 → TEXT_AT + length text ≤ len
     → head_of len (1 ∷ name ++ to_be_bytes w32 (length text) ++ rest) ≡ Open (length text)
 unfolding head_of
 journal_head text rest len small fits =
     let bytes : List ℕ = 1 ∷ name ++ to_be_bytes w32 (length text) ++ rest in
     let size : number_4 bytes 9 ≡ length text = from_be_bytes-to_be_bytes_4 (length text) small in
-    let end : nat_lt len (13 + number_4 bytes 9) ≡ false = no_shorter_than len (13 + number_4 bytes 9) (omega (arith, size, fits)) in
+    let end : nat_lt len (TEXT_AT + number_4 bytes 9) ≡ false =
+    no_shorter_than len (TEXT_AT + number_4 bytes 9) (omega (arith, size, fits)) in
     (λ i. head_by (no_shorter_than len 2 (omega (arith, fits)) i) false
-    (named_there len bytes (omega (arith, fits)) refl i) false (no_shorter_than len 13 (omega (arith, fits)) i || end i)
+    (named_there len bytes (omega (arith, fits)) refl i) false (no_shorter_than len TEXT_AT (omega (arith, fits)) i || end i)
     (number_4 bytes 9))
     ∙ ap (λ (k : ℕ). Open k) size
 
@@ -116,17 +118,17 @@ stands_found file text room grants (inr journal) = λ fits.
     let whole : file ≡ 1 ∷ name ++ to_be_bytes w32 (length text) ++ rest =
     journal.split ∙ ap (λ (l : List ℕ). 1 ∷ name ++ to_be_bytes w32 (length text) ++ l)
     (append_assoc text (entries grants) (journal.gate ∷ journal.later)) in
-    let long : 13 + length text ≤ length file =
+    let long : TEXT_AT + length text ≤ length file =
     omega (arith, ap length whole, length-append text (entries grants ++ journal.gate ∷ journal.later)) in
     let head : head_of (length file) file ≡ Open (length text) = ap (head_of (length file)) whole
     ∙ journal_head text rest (length file) journal.size long in
-    let behind : drop 13 file ≡ rest = ap (λ (l : List ℕ). drop 13 l) whole in
-    let stored : take (length text) (drop 13 file) ≡ text = ap (λ (l : List ℕ). take (length text) l) behind
+    let after : drop TEXT_AT file ≡ rest = ap (λ (l : List ℕ). drop TEXT_AT l) whole in
+    let stored : take (length text) (drop TEXT_AT file) ≡ text = ap (λ (l : List ℕ). take (length text) l) after
     ∙ take_at text (entries grants ++ journal.gate ∷ journal.later) (length text) refl in
-    let gates : drop (13 + length text) file ≡ entries grants ++ journal.gate ∷ journal.later =
-    sym (drop-drop_at 13 (length text) file) ∙ ap (λ (l : List ℕ). drop (length text) l) behind
+    let gates : drop (TEXT_AT + length text) file ≡ entries grants ++ journal.gate ∷ journal.later =
+    sym (drop-drop_at TEXT_AT (length text) file) ∙ ap (λ (l : List ℕ). drop (length text) l) after
     ∙ drop_at text (entries grants ++ journal.gate ∷ journal.later) (length text) refl in
     inr (reads_by_head file text room (Open (length text)) head
     ∙ same_text_then file text room (length text) (Ok grants) (ap (λ (l : List ℕ). first_difference 0 l text) stored ∙ same_first 0 text)
-    (ap (grants_from room room (13 + length text)) gates
-    ∙ walk_there room room (13 + length text) grants journal.gate journal.later journal.each journal.closed fits))
+    (ap (grants_from room room (TEXT_AT + length text)) gates
+    ∙ walk_there room room (TEXT_AT + length text) grants journal.gate journal.later journal.each journal.closed fits))

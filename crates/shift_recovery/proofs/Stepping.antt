@@ -6,6 +6,7 @@ use Rattle.std.proofs.lemmas.List.{append-nil, take_rest, drop_all, drop-append-
 use Rattle.std.proofs.lemmas.Bool.Decides.{nat_tests}
 use Rattle.shift_recovery.proofs.Windowed.{drop-drop_at}
 use Rattle.cell_base.specs.declared.shifts.Grant.{Grant}
+use Rattle.entry_codec.specs.declared.encoder.TheConstants.{ENTRY_SIZE}
 use Rattle.shift_recovery.specs.declared.faults.JournalFault.{JournalFault}
 use Rattle.shift_recovery.specs.declared.faults.JournalFault.TheVariants.{Long}
 use Rattle.shift_recovery.specs.Readings.{gate_at, with_grant, after_gate, grants_from}
@@ -14,13 +15,13 @@ use Rattle.shift_recovery.specs.Walked.{with_grants}
 pub closed_ends : (total room at : ℕ) (bytes : List ℕ) → gate_at at bytes ≡ Ok None → grants_from total room at bytes ≡ Ok []
 unfolding grants_from
 closed_ends total zero at bytes is = ap (λ r. after_gate r (Err (Long (total + 1)))) is
-closed_ends total (suc room) at bytes is = ap (λ r. after_gate r (grants_from total room (at + 17) (drop 17 bytes))) is
+closed_ends total (suc room) at bytes is = ap (λ r. after_gate r (grants_from total room (at + ENTRY_SIZE) (drop ENTRY_SIZE bytes))) is
 
 pub fault_ends : (total room at : ℕ) (bytes : List ℕ) (why : JournalFault) → gate_at at bytes ≡ Err why
     → grants_from total room at bytes ≡ Err why
 unfolding grants_from
 fault_ends total zero at bytes why is = ap (λ r. after_gate r (Err (Long (total + 1)))) is
-fault_ends total (suc room) at bytes why is = ap (λ r. after_gate r (grants_from total room (at + 17) (drop 17 bytes))) is
+fault_ends total (suc room) at bytes why is = ap (λ r. after_gate r (grants_from total room (at + ENTRY_SIZE) (drop ENTRY_SIZE bytes))) is
 
 pub too_long : (total room at : ℕ) (bytes : List ℕ) (grant : Grant) → room ≡ 0 → gate_at at bytes ≡ Ok (Some grant)
     → grants_from total room at bytes ≡ Err (Long (total + 1))
@@ -29,13 +30,13 @@ too_long total zero at bytes grant none is = ap (λ r. after_gate r (Err (Long (
 too_long total (suc room) at bytes grant none is = absurd (omega arith)
 
 pub one_more : (total room left at : ℕ) (bytes : List ℕ) (grant : Grant) → room ≡ left + 1 → gate_at at bytes ≡ Ok (Some grant)
-    → grants_from total room at bytes ≡ with_grant grant (grants_from total left (at + 17) (drop 17 bytes))
+    → grants_from total room at bytes ≡ with_grant grant (grants_from total left (at + ENTRY_SIZE) (drop ENTRY_SIZE bytes))
 unfolding grants_from
 one_more total zero left at bytes grant more is = absurd (omega arith)
 one_more total (suc room) left at bytes grant more is =
     let same : room ≡ left = omega arith in
-    ap (λ r. after_gate r (grants_from total room (at + 17) (drop 17 bytes))) is
-    ∙ ap (λ (k : ℕ). with_grant grant (grants_from total k (at + 17) (drop 17 bytes))) same
+    ap (λ r. after_gate r (grants_from total room (at + ENTRY_SIZE) (drop ENTRY_SIZE bytes))) is
+    ∙ ap (λ (k : ℕ). with_grant grant (grants_from total k (at + ENTRY_SIZE) (drop ENTRY_SIZE bytes))) same
 
 abbrev ok : List Grant → Result (List Grant) JournalFault
 ok grants = Ok grants
@@ -70,10 +71,10 @@ pub walk_step : (file : List ℕ) (grants new : List Grant) (grant : Grant) (tot
     → length grants ≤ total → length grants ≢ total → gate_at gate (drop gate file) ≡ Ok (Some grant)
     → grants_from total total first (drop first file) ≡ with_grants grants (grants_from total (total - length grants) gate (drop gate file))
     → grants_from total total first (drop first file)
-    ≡ with_grants new (grants_from total (total - length new) (gate + 17) (drop (gate + 17) file))
+    ≡ with_grants new (grants_from total (total - length new) (gate + ENTRY_SIZE) (drop (gate + ENTRY_SIZE) file))
 walk_step file grants new grant total first gate is within other at_gate walked =
     let long : length new ≡ length grants + 1 = ap length is ∙ length_push grants grant in
     let left : total - length grants ≡ (total - length new) + 1 = omega (arith, long, within, other) in
     walked ∙ ap (with_grants grants) (one_more total (total - length grants) (total - length new) gate (drop gate file) grant left at_gate)
-    ∙ with_grants-push grants grant (grants_from total (total - length new) (gate + 17) (drop 17 (drop gate file)))
-    ∙ (λ i. with_grants (sym is i) (grants_from total (total - length new) (gate + 17) (drop-drop_at gate 17 file i)))
+    ∙ with_grants-push grants grant (grants_from total (total - length new) (gate + ENTRY_SIZE) (drop ENTRY_SIZE (drop gate file)))
+    ∙ (λ i. with_grants (sym is i) (grants_from total (total - length new) (gate + ENTRY_SIZE) (drop-drop_at gate ENTRY_SIZE file i)))

@@ -6,6 +6,7 @@ use Rattle.std.proofs.lemmas.List.{take-append-le}
 use Rattle.std.proofs.Math.Seq.{drop-nil}
 use Rattle.std.proofs.lemmas.Bool.Decides.{nat_tests}
 use Rattle.cell_base.specs.declared.shifts.Grant.{Grant}
+use Rattle.entry_codec.specs.declared.encoder.TheConstants.{ENTRY_SIZE}
 use Rattle.entry_codec.specs.Decoding.{grant_of}
 use Rattle.shift_recovery.specs.Readings.{gate_at}
 
@@ -25,14 +26,14 @@ piece_more kept window new piece file at n is more read =
     ap (λ (l : List ℕ). kept ++ l) whole ∙ sym (append_assoc kept piece (drop (at + n) file))
     ∙ ap (λ (l : List ℕ). l ++ piece ++ drop (at + n) file) (sym is) ∙ ap (λ (l : List ℕ). l ++ drop (at + n) file) (sym more)
 
-pub gate_open : (at gate : ℕ) (behind : List ℕ) (grant : Grant) → gate ≡ 1 → 17 ≤ length behind
-    → grant_of (take 16 behind) ≡ Some grant → gate_at at (gate ∷ behind) ≡ Ok (Some grant)
+pub gate_open : (at gate : ℕ) (after : List ℕ) (grant : Grant) → gate ≡ 1 → ENTRY_SIZE ≤ length after
+    → grant_of (take 16 after) ≡ Some grant → gate_at at (gate ∷ after) ≡ Ok (Some grant)
 unfolding gate_at
-gate_open at gate behind grant is long read = grind (arith, nat_tests)
+gate_open at gate after grant is long read = grind (arith, nat_tests)
 
 pub gate_whole : (at : ℕ) (window unread : List ℕ) (grant : Grant) → 18 ≤ length window → get_or window 0 0 ≡ 1
     → grant_of (take 16 (drop 1 window)) ≡ Some grant → gate_at at (window ++ unread) ≡ Ok (Some grant)
 gate_whole at [] unread grant long is read = absurd (omega arith)
-gate_whole at (gate ∷ behind) unread grant long is read =
-    gate_open at gate (behind ++ unread) grant is (omega (arith, length-append behind unread))
-    (ap grant_of (take-append-le 16 behind unread (omega arith)) ∙ read)
+gate_whole at (gate ∷ after) unread grant long is read =
+    gate_open at gate (after ++ unread) grant is (omega (arith, length-append after unread))
+    (ap grant_of (take-append-le 16 after unread (omega arith)) ∙ read)

@@ -4,9 +4,11 @@ use Rattle.std.specs.Prelude.{Some, None, Result, Ok, Err, List, [], ◌∷◌, 
 use Rattle.std.specs.Option.{option_map_or}
 use lib.Pointwise.{pointwise}
 use Rattle.cell_base.specs.declared.shifts.Grant.{Grant}
+use Rattle.entry_codec.specs.declared.encoder.TheConstants.{ENTRY_SIZE}
 use Rattle.entry_codec.specs.Decoding.{grant_of, number_4}
 use Rattle.move_journal.specs.Blanks.{name}
 use Rattle.move_journal.specs.declared.blank.BlankForm.TheVariants.{Short, Shut, Named}
+use Rattle.move_journal.specs.declared.head_write.TheConstants.{TEXT_AT}
 use Rattle.shift_recovery.specs.declared.faults.JournalFault.{JournalFault}
 use Rattle.shift_recovery.specs.declared.faults.JournalFault.TheVariants.{NotAJournal, OtherCell, Damaged, Long}
 use Rattle.shift_recovery.specs.declared.heads.Head.{Head}
@@ -23,7 +25,7 @@ head_of len bytes =
     else if slice_index bytes 0 == 0 then Blank Shut
     else if not (has_name len bytes) then Faulty NotAJournal
     else if not (slice_index bytes 0 == 1) then Blank Named
-    else if nat_lt len 13 || nat_lt len (13 + number_4 bytes 9) then Faulty (Damaged 9)
+    else if nat_lt len TEXT_AT || nat_lt len (TEXT_AT + number_4 bytes 9) then Faulty (Damaged 9)
     else Open (number_4 bytes 9)
 
 -- the first offset at which two texts differ, or at which one of them ends, where they begin at an offset
@@ -38,7 +40,7 @@ unfoldable pub gate_at : ℕ → List ℕ → Result (Option Grant) JournalFault
 gate_at at [] = Err (Damaged at)
 gate_at at (gate ∷ rest) =
     if not (gate == 1) then Ok None
-    else if nat_lt (length rest) 17 then Err (Damaged at)
+    else if nat_lt (length rest) ENTRY_SIZE then Err (Damaged at)
     else option_map_or (λ grant. Ok (Some grant)) (grant_of (take 16 rest)) (Err (Damaged at))
 
 -- a grant and those after it
@@ -55,7 +57,7 @@ after_gate (Ok (Some grant)) rest = with_grant grant rest
 -- The grants from the gate at an offset on, up to the first closed gate, where there is room for so many of `total`.
 unfoldable pub grants_from : ℕ → ℕ → ℕ → List ℕ → Result (List Grant) JournalFault
 grants_from total zero at bytes = after_gate (gate_at at bytes) (Err (Long (total + 1)))
-grants_from total (suc room) at bytes = after_gate (gate_at at bytes) (grants_from total room (at + 17) (drop 17 bytes))
+grants_from total (suc room) at bytes = after_gate (gate_at at bytes) (grants_from total room (at + ENTRY_SIZE) (drop ENTRY_SIZE bytes))
 
 -- a blank file has no list of grants
 abbrev pub found : Result (List Grant) JournalFault → Result (Option (List Grant)) JournalFault
@@ -65,8 +67,8 @@ found (Err why) = Err why
 -- the text of so many bytes is this one, and then come grants
 abbrev pub after_head : List ℕ → List ℕ → ℕ → ℕ → Result (Option (List Grant)) JournalFault
 after_head bytes text room size =
-    option_map_or (λ at. Err (OtherCell at)) (first_difference 0 (take size (drop 13 bytes)) text)
-    (found (grants_from room room (13 + size) (drop (13 + size) bytes)))
+    option_map_or (λ at. Err (OtherCell at)) (first_difference 0 (take size (drop TEXT_AT bytes)) text)
+    (found (grants_from room room (TEXT_AT + size) (drop (TEXT_AT + size) bytes)))
 
 abbrev pub from_head : List ℕ → List ℕ → ℕ → Head → Result (Option (List Grant)) JournalFault
 from_head bytes text room (Blank form) = Ok None

@@ -13,6 +13,8 @@ use Rattle.cell_base.specs.Fits.{RequestFits}
 use Rattle.cell_base.specs.Histories.{is_granted, is_replay}
 use Rattle.cell_base.specs.Outcomes.{reply_to, state_after}
 use Rattle.cell_base.specs.Stages.{stage, is_stage, works_at}
+use Rattle.entry_codec.specs.declared.encoder.TheConstants.{ENTRY_SIZE}
+use Rattle.move_journal.specs.declared.head_write.TheConstants.{TEXT_AT}
 use Rattle.shift_recovery.specs.declared.faults.JournalFault.{JournalFault}
 use Rattle.shift_recovery.specs.declared.faults.JournalFault.TheVariants.{Damaged}
 use Rattle.shift_recovery.specs.Readings.{read_as}
@@ -33,11 +35,11 @@ is_due cell parts request = is_fit cell request && is_granted (reply_to cell par
 abbrev pub first_stray : Cell → List Part → ℕ → List Grant → Option ℕ
 first_stray cell parts at [] = None
 first_stray cell parts at (grant ∷ grants) =
-    if is_due cell parts grant.request then first_stray cell (state_after cell parts grant.request) (at + 17) grants else Some at
+    if is_due cell parts grant.request then first_stray cell (state_after cell parts grant.request) (at + ENTRY_SIZE) grants else Some at
 
 -- the grants of a journal with this cell text, replayed: the first one that strays is damage
 abbrev pub replayed : Cell → List ℕ → List Grant → Result (List Grant) JournalFault
-replayed cell text grants = option_map_or (λ at. Err (Damaged at)) (first_stray cell [] (13 + length text) grants) (Ok grants)
+replayed cell text grants = option_map_or (λ at. Err (Damaged at)) (first_stray cell [] (TEXT_AT + length text) grants) (Ok grants)
 
 -- what the bytes are read as, replayed; a blank file has no grants
 abbrev pub replayed_reading : Cell → List ℕ → Result (Option (List Grant)) JournalFault → Result (List Grant) JournalFault

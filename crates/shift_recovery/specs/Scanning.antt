@@ -1,7 +1,9 @@
 -- What is found where the grants of a disk are handed on.
 use Rattle.std.specs.Prelude.{◌≡◌, ◌⊎◌, ℕ, ◌+◌, ◌*◌, ◌^◌, ◌≤◌, false, Option, Some, None, IfSome, Result, Ok, Err, List, [], length, ⊤}
 use Rattle.cell_base.specs.declared.shifts.Grant.{Grant}
+use Rattle.entry_codec.specs.declared.encoder.TheConstants.{ENTRY_SIZE}
 use Rattle.outside_io.specs.Causes.{Rose}
+use Rattle.move_journal.specs.declared.head_write.TheConstants.{TEXT_AT}
 use Rattle.move_journal.specs.Blanks.{HasForm, IsBlank}
 use Rattle.move_journal.specs.Disks.{Rests}
 use Rattle.move_journal.specs.Journals.{IsJournal, gate_of}
@@ -31,7 +33,7 @@ pub record IsHandedOn {D T : Type 0} (reads_as : D → Option (List ℕ)) (may_l
   pub few : length grants ≤ room
   pub len : journal.len ≡ length grants
   pub runs : journal.is_halted ≡ false
-  pub read : IfSome (reads_as disk) (λ file. (read_as file text room ≡ Ok (Some grants)) × (first ≡ 13 + length text))
+  pub read : IfSome (reads_as disk) (λ file. (read_as file text room ≡ Ok (Some grants)) × (first ≡ TEXT_AT + length text))
   pub rests : Rests reads_as may_leave journal.disk (λ file. IsJournal file text grants)
 
 -- The answer is what the bytes are read as; and what is known of the disk, where it tells, and of the taker.
@@ -64,9 +66,9 @@ pub record IsRead {T : Type 0} (told : Option (List ℕ)) (text : List ℕ) (roo
   pub taken : took old first grants new
   pub few : length grants ≤ room
   pub counted : count ≡ length grants
-  pub small : gate ≤ 2 ^ 33 + 17 * length grants
-  pub read : IfSome told (λ file. (read_as file text room ≡ Ok (Some grants)) × (first ≡ 13 + length text) × (gate ≡ gate_of text grants)
-      × IsJournal file text grants)
+  pub small : gate ≤ 2 ^ 33 + ENTRY_SIZE * length grants
+  pub read : IfSome told (λ file. (read_as file text room ≡ Ok (Some grants)) × (first ≡ TEXT_AT + length text)
+      × (gate ≡ gate_of text grants) × IsJournal file text grants)
 
 -- a reading of the bytes, with what opens them
 abbrev pub IsReading : {T : Type 0} → Option (List ℕ) → List ℕ → ℕ → (T → ℕ → List Grant → T → Type 0) → T → T → Reading → Type 0

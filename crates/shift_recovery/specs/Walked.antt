@@ -1,6 +1,7 @@
 -- What a walk over the gates of a file finds.
 use Rattle.std.specs.Prelude.{◌≡◌, ℕ, ◌+◌, ◌*◌, ◌≤◌, Option, IfSome, Result, Ok, Err, List, ◌++◌, length, drop}
 use Rattle.cell_base.specs.declared.shifts.Grant.{Grant}
+use Rattle.entry_codec.specs.declared.encoder.TheConstants.{ENTRY_SIZE}
 use Rattle.shift_recovery.specs.declared.faults.JournalFault.{JournalFault}
 use Rattle.shift_recovery.specs.declared.walks.Walked.{Walked}
 use Rattle.shift_recovery.specs.declared.walks.Walked.TheVariants.{Closed, Faulty}
@@ -18,7 +19,7 @@ pub record IsTakenFrom {T : Type 0} (told : Option (List ℕ)) (first room : ℕ
   pub taken : took old first grants new
   pub counted : count ≡ length grants
   pub few : count ≤ room
-  pub gate_is : gate ≡ first + 17 * length grants
+  pub gate_is : gate ≡ first + ENTRY_SIZE * length grants
   pub found : IfSome told (λ file. grants_from room room first (drop first file) ≡ Ok grants)
 
 -- the grants up to the closed gate, or the first fault, of the file from an offset on

@@ -1,5 +1,6 @@
 -- Where the reading of a file stands.
 use Rattle.std.specs.Prelude.{◌≡◌, ℕ, ◌+◌, ◌≤◌, Option, Some, None, IfSome, List, ◌++◌, length, take, drop}
+use Rattle.move_journal.specs.declared.head_write.TheConstants.{TEXT_AT}
 use Rattle.shift_recovery.specs.declared.texts.Compared.{Compared}
 use Rattle.shift_recovery.specs.declared.texts.Compared.TheVariants.{Differs, Same}
 use Rattle.shift_recovery.specs.Readings.{first_difference}
@@ -17,8 +18,8 @@ Shows told offset len at used kept = IfSome told (λ file. (length file ≡ len)
 -- the first difference of the stored text, or a window after it
 abbrev pub IsTextEnd : {D : Type 0} → (D → Option (List ℕ)) → D → ℕ → ℕ → List ℕ → Compared → Type 0
 IsTextEnd reads_as disk len size text (Differs at) =
-    IfSome (reads_as disk) (λ file. first_difference 0 (take size (drop 13 file)) text ≡ Some at)
+    IfSome (reads_as disk) (λ file. first_difference 0 (take size (drop TEXT_AT file)) text ≡ Some at)
 IsTextEnd reads_as disk len size text (Same window) =
-    IfSome (reads_as disk) (λ file. first_difference 0 (take size (drop 13 file)) text ≡ None)
-    × IsAt (13 + size) len window.at window.used window.kept.items
-    × Shows (reads_as disk) (13 + size) len window.at window.used window.kept.items
+    IfSome (reads_as disk) (λ file. first_difference 0 (take size (drop TEXT_AT file)) text ≡ None)
+    × IsAt (TEXT_AT + size) len window.at window.used window.kept.items
+    × Shows (reads_as disk) (TEXT_AT + size) len window.at window.used window.kept.items

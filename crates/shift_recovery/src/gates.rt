@@ -5,7 +5,7 @@ ghost use Rattle.shift_recovery.specs.Readings as spec;
 
 use crate::faults::JournalFault;
 use cell_base::Grant;
-use entry_codec::decode;
+use entry_codec::{ENTRY_SIZE, decode};
 
 /// What begins with the gate at an offset, where the bytes from there on begin with the window. None where more bytes
 /// are needed, and `is_last` says that there are no more.
@@ -18,8 +18,8 @@ pub(crate) fn gate_in(
 ) -> Option<Result<Option<Grant>, JournalFault>>
     ensures found { IfSome result (λ found. (unread : List ℕ) → (IsTrue is_last → unread ≡ [])
         → spec.gate_at at (window.now ++ unread) ≡ found) }
-    ensures whole { (grant : Grant) → result ≡ Some (Ok (Some grant)) → 18 ≤ length window.now }
-    ensures more { IfNone result ((is_last ≡ false) × (length window.now < 18)) }
+    ensures whole { (grant : Grant) → result ≡ Some (Ok (Some grant)) → ENTRY_SIZE < length window.now }
+    ensures more { IfNone result ((is_last ≡ false) × (length window.now ≤ ENTRY_SIZE)) }
 {
     match window {
         [] if is_last => Some(Err(JournalFault::Damaged { at })),
@@ -28,7 +28,7 @@ pub(crate) fn gate_in(
             if *gate != 1 {
                 return Some(Ok(None));
             }
-            if rest.len() < 17 {
+            if rest.len() < ENTRY_SIZE as usize {
                 return if is_last {
                     Some(Err(JournalFault::Damaged { at }))
                 } else {

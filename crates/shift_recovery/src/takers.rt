@@ -3,6 +3,7 @@ ghost use Rattle.std.specs.Prelude.{◌≡◌, ℕ, ◌+◌, ◌*◌, List as Se
 ghost use Rattle.cell_base.specs.declared.shifts.Grant.{Grant as OneGrant};
 
 use cell_base::{Grant, List, NoMemory};
+use entry_codec::ENTRY_SIZE;
 
 /// Takes grants in their order.
 pub trait Taker {
@@ -12,7 +13,7 @@ pub trait Taker {
 
     /// Takes one grant more, whose gate stands at an offset of the file. Where memory is wanting nothing is known of what it took.
     fn take(&mut self, at: u64, grant: Grant) -> Result<(), NoMemory>
-        ensures { (start : Self) (first : ℕ) (grants : Sequence OneGrant) → at ≡ first + 17 * length grants
+        ensures { (start : Self) (first : ℕ) (grants : Sequence OneGrant) → at ≡ first + ENTRY_SIZE * length grants
             → took start first grants self.old → OnOk result (took start first (grants ++ grant ∷ []) self.new) };
 }
 

@@ -10,7 +10,7 @@ use crate::gates::gate_in;
 use crate::pieces::{PIECE, with_piece};
 use crate::takers::Taker;
 use crate::texts::Window;
-use move_journal::ENTRY_SIZE;
+use entry_codec::ENTRY_SIZE;
 use outside_io::Disk;
 use std::alloc::Global;
 

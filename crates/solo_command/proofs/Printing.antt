@@ -14,7 +14,8 @@ module _ (cell : Cell) (shift grants : ℕ) (history : List Entry) where
   lines_with rest = history_lines cell shift grants (history ++ rest)
 
   lines-append : (rest : List Entry) → history_lines cell shift grants history ++ map (entry_line cell) rest ≡ lines_with rest
-  lines-append rest = ap (λ (lines : List (List ℕ)). line_of (head_words shift grants) ∷ lines) (sym (map-append (entry_line cell) history rest))
+  lines-append rest =
+      ap (λ (lines : List (List ℕ)). line_of (head_words shift grants) ∷ lines) (sym (map-append (entry_line cell) history rest))
 
   module _ {K : Type 0} (taken : K → Option (List ℕ)) (was_put : K → List ℕ → K → Type 0) (faults : K → ℕ) (a b : K) where
     abbrev told : K → K → SinkTold

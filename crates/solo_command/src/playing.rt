@@ -11,7 +11,7 @@ use outside_io::{Failed, Sink};
 use record_text::{Line, head_line, write_entry};
 use solo_rounds::Rounds;
 
-/// Runs a shift on an empty core and prints its record, each line as it comes. Behind a line that the sink doesn't take the sessions ask
+/// Runs a shift on an empty core and prints its record, each line as it comes. After a line that the sink doesn't take the sessions ask
 /// on to their ends, so that the lines before it are those of one whole history; and nothing more is put.
 pub fn play<K: Sink>(out: &mut K, core: Core, shift: &Shift) -> Status
     requires { IsAtStart core shift.now }

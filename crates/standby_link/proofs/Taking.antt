@@ -116,16 +116,17 @@ module _ {D : Type 0} (reads_as : D → Option (List ℕ)) (may_leave : D → Li
 
   -- each image at each moment stands for the grants before the frame or after it
   module _ (old new : FollowerState D) (bytes : List ℕ) (sure : old.durable.unsure ≡ None) where
-    abbrev Behind : List ℕ → Type 0
-    Behind file = StandsForDelivered old.durable.text (kept old) bytes file
+    abbrev BeforeOrAfter : List ℕ → Type 0
+    BeforeOrAfter file = StandsForDelivered old.durable.text (kept old) bytes file
 
-    leaves : ((file : List ℕ) → StandsNow new.durable file → Behind file)
+    leaves : ((file : List ℕ) → StandsNow new.durable file → BeforeOrAfter file)
         → IfSome (reads_as old.durable.disk)
         (λ _. LeavesOnly moment left_since old.durable.disk new.durable.disk (StandsThen old.durable new.durable))
-        → IfSome (reads_as old.durable.disk) (λ _. LeavesOnly moment left_since old.durable.disk new.durable.disk Behind)
+        → IfSome (reads_as old.durable.disk) (λ _. LeavesOnly moment left_since old.durable.disk new.durable.disk BeforeOrAfter)
     leaves each any_moment =
-        where_told (reads_as old.durable.disk) (λ _. LeavesOnly moment left_since old.durable.disk new.durable.disk Behind) (λ file is.
-        widened moment left_since old.durable.disk new.durable.disk (StandsThen old.durable new.durable) Behind
+        where_told (reads_as old.durable.disk)
+        (λ _. LeavesOnly moment left_since old.durable.disk new.durable.disk BeforeOrAfter) (λ file is.
+        widened moment left_since old.durable.disk new.durable.disk (StandsThen old.durable new.durable) BeforeOrAfter
         (told_of (reads_as old.durable.disk)
         (λ _. LeavesOnly moment left_since old.durable.disk new.durable.disk (StandsThen old.durable new.durable)) file is any_moment)
         (λ c. ⊎_elim (λ before. inl (stands_for_kept old.durable c sure before)) (each c)))
@@ -134,7 +135,7 @@ module _ {D : Type 0} (reads_as : D → Option (List ℕ)) (may_leave : D → Li
     pub same_leaves : new ≡ old
         → IfSome (reads_as old.durable.disk)
         (λ _. LeavesOnly moment left_since old.durable.disk new.durable.disk (StandsThen old.durable new.durable))
-        → IfSome (reads_as old.durable.disk) (λ _. LeavesOnly moment left_since old.durable.disk new.durable.disk Behind)
+        → IfSome (reads_as old.durable.disk) (λ _. LeavesOnly moment left_since old.durable.disk new.durable.disk BeforeOrAfter)
     same_leaves same = leaves (λ file now. inl (stands_for_kept old.durable file sure
         (subst (λ (f : FollowerState D). StandsNow f.durable file) same now)))
 
@@ -142,7 +143,7 @@ module _ {D : Type 0} (reads_as : D → Option (List ℕ)) (may_leave : D → Li
     pub appended_leaves : IsAppended old bytes new
         → IfSome (reads_as old.durable.disk)
         (λ _. LeavesOnly moment left_since old.durable.disk new.durable.disk (StandsThen old.durable new.durable))
-        → IfSome (reads_as old.durable.disk) (λ _. LeavesOnly moment left_since old.durable.disk new.durable.disk Behind)
+        → IfSome (reads_as old.durable.disk) (λ _. LeavesOnly moment left_since old.durable.disk new.durable.disk BeforeOrAfter)
     appended_leaves is =
         let more : FollowerState D = with_grant old new.durable.disk is.grant in
         leaves (λ file now. inr (subst (StandsFor file old.durable.text)
@@ -153,13 +154,13 @@ module _ {D : Type 0} (reads_as : D → Option (List ℕ)) (may_leave : D → Li
     pub halted_leaves : IsHaltedAppend old bytes new
         → IfSome (reads_as old.durable.disk)
         (λ _. LeavesOnly moment left_since old.durable.disk new.durable.disk (StandsThen old.durable new.durable))
-        → IfSome (reads_as old.durable.disk) (λ _. LeavesOnly moment left_since old.durable.disk new.durable.disk Behind)
+        → IfSome (reads_as old.durable.disk) (λ _. LeavesOnly moment left_since old.durable.disk new.durable.disk BeforeOrAfter)
     halted_leaves is = leaves (λ file now. by_case file (subst (λ (f : FollowerState D). StandsNow f.durable file) is.is now))
       where
         halt : FollowerState D
         halt = with_halt old new.durable.disk is.grant
 
-        by_case : (file : List ℕ) → StandsNow (with_halt old new.durable.disk is.grant).durable file → Behind file
+        by_case : (file : List ℕ) → StandsNow (with_halt old new.durable.disk is.grant).durable file → BeforeOrAfter file
         by_case file (inl stands) =
             inl (subst (StandsFor file old.durable.text) (kept_still old.durable new.durable.disk is.grant) stands)
         by_case file (inr stands) = inr (subst (StandsFor file old.durable.text)

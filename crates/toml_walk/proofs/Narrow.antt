@@ -42,6 +42,9 @@ array_short d vs is = rw (array_is d (items_view vs) is) (omega (arith, count_of
 pub array_narrow : (d : Data) (ds : Items) → Some ds ≡ as_array d → items_width ds ≤ width d
 array_narrow d ds is = rw (array_is d ds is) (omega arith)
 
+-- an array is as wide at least as it is long, and as its elements are together
+pub ruleset array_laws = (array_short, array_narrow)
+
 -- the value at a key
 by_order : (o : Ordering) (before : Option Data) (here : Data) (behind : Option Data) (d : Data) (n : ℕ)
     → Some d ≡ match_ordering o before (Some here) behind → (Some d ≡ before → width d ≤ n) → width here ≤ n

@@ -37,9 +37,10 @@ shift-requires-clause-room c =
     let cell = c.args.table.now in
     let parts = c.args.tally.now.parts.parts in
     let sound = c.requires.sound in
-    let here = part_known cell parts c.args.found.part.job c.args.found.part sound.admitted c.requires.found in
+    let part = c.args.found.part in
+    let here = part_known cell parts part.job part sound.admitted c.requires.found in
     ap₂ (λ to from. first_full c.args.tally.now.counts (bits_only_of to from)) c.requires.there.mask c.requires.here.mask
-    ∙ move_over cell sound.fits c.args.tally.now.counts parts sound.tallied.counts c.args.found.part c.args.next sound.admitted.state.distinct
+    ∙ move_over cell sound.fits c.args.tally.now.counts parts sound.tallied.counts part c.args.next sound.admitted.state.distinct
     here.stands sound.admitted.within
     ∙ c.requires.room
 
@@ -48,10 +49,11 @@ shift-requires-clause-held c =
     let cell = c.args.table.now in
     let parts = c.args.tally.now.parts.parts in
     let sound = c.requires.sound in
-    let here = part_known cell parts c.args.found.part.job c.args.found.part sound.admitted c.requires.found in
+    let part = c.args.found.part in
+    let here = part_known cell parts part.job part sound.admitted c.requires.found in
     subst (λ from. AreHeld c.args.tally.now.counts (bits_only_of from c.args.there.mask)) (sym c.requires.here.mask)
-    (subst (λ to. AreHeld c.args.tally.now.counts (bits_only_of (mask_of cell (stage_of c.args.found.part)) to)) (sym c.requires.there.mask)
-    (only_held cell sound.fits c.args.tally.now.counts parts sound.tallied.counts c.args.found.part c.args.next sound.admitted.state.distinct
+    (subst (λ to. AreHeld c.args.tally.now.counts (bits_only_of (mask_of cell (stage_of part)) to)) (sym c.requires.there.mask)
+    (only_held cell sound.fits c.args.tally.now.counts parts sound.tallied.counts part c.args.next sound.admitted.state.distinct
     here.stands))
 
 pub advance_near-requires-clause-present : goal.advance_near-requires-clause-present
@@ -86,7 +88,8 @@ overflow_add-tally c =
     )
 
 -- the parts after the move
-now : (c : goal.After-tally-1) → c.advance_near.new.self.parts ≡ without c.args.tally.now.parts.parts c.args.found.part.job ++ c.args.next ∷ []
+now : (c : goal.After-tally-1)
+    → c.advance_near.new.self.parts ≡ without c.args.tally.now.parts.parts c.args.found.part.job ++ c.args.next ∷ []
 now c =
     let parts = c.args.tally.now.parts.parts in
     let part = c.args.found.part in
@@ -118,8 +121,8 @@ returns-clause-tallied c =
       );
       counts = subst (λ (parts : List Part). AreCounts cell parts c.shift.new.self) (sym (now c))
           (counts_moved cell sound.fits parts c.args.tally.now.counts c.shift.new.self tallied.counts c.shift.ensures.length
-          c.shift.ensures.capacities part distinct here.stands c.args.next c.args.here.mask c.args.there.mask c.requires.here.mask c.requires.there.mask
-          c.shift.ensures.counts);
+          c.shift.ensures.capacities part distinct here.stands c.args.next c.args.here.mask c.args.there.mask
+          c.requires.here.mask c.requires.there.mask c.shift.ensures.counts);
       work = omega (
         arith,
         tallied.work,

@@ -9,6 +9,6 @@ pub returns-in-Some-decode-clause-found : goal.returns-in-Some-decode-clause-fou
 returns-in-Some-decode-clause-found c unread is_last =
     let window = c.args.window.now in
     gate_whole c.args.at window unread c.in-Some-decode.grant
-    (omega (arith, c.if-rest-lt17.false, length-take (length window - 1) (drop 1 window), length-drop 1 window)) c.if-gate-ne1.false
+    (omega (arith, c.if-rest.false, length-take (length window - 1) (drop 1 window), length-drop 1 window)) c.if-gate-ne1.false
     (ap (λ (l : List ℕ). grant_of (take 16 l)) (sym (take_rest window 1)) ∙ ap grant_of (sym c.in-Some.ensures.cases.same)
     ∙ sym c.in-Some-decode.ensures.grant)

@@ -1,6 +1,7 @@
 -- The first piece has the head, the text is compared after it, and the gates after that.
 use Rattle.std.specs.Prelude.{Ok, Err, Some, None, slice_index}
 use Rattle.std.proofs.Common.{◌≡◌, ◌+◌, ◌-◌, ◌<◌, ◌≤◌, ◌∙◌, ℕ, List, min, length, take, drop, ap, refl, sym, subst, arith}
+use Rattle.move_journal.specs.declared.head_write.TheConstants.{TEXT_AT}
 use Rattle.move_journal.specs.Blanks.{HasForm}
 use Rattle.move_journal.specs.Journals.{IsJournal, gate_of}
 use Rattle.move_journal.specs.declared.blank.BlankForm.TheVariants.{Short}
@@ -86,7 +87,7 @@ returns-in-Faulty-2-clause-exact g c =
     let is_3 = c.in_ok-kept.ensures.reads.same ∙ c.len.ensures.same ∙ c.sync.ensures.same ∙ is in
     let compared = subst (λ (x : Compared). IsTextEnd g.D.Disk.reads_as c.with_piece.new.disk c.in_ok-len.len c.from-size.result
     c.args.cell_text.now x) c.in-Same.is c.in_ok-at.ensures.compared in
-    let walked = subst (λ (x : Walked). IsWalkFrom (g.D.Disk.reads_as c.compare.new.disk) (13 + c.from-size.result) c.args.room
+    let walked = subst (λ (x : Walked). IsWalkFrom (g.D.Disk.reads_as c.compare.new.disk) (TEXT_AT + c.from-size.result) c.args.room
     g.T.Taker.took c.args.taker.now c.walk.new.taker x) c.in-Faulty-2.is c.in_ok-why-in-Same.ensures.walked in
     reads_by_head file c.args.cell_text.now c.args.room (Open c.from-size.result) head
     ∙ same_text_then file c.args.cell_text.now c.args.room c.from-size.result (Err c.in-Faulty-2.why)
@@ -95,11 +96,11 @@ returns-in-Faulty-2-clause-exact g c =
 pub returns-in-Closed-clause-exact : goal.returns-in-Closed-clause-exact
 returns-in-Closed-clause-exact g c =
     let text = c.args.cell_text.now in let room = c.args.room in let size = c.from-size.result in
-    let walked = subst (λ (x : Walked). IsWalkFrom (g.D.Disk.reads_as c.compare.new.disk) (13 + size) room
+    let walked = subst (λ (x : Walked). IsWalkFrom (g.D.Disk.reads_as c.compare.new.disk) (TEXT_AT + size) room
     g.T.Taker.took c.args.taker.now c.walk.new.taker x) c.in-Closed.is c.in_ok-why-in-Same.ensures.walked in
     let grants = walked.grants in
     record {
-      first = 13 + size;
+      first = TEXT_AT + size;
       grants = grants;
       taken = walked.taken;
       few = omega (arith, walked.few, walked.counted);
@@ -111,7 +112,7 @@ returns-in-Closed-clause-exact g c =
             (sym c.read_head.ensures.head ∙ c.in-Open.is),
         c.from-size.ensures,
       );
-      read = where_told _ (λ file. (read_as file text room ≡ Ok (Some grants)) × (13 + size ≡ 13 + length text)
+      read = where_told _ (λ file. (read_as file text room ≡ Ok (Some grants)) × (TEXT_AT + size ≡ TEXT_AT + length text)
           × (c.in-Closed.gate ≡ gate_of text grants) × IsJournal file text grants) (λ file is.
           let is_2 = c.sync.ensures.same ∙ is in
           let head = head_file file c.in_ok-kept.kept.items c.deref.result.now c.in_ok-len.len (0 + min PIECE (c.in_ok-len.len - 0))
@@ -135,7 +136,7 @@ returns-in-Closed-clause-exact g c =
                 (told _ _ file (c.len.ensures.same ∙ is_2) c.in_ok-kept.ensures.bytes)
                 (omega (arith, c.in_ok-kept.ensures.longer, fits, told _ _ file is_2 c.in_ok-len.ensures.len))
                 below kept_head fits
-                (no_difference 0 (take size (drop 13 file)) text none)
-                (walk_back room room (13 + size) (drop (13 + size) file) grants walked_file),
+                (no_difference 0 (take size (drop TEXT_AT file)) text none)
+                (walk_back room room (TEXT_AT + size) (drop (TEXT_AT + size) file) grants walked_file),
           ));
     }

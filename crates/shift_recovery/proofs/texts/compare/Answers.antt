@@ -2,6 +2,7 @@
 use Rattle.std.specs.Prelude.{Some, None}
 use Rattle.std.proofs.Common.{◌≡◌, ◌+◌, ◌-◌, ◌≤◌, ◌∙◌, ◌++◌, ℕ, List, length, drop, take, refl, ap, sym, arith, length-take, length-drop}
 use Rattle.std.proofs.lemmas.List.{take_rest, drop-append-le}
+use Rattle.move_journal.specs.declared.head_write.TheConstants.{TEXT_AT}
 use Rattle.shift_recovery.specs.Readings.{first_difference}
 use Rattle.outside_io.specs.Telling.{where_told, told}
 use Rattle.shift_recovery.proofs.OnlyReading.{reads_none, reads_then}
@@ -23,17 +24,17 @@ text-init g c = record {
         omega (arith, c.len-at.ensures, c.requires.read.0);
   };
   shows = where_told _ (λ file. (length file ≡ c.args.len)
-      × (drop 13 file ≡ drop 13 c.args.kept.items ++ drop c.len-at.result file)) (λ file is.
+      × (drop TEXT_AT file ≡ drop TEXT_AT c.args.kept.items ++ drop c.len-at.result file)) (λ file is.
       let seen = c.requires.bytes file is in (
         seen.0,
-        ap (λ (l : List ℕ). drop 13 l) seen.1 ∙ drop-append-le 13 c.args.kept.items _ c.requires.read.1
-            ∙ ap (λ (k : ℕ). drop 13 c.args.kept.items ++ drop k file) (let read : length c.args.kept.items ≡ c.len-at.result =
+        ap (λ (l : List ℕ). drop TEXT_AT l) seen.1 ∙ drop-append-le TEXT_AT c.args.kept.items _ c.requires.read.1
+            ∙ ap (λ (k : ℕ). drop TEXT_AT c.args.kept.items ++ drop k file) (let read : length c.args.kept.items ≡ c.len-at.result =
             omega (arith, c.len-at.ensures) in read),
       ));
-  same = where_told _ (λ file. first_difference 0 (take c.args.size (drop 13 file)) c.args.text.now
-      ≡ first_difference 0 (take (c.args.size - 0) (drop 13 file)) c.args.text.now) (λ file is.
+  same = where_told _ (λ file. first_difference 0 (take c.args.size (drop TEXT_AT file)) c.args.text.now
+      ≡ first_difference 0 (take (c.args.size - 0) (drop TEXT_AT file)) c.args.text.now) (λ file is.
       let none : c.args.size ≡ c.args.size - 0 = omega arith in
-      ap (λ (k : ℕ). first_difference 0 (take k (drop 13 file)) c.args.text.now) none);
+      ap (λ (k : ℕ). first_difference 0 (take k (drop TEXT_AT file)) c.args.text.now) none);
 }
 
 pub returns-in-Some-clause-compared : goal.returns-in-Some-clause-compared
@@ -42,7 +43,7 @@ returns-in-Some-clause-compared g c =
     let wanted : c.min-ready.result ≤ c.args.size - c.text.done = omega (arith, c.min-ready.ensures) in
     let held : c.min-ready.result ≤ length (drop c.text.used c.text.kept.items) =
     omega (arith, c.min-ready.ensures, c.len.ensures, length-drop c.text.used c.text.kept.items) in
-    where_told _ (λ file. first_difference 0 (take c.args.size (drop 13 file)) c.args.text.now ≡ Some c.in-Some.at) (λ file is.
+    where_told _ (λ file. first_difference 0 (take c.args.size (drop TEXT_AT file)) c.args.text.now ≡ Some c.in-Some.at) (λ file is.
     told _ _ file is v.same ∙ compared_some file c.text.kept.items c.deref.result.now c.args.text.now c.args.size c.text.done
     c.text.at c.text.used c.min-ready.result c.args.len
     c.deref.ensures.value (told _ _ file is v.shows) wanted held c.in-Some.at c.in-Some.ensures.some)
@@ -60,7 +61,7 @@ text-preserved g c =
     let slice_is : slice ≡ drop used kept = take_rest c.deref-in-text.result.now used
     ∙ ap (λ (l : List ℕ). drop used l) c.deref-in-text.ensures.value in
     let length-slice : length slice ≡ length kept - used = ap length slice_is ∙ length-drop used kept in
-    let offset : 13 + c.text.done + ready ≡ 13 + (c.text.done + ready) = omega arith in
+    let offset : TEXT_AT + c.text.done + ready ≡ TEXT_AT + (c.text.done + ready) = omega arith in
     let none = c.in-None.ensures.none in
     record {
       reads = reads_then g.D.Disk.reads_as g.D.Disk.may_leave g.D.Disk.moment g.D.Disk.left_since _ _ _ v.reads c.in_ok-kept.ensures.reads;
@@ -83,19 +84,19 @@ text-preserved g c =
         read_within = omega (arith, c.min-at.ensures, v.window.read_within);
       };
       shows = where_told _ (λ file. (length file ≡ c.args.len)
-          × (drop (13 + (c.text.done + ready)) file ≡ drop 0 c.in_ok-kept.kept.items ++ drop
+          × (drop (TEXT_AT + (c.text.done + ready)) file ≡ drop 0 c.in_ok-kept.kept.items ++ drop
           (c.text.at + c.min-at.result) file)) (λ file is.
           let seen = told _ _ file is v.shows in (
             seen.0,
             ap (λ (k : ℕ). drop k file) (sym offset)
-                ∙ shows_more file kept (13 + c.text.done) c.text.at c.text.used ready held seen.1
+                ∙ shows_more file kept (TEXT_AT + c.text.done) c.text.at c.text.used ready held seen.1
                 ∙ ap (λ (l : List ℕ). l ++ drop c.text.at file) (sym slice_is)
                 ∙ told _ _ file (v.reads.same ∙ is) c.in_ok-kept.ensures.bytes
                 ∙ ap (λ (k : ℕ). c.in_ok-kept.kept.items ++ drop (c.text.at + k) file) (sym c.min-at.ensures),
           ));
-      same = where_told _ (λ file. first_difference 0 (take c.args.size (drop 13 file)) c.args.text.now
+      same = where_told _ (λ file. first_difference 0 (take c.args.size (drop TEXT_AT file)) c.args.text.now
           ≡ first_difference (c.text.done + ready)
-          (take (c.args.size - (c.text.done + ready)) (drop (13 + (c.text.done + ready)) file))
+          (take (c.args.size - (c.text.done + ready)) (drop (TEXT_AT + (c.text.done + ready)) file))
           (drop (c.text.done + ready) c.args.text.now)) (λ file is.
           told _ _ file is v.same ∙ compared_none file kept c.deref.result.now c.args.text.now c.args.size c.text.done c.text.at
           c.text.used ready c.args.len c.deref.ensures.value (told _ _ file is v.shows) wanted held none.1);
@@ -110,10 +111,10 @@ returns-then-size-text-clause-compared g c =
     let held : ready ≤ length (drop c.text.used kept) = omega (arith, c.min-ready.ensures, c.len.ensures, length-drop c.text.used kept) in
     let all : c.text.done + ready ≡ c.args.size = c.if-done-size.true in
     let none = c.in-None.ensures.none in
-    where_told _ (λ file. first_difference 0 (take c.args.size (drop 13 file)) c.args.text.now ≡ Some c.args.size) (λ file is.
+    where_told _ (λ file. first_difference 0 (take c.args.size (drop TEXT_AT file)) c.args.text.now ≡ Some c.args.size) (λ file is.
     told _ _ file is v.same ∙ compared_none file kept c.deref.result.now c.args.text.now c.args.size c.text.done c.text.at
     c.text.used ready c.args.len c.deref.ensures.value (told _ _ file is v.shows) wanted held none.1
-    ∙ text_longer c.args.size (c.text.done + ready) (drop (13 + (c.text.done + ready)) file) c.args.text.now all
+    ∙ text_longer c.args.size (c.text.done + ready) (drop (TEXT_AT + (c.text.done + ready)) file) c.args.text.now all
     (omega (arith, all, c.if-size-text.true)))
 
 pub returns-clause-compared : goal.returns-clause-compared
@@ -125,19 +126,19 @@ returns-clause-compared g c =
     let held : ready ≤ length (drop c.text.used kept) = omega (arith, c.min-ready.ensures, c.len.ensures, length-drop c.text.used kept) in
     let fits : c.text.used + ready ≤ length kept = omega (arith, c.min-ready.ensures, c.len.ensures, v.window.used_within) in
     let all : c.text.done + ready ≡ c.args.size = c.if-done-size.true in
-    let offset : 13 + c.text.done + ready ≡ 13 + c.args.size = omega (arith, all) in
+    let offset : TEXT_AT + c.text.done + ready ≡ TEXT_AT + c.args.size = omega (arith, all) in
     let none = c.in-None.ensures.none in (
-      where_told _ (λ file. first_difference 0 (take c.args.size (drop 13 file)) c.args.text.now ≡ None) (λ file is.
+      where_told _ (λ file. first_difference 0 (take c.args.size (drop TEXT_AT file)) c.args.text.now ≡ None) (λ file is.
           told _ _ file is v.same ∙ compared_none file kept c.deref.result.now c.args.text.now c.args.size c.text.done c.text.at
           c.text.used ready c.args.len c.deref.ensures.value (told _ _ file is v.shows) wanted held none.1
-          ∙ text_ends c.args.size (c.text.done + ready) (drop (13 + (c.text.done + ready)) file) c.args.text.now all
+          ∙ text_ends c.args.size (c.text.done + ready) (drop (TEXT_AT + (c.text.done + ready)) file) c.args.text.now all
           (omega (arith, all, c.if-size-text.false))),
       record { used_within = fits; begins = omega (arith, v.window.begins, all); read_within = v.window.read_within },
       where_told _ (λ file. (length file ≡ c.args.len)
-          × (drop (13 + c.args.size) file ≡ drop (c.text.used + ready) kept ++ drop c.text.at file)) (λ file is.
+          × (drop (TEXT_AT + c.args.size) file ≡ drop (c.text.used + ready) kept ++ drop c.text.at file)) (λ file is.
           let seen = told _ _ file is v.shows in (
             seen.0,
             ap (λ (k : ℕ). drop k file) (sym offset)
-                ∙ shows_more file kept (13 + c.text.done) c.text.at c.text.used ready held seen.1,
+                ∙ shows_more file kept (TEXT_AT + c.text.done) c.text.at c.text.used ready held seen.1,
           )),
     )

@@ -1,6 +1,7 @@
 -- Up to here the texts are the same, so the first difference is that of the rest.
 use Rattle.std.specs.Prelude.{IfSome}
 use Rattle.std.proofs.Common.{◌≡◌, ◌+◌, ◌-◌, ◌≤◌, length, take, drop}
+use Rattle.move_journal.specs.declared.head_write.TheConstants.{TEXT_AT}
 use Rattle.shift_recovery.specs.Readings.{first_difference}
 use Rattle.shift_recovery.specs.Reads.{OnlyReads}
 use Rattle.shift_recovery.specs.Windows.{IsAt, Shows}
@@ -12,10 +13,10 @@ invariant-text g l = record {
   count : g.D.Disk.faults l.disk ≡ g.D.Disk.faults l.fn.disk;
   compared : l.done ≤ l.size;
   within_text : l.done ≤ length l.text;
-  window : IsAt (13 + l.done) l.len l.at l.used l.kept.items;
-  shows : Shows (g.D.Disk.reads_as l.fn.disk) (13 + l.done) l.len l.at l.used l.kept.items;
-  same : IfSome (g.D.Disk.reads_as l.fn.disk) (λ file. first_difference 0 (take l.size (drop 13 file)) l.text
-      ≡ first_difference l.done (take (l.size - l.done) (drop (13 + l.done) file)) (drop l.done l.text));
+  window : IsAt (TEXT_AT + l.done) l.len l.at l.used l.kept.items;
+  shows : Shows (g.D.Disk.reads_as l.fn.disk) (TEXT_AT + l.done) l.len l.at l.used l.kept.items;
+  same : IfSome (g.D.Disk.reads_as l.fn.disk) (λ file. first_difference 0 (take l.size (drop TEXT_AT file)) l.text
+      ≡ first_difference l.done (take (l.size - l.done) (drop (TEXT_AT + l.done) file)) (drop l.done l.text));
 }
 
 abbrev pub decreases-text : goal.decreases-text

@@ -6,6 +6,7 @@ use Rattle.std.proofs.lemmas.List.{length_push}
 use Rattle.shift_recovery.specs.declared.faults.JournalFault.{JournalFault}
 use Rattle.shift_recovery.specs.declared.faults.JournalFault.TheVariants.{Long}
 use Rattle.cell_base.specs.declared.shifts.Grant.{Grant}
+use Rattle.entry_codec.specs.declared.encoder.TheConstants.{ENTRY_SIZE}
 use Rattle.shift_recovery.specs.Readings.{grants_from}
 use Rattle.shift_recovery.specs.Walked.{with_grants}
 use Rattle.outside_io.specs.Telling.{where_told, told}
@@ -95,10 +96,11 @@ gates-preserved g c =
       faults = v.faults;
       window = record { used_within = omega (arith, long); begins = omega (arith, v.window.begins); read_within = v.window.read_within };
       shows = where_told _ (λ file. (length file ≡ c.args.len)
-          × (drop (c.gates.gate + 17) file ≡ drop (c.gates.used + 17) c.gates.kept.items ++ drop c.gates.at file)) (λ file is.
+          × (drop (c.gates.gate + ENTRY_SIZE) file ≡ drop (c.gates.used + ENTRY_SIZE) c.gates.kept.items ++ drop c.gates.at file))
+          (λ file is.
           let seen = told _ _ file is v.shows in (
             seen.0,
-            shows_more file c.gates.kept.items c.gates.gate c.gates.at c.gates.used 17
+            shows_more file c.gates.kept.items c.gates.gate c.gates.at c.gates.used ENTRY_SIZE
                 (omega (arith, long, length-drop c.gates.used c.gates.kept.items)) seen.1,
           ));
       grants = new;
@@ -107,8 +109,8 @@ gates-preserved g c =
       gate_is = omega (arith, v.gate_is, size);
       within = omega (arith, size, v.within, other);
       walked = where_told _ (λ file. grants_from c.args.room c.args.room c.args.first (drop c.args.first file) ≡
-          with_grants new (grants_from c.args.room (c.args.room - length new) (c.gates.gate + 17)
-          (drop (c.gates.gate + 17) file))) (λ file is.
+          with_grants new (grants_from c.args.room (c.args.room - length new) (c.gates.gate + ENTRY_SIZE)
+          (drop (c.gates.gate + ENTRY_SIZE) file))) (λ file is.
           walk_step file grants new grant c.args.room c.args.first c.gates.gate refl
           v.within other
           (gate_known file c.gates.kept.items c.deref.result.now c.gates.gate c.gates.at c.gates.used c.args.len _

@@ -2,6 +2,7 @@
 use Rattle.std.specs.Prelude.{IfSome}
 use Rattle.std.proofs.Common.{◌≡◌, ◌+◌, ◌-◌, ◌*◌, ◌≤◌, List, length, drop}
 use Rattle.cell_base.specs.declared.shifts.Grant.{Grant}
+use Rattle.entry_codec.specs.declared.encoder.TheConstants.{ENTRY_SIZE}
 use Rattle.shift_recovery.specs.Readings.{grants_from}
 use Rattle.shift_recovery.specs.Reads.{OnlyReads}
 use Rattle.shift_recovery.specs.Walked.{with_grants}
@@ -17,7 +18,7 @@ invariant-gates g l = record {
   grants : List Grant;
   taken : g.T.Taker.took l.fn.taker l.first grants l.taker;
   counted : l.count ≡ length grants;
-  gate_is : l.gate ≡ l.first + 17 * length grants;
+  gate_is : l.gate ≡ l.first + ENTRY_SIZE * length grants;
   within : length grants ≤ l.room;
   walked : IfSome (g.D.Disk.reads_as l.fn.disk) (λ file. grants_from l.room l.room l.first (drop l.first file)
       ≡ with_grants grants (grants_from l.room (l.room - length grants) l.gate (drop l.gate file)));

@@ -20,10 +20,11 @@ returns-in-Ok-clause-ended g c =
 
 pub returns-in-Ok-open-clause-allowed : goal.returns-in-Ok-open-clause-allowed
 returns-in-Ok-open-clause-allowed g c lines is =
+    let opened = ap (λ (core : CoreState). core.cell) c.in-Ok-open.ensures in
     solo_ran g.F.Files.holds g.F.Files.is_sound g.F.Files.faults c.args.cell.now c.args.shift.now c.args.files.now
     c.read_cell.new.files c.read_shift.new.files (known c.in-Ok.held) c.in-Ok.ensures.read c.in-Ok.ensures.same
     c.in-Ok-read_shift.shift lines c.in-Ok-read_shift.ensures.read
-    (subst (λ (cell : Cell). IsSoloRecord cell c.in-Ok-read_shift.shift lines) (ap (λ (core : CoreState). core.cell) c.in-Ok-open.ensures) is)
+    (subst (λ (cell : Cell). IsSoloRecord cell c.in-Ok-read_shift.shift lines) opened is)
 
 pub returns-in-Ok-read_shift-clause-ended : goal.returns-in-Ok-read_shift-clause-ended
 returns-in-Ok-read_shift-clause-ended g c =
