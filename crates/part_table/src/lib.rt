@@ -26,8 +26,8 @@
 #![tactic(auto)]
 
 mod arrivals;
+mod chain;
 mod found;
-mod heads;
 mod log;
 mod parts;
 mod seats;

@@ -1,0 +1,89 @@
+-- Each entry is linked after those before it.
+use Rattle.std.proofs.Common.{◌≡◌, ◌<◌, true, List, Some, length, slice_get, subst, sym, refl, ap, arith, ◌∙◌, get_or-set_same}
+use Rattle.std.proofs.lemmas.List.{length-map}
+use Rattle.part_table.specs.declared.chain.Link.{Link}
+use Rattle.part_table.specs.declared.chain.TheConstants.{NOWHERE}
+use Rattle.part_table.specs.declared.standing.Entry.{Entry}
+use Rattle.part_table.specs.Chains.{IsChained, entries_of, nexts_of, told_key}
+use Rattle.part_table.proofs.Chains.{chained_none}
+use Rattle.part_table.proofs.Seeking.{same_entries, next_set, chained_apart, all_at}
+use Rattle.part_table.proofs.chain.join_all.Goals as goal
+
+pub loop-at-init : goal.loop-at-init
+loop-at-init c = record {
+  entries = refl;
+  chained = chained_none (entries_of c.args.links.now.items) (nexts_of c.args.links.now.items) c.args.ends.now.items c.requires.resources
+      c.requires.none;
+  room = refl;
+  resources = refl;
+}
+
+pub join-requires-clause-chained : goal.join-requires-clause-chained
+join-requires-clause-chained c =
+    chained_apart c.loop-at.links.items c.loop-at.at c.index_mut.result.now NOWHERE c.index_mut.ensures.value c.loop-at.ends.items
+    c.loop-at.invariant.chained
+
+pub join-requires-clause-nowhere : goal.join-requires-clause-nowhere
+join-requires-clause-nowhere c =
+    let links = c.loop-at.links.items in
+    let same = length-map c.loop-at.links.items (λ (link : Link). link.entry) in
+    let first = length-map c.args.links.now.items (λ (link : Link). link.entry) in
+    let inside : c.loop-at.at < length (nexts_of c.loop-at.links.items) =
+    omega (
+      arith,
+      c.loop-at-test.true,
+      c.len-at-end.ensures,
+      c.args.links.now.ok.0,
+      same,
+      first,
+      ap (λ (xs : List Entry). length xs) c.loop-at.invariant.entries,
+      length-map c.loop-at.links.items (λ (link : Link). link.next),
+    ) in
+    rw (next_set links c.loop-at.at c.index_mut.result.now NOWHERE c.index_mut.ensures.value)
+    (get_or-set_same (nexts_of links) c.loop-at.at NOWHERE 0 inside)
+
+pub join-requires-clause-stays : goal.join-requires-clause-stays
+join-requires-clause-stays c entry is =
+    let there : slice_get (entries_of c.args.links.now.items) c.loop-at.at ≡ Some entry =
+    ap (λ (xs : List Entry). slice_get xs c.loop-at.at)
+    (sym (same_entries c.loop-at.links.items c.loop-at.at c.index_mut.result.now NOWHERE c.index_mut.ensures.value
+    ∙ c.loop-at.invariant.entries)) ∙ is in
+    all_at (λ (entry : Entry). entry.stays ≡ true) (entries_of c.args.links.now.items) c.loop-at.at entry c.requires.stay there
+
+pub join-requires-clause-told : goal.join-requires-clause-told
+join-requires-clause-told c entry is =
+    let there : slice_get (entries_of c.args.links.now.items) c.loop-at.at ≡ Some entry =
+    ap (λ (xs : List Entry). slice_get xs c.loop-at.at)
+    (sym (same_entries c.loop-at.links.items c.loop-at.at c.index_mut.result.now NOWHERE c.index_mut.ensures.value
+    ∙ c.loop-at.invariant.entries)) ∙ is in
+    subst (λ l. told_key entry < l) (sym c.loop-at.invariant.resources)
+    (all_at (λ (entry : Entry). told_key entry < length c.args.ends.now.items) (entries_of c.args.links.now.items) c.loop-at.at entry
+    c.requires.told there)
+
+pub loop-at-preserved : goal.loop-at-preserved
+loop-at-preserved c = record {
+  entries = c.join.ensures.entries
+      ∙ same_entries c.loop-at.links.items c.loop-at.at c.index_mut.result.now NOWHERE c.index_mut.ensures.value
+      ∙ c.loop-at.invariant.entries;
+  chained = c.join.ensures.chained;
+  room = c.join.ensures.room ∙ c.loop-at.invariant.room;
+  resources = c.join.ensures.resources ∙ c.loop-at.invariant.resources;
+}
+
+pub returns-clause-chained : goal.returns-clause-chained
+returns-clause-chained c =
+    let same = length-map c.loop-at.links.items (λ (link : Link). link.entry) in
+    let first = length-map c.args.links.now.items (λ (link : Link). link.entry) in
+    let end : c.loop-at.at ≡ length c.loop-at.links.items =
+    omega (
+      arith,
+      c.loop-at-test.false,
+      c.loop-at.auto.at-end,
+      c.len-at-end.ensures,
+      c.args.links.now.ok.0,
+      same,
+      first,
+      ap (λ (xs : List Entry). length xs) c.loop-at.invariant.entries,
+    ) in
+    subst (IsChained (entries_of c.loop-at.links.items) (nexts_of c.loop-at.links.items) c.loop-at.ends.items) end
+    c.loop-at.invariant.chained
