@@ -9,8 +9,8 @@ use Rattle.std.proofs.lemmas.Option.{slice_get_within, get_or_from_slice_get}
 use Rattle.part_table.specs.declared.chain.Ends.{Ends}
 use Rattle.part_table.specs.declared.chain.TheConstants.{NOWHERE}
 use Rattle.part_table.specs.declared.standing.Entry.{Entry}
-use Rattle.part_table.specs.Chains.{OFF, told_key, standing_key, waiting_key, key_of, IsFirst, WasFirst, IsNextOf, IsLast, AreNone, IsChained, linked, no_end}
-use Rattle.part_table.specs.Logs.{gone_entry, done_entry}
+use Rattle.part_table.specs.Chains.{OFF, told_key, standing_key, waiting_key, key_of, IsFirst, WasFirst, IsNextOf, IsLast}
+use Rattle.part_table.specs.Chains.{AreNone, IsChained, linked, no_end}
 use Rattle.part_table.proofs.Firsts.{first_kept, first_met, was_first, first_of_other}
 use Rattle.part_table.proofs.Links.{last_kept, last_new, linked_more}
 

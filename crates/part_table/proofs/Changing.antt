@@ -1,8 +1,8 @@
 -- A chain of which one entry changes, and keeps its resource.
 use Rattle.std.proofs.Common.{◌≡◌, ℕ, ◌<◌, ◌≤◌, Bool, true, false, cond, List, length, map, refl}
-use Rattle.std.proofs.Common.{Some, slice_get, get_or, set, subst, sym, ap, arith, ◌∙◌, length-set}
+use Rattle.std.proofs.Common.{Some, slice_get, get_or, set, subst, sym, ap, ◌∙◌, length-set}
 use Rattle.std.proofs.Math.Seq.{map-set_same}
-use Rattle.std.proofs.lemmas.List.{get_or-map, length-map}
+use Rattle.std.proofs.lemmas.List.{get_or-map}
 use Rattle.std.proofs.lemmas.Option.{same_Some, get_or_from_slice_get}
 use Rattle.part_table.specs.declared.chain.Ends.{Ends}
 use Rattle.part_table.specs.declared.chain.Link.{Link}
@@ -10,7 +10,7 @@ use Rattle.part_table.specs.declared.standing.Entry.{Entry}
 use Rattle.part_table.specs.Chains.{OFF, entries_of, nexts_of, told_key, standing_key, waiting_key}
 use Rattle.part_table.specs.Chains.{IsFirst, WasFirst, IsNextOf, AreLinked, IsChain}
 use Rattle.part_table.specs.Logs.{gone_entry, done_entry, reseated}
-use Rattle.part_table.proofs.Chains.{seen_at, standing_told, waiting_told, lane_inside, same_told, this_was, firsts_lost}
+use Rattle.part_table.proofs.Chains.{seen_at, standing_told, waiting_told, this_was, firsts_lost}
 use Rattle.part_table.proofs.Chains.{chained_changed, chained_same}
 use Rattle.part_table.proofs.Seeking.{entry_read, entry_set, same_nexts}
 
@@ -60,8 +60,8 @@ module _ (links : List Link) (ends : List Ends) (room at : ℕ) (old : Link) (ch
     told_still =
         rw (entry_set links at old new read, same_key told_key new kept) (seen_at told_key (entries_of links) at old.entry there)
 
-    pub linked_still : AreLinked (entries_of (set links at (record old { entry = new }))) (nexts_of (set links at (record old { entry = new })))
-        (length (set links at (record old { entry = new })))
+    pub linked_still : AreLinked (entries_of (set links at (record old { entry = new })))
+        (nexts_of (set links at (record old { entry = new }))) (length (set links at (record old { entry = new })))
     linked_still =
         rw (entry_set links at old new read, same_nexts links at old new read, length-set links at (record old { entry = new }))
         (λ k below. subst (λ told. IsNextOf told (length links) (get_or told k 0) k (get_or (nexts_of links) k 0))

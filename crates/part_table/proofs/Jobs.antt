@@ -1,5 +1,5 @@
 -- The part of a job, found at its place.
-use Rattle.std.proofs.Common.{◌≡◌, ℕ, ◌==◌, ◌<◌, ◌≤◌, Bool, true, false, ◌&&◌, List, length, map, Option, Some, None}
+use Rattle.std.proofs.Common.{◌≡◌, ℕ, ◌==◌, ◌<◌, Bool, true, false, ◌&&◌, List, length, map, Option, Some, None}
 use Rattle.std.proofs.Common.{find, slice_get, get_or, set, ⊎_elim, subst, ap, refl, sym, arith, ◌∙◌}
 use Rattle.std.specs.Option.{option_map, MatchOption}
 use Rattle.std.proofs.lemmas.Bool.{eqb-true, eq-eqb, and_parts}

@@ -1,12 +1,11 @@
 -- The way along the links to the next entry that is sought.
-use Rattle.std.proofs.Common.{◌≡◌, ℕ, zero, suc, ◌-◌, ◌<◌, ◌≤◌, ◌&&◌, not, Bool, true, false, cond, List, [], ◌∷◌, length, map, filter, All}
-use Rattle.std.proofs.Common.{Some, slice_get, get_or, set, subst, sym, ap, arith, ◌∙◌, refl, length-set, get_or-set_same, get_or-set_other}
+use Rattle.std.proofs.Common.{◌≡◌, ℕ, zero, suc, ◌-◌, ◌<◌, ◌&&◌, not, Bool, true, false, cond, List, [], ◌∷◌, length, map, filter, All}
+use Rattle.std.proofs.Common.{Some, slice_get, get_or, set, subst, sym, ap, arith, ◌∙◌, refl, get_or-set_other}
 use Rattle.std.proofs.Math.Seq.{map-set_same}
 use Rattle.std.proofs.lemmas.List.{get_or-map, length-map, map-set}
 use Rattle.std.proofs.lemmas.Option.{slice_get_within, get_or_from_slice_get}
 use Rattle.part_table.specs.declared.chain.Ends.{Ends}
 use Rattle.part_table.specs.declared.chain.Link.{Link}
-use Rattle.part_table.specs.declared.chain.TheConstants.{NOWHERE}
 use Rattle.part_table.specs.declared.standing.Entry.{Entry}
 use Rattle.part_table.specs.Chains.{OFF, entries_of, nexts_of, told_key, key_of, IsFirst, WasFirst, IsOnWay, AreLinked, IsChained, IsChain}
 use Rattle.part_table.proofs.Chains.{key_told, key_sought, key_passed, chained_same}
@@ -38,7 +37,8 @@ module _ (links : List Link) (at : ℕ) (old : Link) (place : ℕ) (read : old �
   next_set = map-set (λ (link : Link). link.next) links at (record old { next = place })
 
   pub chained_apart : (ends : List Ends) → IsChained (entries_of links) (nexts_of links) ends at
-      → IsChained (entries_of (set links at (record old { next = place }))) (nexts_of (set links at (record old { next = place }))) ends at
+      → IsChained (entries_of (set links at (record old { next = place })))
+      (nexts_of (set links at (record old { next = place }))) ends at
   chained_apart ends chained =
       rw (same_entries, next_set)
       (chained_same (entries_of links) (entries_of links) (nexts_of links) (set (nexts_of links) at place) ends at (λ k below. refl)
@@ -75,7 +75,8 @@ entries_kept (y ∷ ys) = at y.entry.stays (entries_kept ys)
   where
     at : (b : Bool) → entries_of (filter (λ (link : Link). link.entry.stays) ys) ≡ filter (λ (entry : Entry). entry.stays) (entries_of ys)
         → entries_of (cond b (y ∷ filter (λ (link : Link). link.entry.stays) ys) (filter (λ (link : Link). link.entry.stays) ys))
-        ≡ cond b (y.entry ∷ filter (λ (entry : Entry). entry.stays) (entries_of ys)) (filter (λ (entry : Entry). entry.stays) (entries_of ys))
+        ≡ cond b (y.entry ∷ filter (λ (entry : Entry). entry.stays) (entries_of ys))
+        (filter (λ (entry : Entry). entry.stays) (entries_of ys))
     at true rest = ap (λ entries. y.entry ∷ entries) rest
     at false rest = rest
 
@@ -105,7 +106,13 @@ module _ (links : List Link) (waiting : Bool) (r at : ℕ) (d : Link) (below : r
   passed_on way passed =
       subst (IsOnWay keys told (length links) r) (seen_next links at d inside)
       (way_on keys told (nexts_of links) (length links) r kept linked at inside way
-      (λ is. absurd (omega (arith, below, is, seen_key (key_of waiting) links at d inside, key_passed waiting (get_or links at d).entry passed))))
+      (λ is. absurd (omega (
+        arith,
+        below,
+        is,
+        seen_key (key_of waiting) links at d inside,
+        key_passed waiting (get_or links at d).entry passed,
+      ))))
 
   pub found_at : IsOnWay keys told (length links) r at
       → ((get_or links at d).entry.stays && not (waiting && (get_or links at d).entry.item.part.done)) ≡ true

@@ -2,8 +2,8 @@
 //!
 //! The entries that were told a resource are linked in their order, also those that are gone, so that the next one that stays is found
 //! by one step for each of them that is gone. One chain serves both: the next that stays, and the next that stays and is not done.
-ghost use Rattle.std.specs.Prelude.{◌≡◌, ◌≢◌, ℕ, ◌+◌, ◌<◌, ◌≤◌, ◌∷◌, ◌++◌, [], true, length, map, filter, All, Some, None};
-ghost use Rattle.std.specs.Prelude.{slice_get, slice_set, slice_index, MatchOption, IfOk, vec_capacity, nat_le, min, not, ◌&&◌, if◌then◌else◌};
+ghost use Rattle.std.specs.Prelude.{◌≡◌, ◌≢◌, ℕ, ◌+◌, ◌<◌, ◌≤◌, ◌∷◌, ◌++◌, [], true, not, ◌&&◌, if◌then◌else◌, nat_le, min, map, filter};
+ghost use Rattle.std.specs.Prelude.{length, All, Some, None, slice_get, slice_set, slice_index, MatchOption, IfOk, vec_capacity};
 ghost use Rattle.part_table.specs.Chains.{OFF, entries_of, nexts_of, told_key, key_of, standing_key, waiting_key};
 ghost use Rattle.part_table.specs.Chains.{IsFirst, IsOnWay, WasFirst, AreLinked, AreNone, IsChained, linked};
 ghost use Rattle.part_table.specs.Logs.{gone_entry, done_entry, reseated, staying};
@@ -111,20 +111,20 @@ fn lead(links: &mut Vec<Link>, last: u32, at: u32)
     }
 }
 
-/// The entry at a place, which leads nowhere, comes after those before it, which are linked.
-fn join(links: &mut Vec<Link>, ends: &mut Vec<Ends>, at: u32)
+/// The entry at a place, which stays, has the item and leads nowhere, comes after those before it, which are linked.
+fn join(links: &mut Vec<Link>, ends: &mut Vec<Ends>, at: u32, item: Standing)
     requires few { length links.old.items ≤ NOWHERE }
     requires chained { IsChained (entries_of links.old.items) (nexts_of links.old.items) ends.old.items at }
     requires inside { at < length links.old.items }
     requires nowhere { slice_index (nexts_of links.old.items) at ≡ NOWHERE }
-    requires stays { (entry : Entry) → slice_get (entries_of links.old.items) at ≡ Some entry → entry.stays ≡ true }
-    requires told { (entry : Entry) → slice_get (entries_of links.old.items) at ≡ Some entry → told_key entry < length ends.old.items }
+    requires entry { (entry : Entry) → slice_get (entries_of links.old.items) at ≡ Some entry
+        → (entry.item ≡ item) × (entry.stays ≡ true) }
+    requires told { item.on.0 < length ends.old.items }
     ensures entries { entries_of links.new.items ≡ entries_of links.old.items }
     ensures chained { IsChained (entries_of links.new.items) (nexts_of links.new.items) ends.new.items (at + 1) }
     ensures room { vec_capacity links.new ≡ vec_capacity links.old }
     ensures resources { length ends.new.items ≡ length ends.old.items }
 {
-    let item = links[at as usize].entry.item;
     let lane = item.on.0 as usize;
     let end = ends[lane];
     lead(links, end.last, at);
@@ -144,8 +144,9 @@ fn join_all(links: &mut Vec<Link>, ends: &mut Vec<Ends>)
     ensures resources { length ends.new.items ≡ length ends.old.items }
 {
     for at in 0..links.len() {
+        let item = links[at].entry.item;
         links[at].next = NOWHERE;
-        join(links, ends, at as u32);
+        join(links, ends, at as u32, item);
     }
 }
 
@@ -319,7 +320,7 @@ impl Chain {
             },
             next: NOWHERE,
         });
-        join(&mut self.links, &mut self.ends, at);
+        join(&mut self.links, &mut self.ends, at, item);
     }
 
     /// The part of an entry does not stand there any more. Gives the entry as it was.

@@ -1,5 +1,4 @@
 -- The last place leads to the new one, and the entries are the same.
-use Rattle.std.proofs.Common.{◌∙◌}
 use Rattle.std.proofs.lemmas.Bool.{lt-ltb}
 use Rattle.part_table.proofs.Seeking.{same_entries, next_set}
 use Rattle.part_table.proofs.chain.lead.Goals as goal
@@ -10,4 +9,5 @@ returns-then-last-at-clause-entries c =
 
 pub returns-then-last-at-clause-next : goal.returns-then-last-at-clause-next
 returns-then-last-at-clause-next c =
-    rw (lt-ltb _ _ c.if-last-at.true) (next_set c.args.links.now.items c.args.last c.index_mut.result.now c.args.at c.index_mut.ensures.value)
+    rw (lt-ltb _ _ c.if-last-at.true)
+    (next_set c.args.links.now.items c.args.last c.index_mut.result.now c.args.at c.index_mut.ensures.value)

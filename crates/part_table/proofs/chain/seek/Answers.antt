@@ -1,5 +1,5 @@
 -- Each step goes to the next place that was told the resource.
-use Rattle.std.proofs.Common.{◌≡◌, sym, arith, ◌∙◌, map, length}
+use Rattle.std.proofs.Common.{sym, arith, ◌∙◌, map, length}
 use Rattle.part_table.specs.Chains.{entries_of, told_key, key_of}
 use Rattle.part_table.proofs.Firsts.{way_ended}
 use Rattle.part_table.proofs.Seeking.{passed_on, found_at, goes_on}

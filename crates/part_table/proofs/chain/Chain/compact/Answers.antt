@@ -1,5 +1,5 @@
 -- What stays is what the filter of the definition keeps, and is linked anew.
-use Rattle.std.proofs.Common.{◌≡◌, ◌<◌, ◌≤◌, List, length, filter, ap, sym, rules, tests, subst, arith, ◌∙◌}
+use Rattle.std.proofs.Common.{◌≡◌, ◌<◌, List, length, filter, ap, rules, tests, ◌∙◌}
 use Rattle.std.proofs.lemmas.Fn.{filter_same}
 use Rattle.std.proofs.lemmas.List.Elements.{filter_passes, All-filter}
 use Rattle.part_table.specs.declared.chain.Link.{Link}

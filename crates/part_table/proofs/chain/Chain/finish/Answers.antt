@@ -1,5 +1,5 @@
 -- The entry is done, and the first place of its resource that waits goes on to the next one.
-use Rattle.std.proofs.Common.{◌≡◌, ◌<◌, length, subst, set, ap, refl, arith, ◌∙◌}
+use Rattle.std.proofs.Common.{◌<◌, subst, set, ap, refl, arith, ◌∙◌}
 use Rattle.std.proofs.lemmas.List.{length-map}
 use Rattle.part_table.specs.declared.chain.Link.{Link}
 use Rattle.part_table.specs.declared.standing.Entry.{Entry}

@@ -1,5 +1,5 @@
 -- The entry keeps its part and its link.
-use Rattle.std.proofs.Common.{◌≡◌, ◌<◌, length, subst, ap, set, ◌∙◌}
+use Rattle.std.proofs.Common.{◌<◌, subst, ap, set, ◌∙◌}
 use Rattle.std.proofs.lemmas.List.{length-map}
 use Rattle.part_table.specs.declared.chain.Link.{Link}
 use Rattle.part_table.specs.declared.standing.Entry.{Entry}

@@ -1,8 +1,8 @@
 -- The entry is gone, and the first places of its resource go on to the next ones.
-use Rattle.std.proofs.Common.{◌≡◌, ◌<◌, length, subst, refl, arith, vec_capacity}
+use Rattle.std.proofs.Common.{◌<◌, subst, refl, arith}
 use Rattle.std.proofs.lemmas.List.{length-map}
 use Rattle.part_table.specs.declared.chain.Link.{Link}
-use Rattle.part_table.specs.Chains.{OFF, told_key, standing_key, waiting_key}
+use Rattle.part_table.specs.Chains.{OFF, told_key}
 use Rattle.part_table.specs.Logs.{gone_entry}
 use Rattle.part_table.proofs.Changing.{lane_of, linked_still, told_still, chain_gone}
 use Rattle.part_table.proofs.Seeking.{entry_read, entry_set}

@@ -1,6 +1,5 @@
 -- No entries are linked.
-use Rattle.std.proofs.Common.{◌≡◌, ◌≤◌, [], length, subst, sym, arith}
-use Rattle.part_table.specs.Chains.{OFF, IsChain}
+use Rattle.std.proofs.Common.{[], arith}
 use Rattle.part_table.proofs.Chains.{chained_none}
 use Rattle.part_table.proofs.chain.Chain.with_room.Goals as goal
 

@@ -12,8 +12,8 @@ invariant_of-self c =
     let end : c.len.result ≡ length c.self.inside.chain.entries =
     c.len.ensures ∙ ap length c.take_out-entry.ensures.entries ∙ length-set entries c.args.at (gone_entry c.take_out-entry.result) in
     rw (c.push.ensures.entries, c.take_out-entry.ensures.entries)
-    (places_advanced entries c.args.job c.args.at c.take_out-entry.result c.args.place c.args.done c.args.on c.take_out-entry.ensures.entry is
-    c.self.inside.seats c.go_on.new.self c.self.invariant
+    (places_advanced entries c.args.job c.args.at c.take_out-entry.result c.args.place c.args.done c.args.on
+    c.take_out-entry.ensures.entry is c.self.inside.seats c.go_on.new.self c.self.invariant
     (λ q. c.go_on.ensures.place q ∙ ap (λ n. cond (nat_eq c.args.job.0 q) (Some n) (place_at c.self.inside.seats q)) end)
     c.go_on.ensures.seats)
 
@@ -22,4 +22,5 @@ returns-clause-items c =
     let entries = c.self.inside.chain.entries in
     let is : IsPlaceOf c.self.inside.chain.entries c.args.job c.args.at = rw (← c.self.view_is) at c.requires.at in
     rw (← c.self.view_is, c.push.ensures.entries, c.take_out-entry.ensures.entries)
-    (staying_advanced entries c.args.job c.args.at c.take_out-entry.result c.args.place c.args.done c.args.on c.take_out-entry.ensures.entry is)
+    (staying_advanced entries c.args.job c.args.at c.take_out-entry.result c.args.place c.args.done c.args.on
+    c.take_out-entry.ensures.entry is)

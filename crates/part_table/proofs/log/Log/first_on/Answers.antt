@@ -1,5 +1,4 @@
 -- The first place of the resource shows the first part.
-use Rattle.std.proofs.Common.{map, refl}
 use Rattle.part_table.specs.Seats.{place_at}
 use Rattle.part_table.specs.Chains.{standing_key}
 use Rattle.part_table.specs.Standings.{is_on}

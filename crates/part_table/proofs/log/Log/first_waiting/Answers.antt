@@ -1,5 +1,4 @@
 -- The first place of the resource that is not done shows the first part that waits.
-use Rattle.std.proofs.Common.{map, refl}
 use Rattle.part_table.specs.Seats.{place_at}
 use Rattle.part_table.specs.Chains.{waiting_key}
 use Rattle.part_table.specs.Standings.{is_waiting}
