@@ -1,10 +1,10 @@
 -- Entries that are linked, as one more comes and as one changes.
-use Rattle.std.proofs.Common.{◌≡◌, ℕ, ◌+◌, ◌<◌, ◌≤◌, ◌&&◌, not, min, Bool, true, false, cond, refl, List, [], ◌∷◌, ◌++◌, length, map}
+use Rattle.std.proofs.Common.{◌≡◌, ℕ, ◌+◌, ◌<◌, ◌≤◌, ◌&&◌, not, min, Bool, true, false, cond, refl, List, length, map}
 use Rattle.std.proofs.Common.{Some, slice_get, get_or, set, subst, sym, ap, arith, ◌∙◌, ⊎_elim, length-set}
 use Rattle.std.proofs.Common.{get_or-set_same, get_or-set_other}
 use Rattle.std.proofs.Math.Seq.{map-set_same}
 use Rattle.std.proofs.lemmas.Bool.{cases_eq, cases_lt}
-use Rattle.std.proofs.lemmas.List.{get_or-map, get_or_append_left, length-map, map_push, map-set}
+use Rattle.std.proofs.lemmas.List.{get_or-map, length-map, map-set}
 use Rattle.std.proofs.lemmas.Option.{slice_get_within, get_or_from_slice_get}
 use Rattle.part_table.specs.declared.chain.Ends.{Ends}
 use Rattle.part_table.specs.declared.chain.TheConstants.{NOWHERE}
@@ -103,18 +103,6 @@ module _ (entries others : List Entry) (next after : List ℕ) (ends : List Ends
     firsts = λ r within. same_first (map standing_key entries) (map standing_key others) r _ standing (is.firsts r within);
     waiting = λ r within. same_first (map waiting_key entries) (map waiting_key others) r _ waits (is.waiting r within);
   }
-
--- entries before others that don't count
-pub chained_before : (entries : List Entry) (last : Entry) (next : List ℕ) (end : ℕ) (ends : List Ends) → length next ≡ length entries
-    → IsChained entries next ends (length entries) → IsChained (entries ++ last ∷ []) (next ++ end ∷ []) ends (length entries)
-chained_before entries last next end ends long =
-    chained_same entries (entries ++ last ∷ []) next (next ++ end ∷ []) ends (length entries) (seen told_key) (seen standing_key)
-    (seen waiting_key) (λ k below. get_or_append_left next (end ∷ []) 0 k (omega (arith, long, below)))
-  where
-    seen : (f : Entry → ℕ) (k : ℕ) → k < length entries → get_or (map f (entries ++ last ∷ [])) k 0 ≡ get_or (map f entries) k 0
-    seen f k below =
-        ap (λ ks. get_or ks k 0) (map_push f entries last)
-        ∙ get_or_append_left (map f entries) (f last ∷ []) 0 k (subst (λ l. k < l) (sym (length-map entries f)) below)
 
 -- the key of an entry is the resource that it was told, or none
 pub standing_told : (entry : Entry) (r : ℕ) → r < OFF → standing_key entry ≡ r → told_key entry ≡ r

@@ -1,8 +1,8 @@
 -- A chain of which one entry changes, and keeps its resource.
 use Rattle.std.proofs.Common.{◌≡◌, ℕ, ◌<◌, ◌≤◌, Bool, true, false, cond, List, length, map, refl}
-use Rattle.std.proofs.Common.{Some, slice_get, get_or, set, subst, sym, ap, ◌∙◌, length-set}
+use Rattle.std.proofs.Common.{Some, slice_get, get_or, set, subst, sym, ap, ◌∙◌, length-set, arith}
 use Rattle.std.proofs.Math.Seq.{map-set_same}
-use Rattle.std.proofs.lemmas.List.{get_or-map}
+use Rattle.std.proofs.lemmas.List.{get_or-map, length-map}
 use Rattle.std.proofs.lemmas.Option.{same_Some, get_or_from_slice_get}
 use Rattle.part_table.specs.declared.chain.Ends.{Ends}
 use Rattle.part_table.specs.declared.chain.Link.{Link}
@@ -14,12 +14,26 @@ use Rattle.part_table.proofs.Chains.{seen_at, standing_told, waiting_told, this_
 use Rattle.part_table.proofs.Chains.{chained_changed, chained_same}
 use Rattle.part_table.proofs.Seeking.{entry_read, entry_set, same_nexts}
 
--- a first place, read at the end of its resource
-pub first_read : (keys : List ℕ) (count : ℕ) (g : Ends → ℕ) (ends : List Ends) (on : ℕ) (end : Ends) → on < length ends
-    → end ≡ get_or ends on end → ((r : ℕ) → r < length ends → IsFirst keys count r (get_or (map g ends) r 0))
-    → IsFirst keys count on (g end)
-first_read keys count g ends on end inside read are =
-    subst (IsFirst keys count on) (get_or-map g ends on end 0 inside ∙ ap g (sym read)) (are on inside)
+-- a place of an entry is one of a link
+pub inside_links : (links : List Link) (at : ℕ) → at < length (entries_of links) → at < length links
+inside_links links at = subst (λ l. at < l) (length-map links (λ (link : Link). link.entry))
+
+-- the first place of a key, read at the end of its resource
+module _ (links : List Link) (ends : List Ends) (key : Entry → ℕ) (g : Ends → ℕ) (on : ℕ) (end : Ends)
+    (inside : on < length ends) (read : end ≡ get_or ends on end)
+    (are : (r : ℕ) → r < length ends → IsFirst (map key (entries_of links)) (length links) r (get_or (map g ends) r 0)) where
+  first_read : IsFirst (map key (entries_of links)) (length links) on (g end)
+  first_read =
+      subst (IsFirst (map key (entries_of links)) (length links) on) (get_or-map g ends on end 0 inside ∙ ap g (sym read)) (are on inside)
+
+  pub some_read : g end < length links
+      → (g end < length (entries_of links)) × IsFirst (map key (entries_of links)) (length (entries_of links)) on (g end)
+  some_read below = rw (length-map links (λ (link : Link). link.entry)) (below, first_read)
+
+  pub none_read : length links ≤ g end → (k : ℕ) → k < length (entries_of links) → get_or (map key (entries_of links)) k 0 ≡ on → ⊥
+  none_read beyond k within is =
+      let below = inside_links links k within in
+      absurd (omega (arith, first_read.least k below is, below, beyond))
 
 module _ (links : List Link) (ends : List Ends) (room at : ℕ) (old : Link) (chain : IsChain links ends room) (inside : at < length links)
     (read : old ≡ get_or links at old) where

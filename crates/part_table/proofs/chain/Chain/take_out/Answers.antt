@@ -1,17 +1,15 @@
 -- The entry is gone, and the first places of its resource go on to the next ones.
-use Rattle.std.proofs.Common.{◌<◌, subst, refl, arith}
-use Rattle.std.proofs.lemmas.List.{length-map}
-use Rattle.part_table.specs.declared.chain.Link.{Link}
+use Rattle.std.proofs.Common.{◌<◌, refl, arith}
 use Rattle.part_table.specs.Chains.{OFF, told_key}
 use Rattle.part_table.specs.Logs.{gone_entry}
-use Rattle.part_table.proofs.Changing.{lane_of, linked_still, told_still, chain_gone}
+use Rattle.part_table.proofs.Changing.{inside_links, lane_of, linked_still, told_still, chain_gone}
 use Rattle.part_table.proofs.Seeking.{entry_read, entry_set}
 use Rattle.part_table.proofs.chain.Chain.take_out.Goals as goal
 
 pub index-end-requires : goal.index-end-requires
 index-end-requires c =
     let links = c.self.inside.links.items in
-    let inside = subst (λ l. c.args.at < l) (length-map links (λ (link : Link). link.entry)) (rw (← c.self.view_is) at c.requires) in
+    let inside = inside_links links c.args.at (rw (← c.self.view_is) at c.requires) in
     let lane = lane_of links c.self.inside.ends.items _ c.args.at c.index_mut-link.result.now c.self.invariant inside
     c.index_mut-link.ensures.value in
     omega (arith, lane, c.self.inside.ends.ok.0)
@@ -20,7 +18,7 @@ pub first_after-requires-clause-linked : goal.first_after-requires-clause-linked
 first_after-requires-clause-linked c =
     let links = c.self.inside.links.items in
     let old = c.index_mut-link.result.now in
-    let inside = subst (λ l. c.args.at < l) (length-map links (λ (link : Link). link.entry)) (rw (← c.self.view_is) at c.requires) in
+    let inside = inside_links links c.args.at (rw (← c.self.view_is) at c.requires) in
     rw (c.deref.ensures.value)
     (linked_still links c.self.inside.ends.items _ c.args.at old c.self.invariant inside c.index_mut-link.ensures.value
     (gone_entry old.entry) refl)
@@ -29,7 +27,7 @@ pub first_after-requires-2-clause-linked : goal.first_after-requires-2-clause-li
 first_after-requires-2-clause-linked c =
     let links = c.self.inside.links.items in
     let old = c.index_mut-link.result.now in
-    let inside = subst (λ l. c.args.at < l) (length-map links (λ (link : Link). link.entry)) (rw (← c.self.view_is) at c.requires) in
+    let inside = inside_links links c.args.at (rw (← c.self.view_is) at c.requires) in
     rw (c.deref-2.ensures.value)
     (linked_still links c.self.inside.ends.items _ c.args.at old c.self.invariant inside c.index_mut-link.ensures.value
     (gone_entry old.entry) refl)
@@ -37,7 +35,7 @@ first_after-requires-2-clause-linked c =
 pub index_mut-requires : goal.index_mut-requires
 index_mut-requires c =
     let links = c.self.inside.links.items in
-    let inside = subst (λ l. c.args.at < l) (length-map links (λ (link : Link). link.entry)) (rw (← c.self.view_is) at c.requires) in
+    let inside = inside_links links c.args.at (rw (← c.self.view_is) at c.requires) in
     let lane = lane_of links c.self.inside.ends.items _ c.args.at c.index_mut-link.result.now c.self.invariant inside
     c.index_mut-link.ensures.value in
     omega (arith, lane, c.self.inside.ends.ok.0)
@@ -47,7 +45,7 @@ invariant_of-self c =
     let links = c.self.inside.links.items in
     let ends = c.self.inside.ends.items in
     let old = c.index_mut-link.result.now in
-    let inside = subst (λ l. c.args.at < l) (length-map links (λ (link : Link). link.entry)) (rw (← c.self.view_is) at c.requires) in
+    let inside = inside_links links c.args.at (rw (← c.self.view_is) at c.requires) in
     let lane = lane_of links ends _ c.args.at old c.self.invariant inside c.index_mut-link.ensures.value in
     let below : told_key c.index_mut-link.result.now.entry < OFF = omega (arith, lane, c.self.invariant.chained.few) in
     let told = told_still links ends _ c.args.at old c.self.invariant inside c.index_mut-link.ensures.value (gone_entry old.entry) refl in
@@ -60,7 +58,7 @@ invariant_of-self c =
 pub returns-clause-entry : goal.returns-clause-entry
 returns-clause-entry c =
     let links = c.self.inside.links.items in
-    let inside = subst (λ l. c.args.at < l) (length-map links (λ (link : Link). link.entry)) (rw (← c.self.view_is) at c.requires) in
+    let inside = inside_links links c.args.at (rw (← c.self.view_is) at c.requires) in
     rw (← c.self.view_is) (entry_read links c.args.at c.index_mut-link.result.now inside c.index_mut-link.ensures.value)
 
 pub returns-clause-entries : goal.returns-clause-entries
