@@ -1,16 +1,14 @@
 -- The part of a job, found at its place.
-use Rattle.std.proofs.Common.{◌≡◌, ℕ, ◌==◌, ◌<◌, ◌≤◌, Bool, true, false, ◌&&◌, List, length, map, Option, Some, None}
+use Rattle.std.proofs.Common.{◌≡◌, ℕ, ◌==◌, ◌<◌, Bool, true, false, ◌&&◌, List, length, map, Option, Some, None}
 use Rattle.std.proofs.Common.{find, slice_get, get_or, set, ⊎_elim, subst, ap, refl, sym, arith, ◌∙◌}
 use Rattle.std.specs.Option.{option_map, MatchOption}
 use Rattle.std.proofs.lemmas.Bool.{eqb-true, eq-eqb, and_parts}
 use Rattle.std.proofs.lemmas.Option.{same_Some, slice_get_cases}
-use Rattle.std.proofs.lemmas.List.{length-map}
 use Rattle.cell_base.specs.declared.requests.JobId.{JobId}
 use Rattle.cell_base.specs.Outcomes.{part_of}
 use Rattle.part_table.specs.declared.standing.Standing.{Standing}
 use Rattle.part_table.specs.declared.standing.Entry.{Entry}
-use Rattle.part_table.specs.declared.heads.TheConstants.{NOWHERE}
-use Rattle.part_table.specs.Heads.{IsFirst}
+use Rattle.part_table.specs.Chains.{IsFirst}
 use Rattle.part_table.specs.Standings.{parts_of, is_job, finished}
 use Rattle.part_table.specs.Logs.{done_entry, staying, job_of, IsAbsent, IsPlaceOf, IsPlaceOfFirst, IsKnown}
 use Rattle.part_table.proofs.Standings.{part_of-find}
@@ -45,6 +43,11 @@ part_absent entries job absent =
     (none_staying (is_job job) entries (λ k other e. passes_not job other (absent k other e))))
     ∙ sym (part_of-find (staying entries) job)
 
+-- an entry stands at each place
+pub entry_at : (entries : List Entry) (k : ℕ) → k < length entries → (entry : Entry) × (slice_get entries k ≡ Some entry)
+entry_at entries k inside =
+    ⊎_elim (λ there. (there.0, there.2)) (λ past. absurd (omega (arith, past.0, inside))) (slice_get_cases entries k).1
+
 -- where a part of the job stands, what is known of the job is its place
 module _ (entries : List Entry) (places : ℕ → Option ℕ) (are : IsKnown entries places (λ k entry. k)) where
   -- and no other entry that stays is of the job
@@ -60,28 +63,19 @@ module _ (entries : List Entry) (places : ℕ → Option ℕ) (are : IsKnown ent
 
   -- the first place of a key that shows what passes is that of the first part that passes
   pub place_first : (test : Standing → Bool) (key : Entry → ℕ) (r : ℕ)
-      → ((entry : Entry) → (key entry == r) ≡ passes test entry) → (keys : List ℕ)
-      → keys ≡ map key entries → (o : Option ℕ)
-      → MatchOption o ((k : ℕ) → k < length keys → get_or keys k 0 ≡ r → ⊥) (λ at. (at < length keys) × IsFirst r keys NOWHERE at)
+      → ((entry : Entry) → (key entry == r) ≡ passes test entry) → (o : Option ℕ)
+      → MatchOption o ((k : ℕ) → k < length entries → get_or (map key entries) k 0 ≡ r → ⊥)
+      (λ at. (at < length entries) × IsFirst (map key entries) (length entries) r at)
       → MatchOption o (find test (staying entries) ≡ None) (IsPlaceOfFirst test entries)
-  place_first test key r shows keys is None none = none_by_key test key r shows entries keys is none
-  place_first test key r shows keys is (Some at) first = ⊎_elim there past (slice_get_cases entries at).1
-    where
-      long : length keys ≡ length entries
-      long = ap length is ∙ length-map entries key
-
-      there : (entry : Entry) × (at < length entries) × (slice_get entries at ≡ Some entry) × (get_or entries at entry ≡ entry)
-          → IsPlaceOfFirst test entries at
-      there h =
-          let passed = passes_by_key test key r shows entries keys is at h.0 first.1 h.2 in (
-            h.0,
-            h.2,
-            found_by_key test key r shows entries keys is at h.0 first.1 h.2,
-            place_staying at h.0 h.2 (and_parts h.0.stays (test h.0.item) passed).0,
-          )
-
-      past : (length entries ≤ at) × (slice_get entries at ≡ None) → IsPlaceOfFirst test entries at
-      past h = absurd (omega (arith, h.0, first.0, long))
+  place_first test key r shows None none = none_by_key test key r shows entries none
+  place_first test key r shows (Some at) first =
+      let there = entry_at entries at first.0 in
+      let passed = passes_by_key test key r shows entries at there.0 first.1 there.1 in (
+        there.0,
+        there.1,
+        found_by_key test key r shows entries at there.0 first.1 there.1,
+        place_staying at there.0 there.1 (and_parts there.0.stays (test there.0.item) passed).0,
+      )
 
 -- the work on the first part is done
 pub staying_first_done : (test : Standing → Bool) (entries : List Entry) (at : ℕ) (entry : Entry) → IsPlaceOfFirst test entries at

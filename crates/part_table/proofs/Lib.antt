@@ -1,5 +1,8 @@
 pub mod Firsts
 pub mod Links
+pub mod Chains
+pub mod Seeking
+pub mod Changing
 pub mod Places
 pub mod Logs
 pub mod Staying

@@ -1,50 +1,38 @@
--- One entry more is found again.
-use Rattle.std.proofs.Common.{◌≡◌, ℕ, ◌+◌, ◌<◌, ◌≤◌, Bool, true, cond, List, [], ◌∷◌, ◌++◌, length}
-use Rattle.std.proofs.Common.{map, All, Some, set, take, get_or, ap, ap₂, refl, sym, subst, arith, ◌∙◌, nat_eq}
+-- One entry more has a place, or a new seat.
+use Rattle.std.proofs.Common.{◌≡◌, ℕ, ◌+◌, ◌<◌, Bool, true, cond, List, [], ◌∷◌, ◌++◌, length}
+use Rattle.std.proofs.Common.{map, All, Some, slice_get, get_or, set, take, ap, sym, subst, arith, ◌∙◌, nat_eq}
 use Rattle.std.proofs.Math.Seq.{map-set_same}
-use Rattle.std.proofs.lemmas.List.{length-map, take_more, take_more_set, length-take-le, get_or_default}
-use Rattle.std.proofs.lemmas.List.Elements.{All-head, All-tail, All-set}
+use Rattle.std.proofs.lemmas.List.{length-map, take_more, take_more_set, length-take-le}
+use Rattle.std.proofs.lemmas.List.Elements.{All-set}
+use Rattle.std.proofs.lemmas.Option.{get_or_from_slice_get, slice_get_within}
 use Rattle.cell_base.specs.Policy.{HaveDistinctJobs}
 use Rattle.part_table.specs.declared.standing.Entry.{Entry}
 use Rattle.part_table.specs.declared.standing.Standing.{Standing}
-use Rattle.part_table.specs.Heads.{Keyed}
 use Rattle.part_table.specs.Seats.{Seated, place_at, seat_of}
 use Rattle.part_table.specs.Standings.{parts_of}
-use Rattle.part_table.specs.Logs.{ArePlaces, AreSeated, IsLogged, key_of_waiting, standing_key, waiting_key}
-use Rattle.part_table.proofs.Logs.{logged_pushed}
+use Rattle.part_table.specs.Logs.{ArePlaces, AreSeated, reseated}
+use Rattle.part_table.proofs.Logs.{places_pushed}
 use Rattle.part_table.proofs.Places.{get_in_take, known_pushed}
 use Rattle.part_table.proofs.Staying.{absent_before, parts_of_entries}
 
-pub listed_more : (entries : List Entry) (i : ℕ) (d : Entry) (room : ℕ) (seats next : Seated)
-    (standing waiting standing-next waiting-next : Keyed)
-    → i < length entries → length entries ≤ room → All (λ (entry : Entry). entry.stays ≡ true) entries
-    → HaveDistinctJobs (map (λ (entry : Entry). entry.item.part) entries) → AreSeated entries next
-    → IsLogged (take i entries) room seats standing waiting
-    → ((q : ℕ) → place_at next q ≡ cond (nat_eq (get_or entries i d).item.part.job.0 q) (Some i) (place_at seats q))
-    → standing-next.keys ≡ standing.keys ++ (get_or entries i d).item.on.0 ∷ [] → standing-next.room ≡ standing.room
-    → standing-next.resources ≡ standing.resources
-    → waiting-next.keys ≡ waiting.keys ++ key_of_waiting (get_or entries i d).item ∷ [] → waiting-next.room ≡ waiting.room
-    → waiting-next.resources ≡ waiting.resources
-    → IsLogged (take (i + 1) entries) room next standing-next waiting-next
-listed_more entries i d room seats next standing waiting standing-next waiting-next inside fits stay distinct seated log noted
-    keys keys_room keys_on waits waits_room waits_on =
-    let last = get_or entries i d in
+-- one entry more has its place
+pub placed_more : (entries : List Entry) (i : ℕ) (last : Entry) (seats next : Seated) → slice_get entries i ≡ Some last
+    → All (λ (entry : Entry). entry.stays ≡ true) entries → HaveDistinctJobs (map (λ (entry : Entry). entry.item.part) entries)
+    → AreSeated entries next → ArePlaces (take i entries) seats
+    → ((q : ℕ) → place_at next q ≡ cond (nat_eq last.item.part.job.0 q) (Some i) (place_at seats q))
+    → ArePlaces (take (i + 1) entries) next
+placed_more entries i last seats next there stay distinct seated are noted =
+    let inside : i < length entries = slice_get_within entries i last there in
+    let read = get_or_from_slice_get entries i last last there in
     let far : length (take i entries) ≡ i = length-take-le i entries (omega (arith, inside)) in
+    let stays : last.stays ≡ true = ap (λ (e : Entry). e.stays) (sym read) ∙ stay i last inside in
     let is : (let e : Entry = record last { stays = true } in e) ≡ last =
-    ap (λ (b : Bool). let e : Entry = record last { stays = b } in e) (sym (stay i d inside)) in
+    ap (λ (b : Bool). let e : Entry = record last { stays = b } in e) (sym stays) in
+    let more = take_more entries i last inside ∙ ap (λ (e : Entry). take i entries ++ e ∷ []) (read ∙ sym is) in
     let first : AreSeated (take (i + 1) entries) next = λ k entry e. seated k entry (get_in_take entries (i + 1) k entry e) in
-    let pushed = logged_pushed (take i entries) room seats standing waiting log last.item last.seat next standing-next waiting-next
-    (absent_before entries i last inside (get_or_default entries i d last inside) distinct) (omega (arith, far, inside, fits))
-    (λ q. noted q ∙ ap (λ n. cond (nat_eq last.item.part.job.0 q) (Some n) (place_at seats q)) (sym far))
-    (subst (λ (e : Entry). AreSeated (take i entries ++ e ∷ []) next) (sym is)
-    (rw (take_more entries i d inside) at first))
-    keys keys_room keys_on waits waits_room waits_on in
-    rw (take_more entries i d inside)
-    (subst (λ (e : Entry). IsLogged (take i entries ++ e ∷ []) room next standing-next waiting-next) is pushed)
-
--- an entry with another seat
-abbrev pub reseated : Entry → ℕ → Entry
-reseated entry seat = record entry { seat = seat }
+    rw more
+    (places_pushed (take i entries) seats are last.item last.seat next (absent_before entries i last inside (sym read) distinct)
+    (λ q. noted q ∙ ap (λ n. cond (nat_eq last.item.part.job.0 q) (Some n) (place_at seats q)) (sym far)) (rw more at first))
 
 -- what holds after one entry more has a new seat
 pub record IsSeated (first entries : List Entry) (i : ℕ) (seats : Seated) : Type 0 where
@@ -92,39 +80,3 @@ seated_more first entries i last seats next seat inside read distinct items stay
       placed = rw (take_more_set entries i (reseated last seat) inside)
           (subst (λ (e : Entry). ArePlaces (take i entries ++ e ∷ []) next) is pushed);
     }
-
--- a key of entries that all stay is one of their items
-keys_by_items : (entries : List Entry) (key : Entry → ℕ) (of : Standing → ℕ)
-    → ((entry : Entry) → entry.stays ≡ true → key entry ≡ of entry.item) → All (λ (entry : Entry). entry.stays ≡ true) entries
-    → map key entries ≡ map of (map (λ (entry : Entry). entry.item) entries)
-keys_by_items [] key of by stay = refl
-keys_by_items (entry ∷ entries) key of by stay =
-    ap₂ (λ (k : ℕ) (ks : List ℕ). k ∷ ks) (by entry (All-head (λ (entry : Entry). entry.stays ≡ true) entry entries stay))
-    (keys_by_items entries key of by (All-tail (λ (entry : Entry). entry.stays ≡ true) entry entries stay))
-
--- the keys of entries with the same items, that all stay
-same_keys : (first entries : List Entry) (key : Entry → ℕ) (of : Standing → ℕ)
-    → ((entry : Entry) → entry.stays ≡ true → key entry ≡ of entry.item)
-    → All (λ (entry : Entry). entry.stays ≡ true) first → All (λ (entry : Entry). entry.stays ≡ true) entries
-    → map (λ (entry : Entry). entry.item) entries ≡ map (λ (entry : Entry). entry.item) first → map key first ≡ map key entries
-same_keys first entries key of by before after same =
-    keys_by_items first key of by before ∙ ap (map of) (sym same) ∙ sym (keys_by_items entries key of by after)
-
--- a log whose parts have other seats
-pub logged_again : (first entries : List Entry) (room : ℕ) (seats next : Seated) (standing waiting : Keyed)
-    → All (λ (entry : Entry). entry.stays ≡ true) first
-    → map (λ (entry : Entry). entry.item) entries ≡ map (λ (entry : Entry). entry.item) first
-    → All (λ (entry : Entry). entry.stays ≡ true) entries → ArePlaces entries next
-    → IsLogged first room seats standing waiting → IsLogged entries room next standing waiting
-logged_again first entries room seats next standing waiting before same after placed log = record {
-  within = omega (arith, log.within, length_items first entries same);
-  small = log.small;
-  placed = placed;
-  standing_keys = log.standing_keys ∙ same_keys first entries standing_key (λ (item : Standing). item.on.0)
-      (λ entry stays. rw stays refl) before after same;
-  waiting_keys = log.waiting_keys ∙ same_keys first entries waiting_key key_of_waiting
-      (λ entry stays. rw stays refl) before after same;
-  standing_room = log.standing_room;
-  waiting_room = log.waiting_room;
-  resources = log.resources;
-}

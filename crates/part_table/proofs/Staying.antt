@@ -12,10 +12,10 @@ use Rattle.policy_laws.proofs.Lists.{filter_all}
 use Rattle.std.proofs.lemmas.List.Elements.{filter_passes}
 use Rattle.part_table.specs.declared.standing.Standing.{Standing}
 use Rattle.part_table.specs.declared.standing.Entry.{Entry}
-use Rattle.part_table.specs.declared.heads.TheConstants.{OFF, NOWHERE}
-use Rattle.part_table.specs.Heads.{IsFirst}
+use Rattle.part_table.specs.Chains.{OFF, IsFirst, standing_key, waiting_key}
 use Rattle.part_table.specs.Standings.{parts_of, is_job, is_on, is_waiting, without_job, finished}
-use Rattle.part_table.specs.Logs.{gone_entry, done_entry, staying, job_of, IsAbsent, standing_key, waiting_key}
+use Rattle.part_table.specs.Logs.{gone_entry, done_entry, staying, job_of, IsAbsent}
+use Rattle.part_table.proofs.Chains.{seen_at}
 use Rattle.part_table.proofs.Standings.{finish_no}
 
 abbrev pub is_staying : Entry → Bool
@@ -65,44 +65,30 @@ module _ (test : Standing → Bool) where
   none_staying (y ∷ ys) fails = find_skip y ys (fails 0 y refl) ∙ none_staying ys (λ k entry is. fails (suc k) entry is)
 
   -- by the first place of a key that shows what passes
-  module _ (key : Entry → ℕ) (r : ℕ) (shows : (entry : Entry) → (key entry == r) ≡ passes entry) (entries : List Entry) (keys : List ℕ)
-      (are : keys ≡ map key entries) where
-    key_at : (k : ℕ) (entry : Entry) → slice_get entries k ≡ Some entry → get_or keys k 0 ≡ key entry
-    key_at k entry e =
-        ap (λ ks. get_or ks k 0) are
-        ∙ get_or-map key entries k entry 0 (slice_get_within entries k entry e)
-        ∙ ap key (get_or_from_slice_get entries k entry entry e)
-
-    pub passes_by_key : (at : ℕ) (found : Entry) → IsFirst r keys NOWHERE at → slice_get entries at ≡ Some found → passes found ≡ true
+  module _ (key : Entry → ℕ) (r : ℕ) (shows : (entry : Entry) → (key entry == r) ≡ passes entry) (entries : List Entry) where
+    pub passes_by_key : (at : ℕ) (found : Entry) → IsFirst (map key entries) (length entries) r at → slice_get entries at ≡ Some found
+        → passes found ≡ true
     passes_by_key at found first e =
-        let inside = slice_get_within entries at found e in
-        let long : length keys ≡ length entries = ap length are ∙ length-map entries key in
-        sym (shows found) ∙ eq-eqb (key found) r (sym (key_at at found e) ∙ first.here (omega (arith, inside, long)))
+        sym (shows found)
+        ∙ eq-eqb (key found) r (sym (seen_at key entries at found e) ∙ first.here (slice_get_within entries at found e))
 
-    pub found_by_key : (at : ℕ) (found : Entry) → IsFirst r keys NOWHERE at → slice_get entries at ≡ Some found
+    pub found_by_key : (at : ℕ) (found : Entry) → IsFirst (map key entries) (length entries) r at → slice_get entries at ≡ Some found
         → find test (staying entries) ≡ Some found.item
     found_by_key at found first e = first_staying entries at found e (passes_by_key at found first e) before
       where
-        long : length keys ≡ length entries
-        long = ap length are ∙ length-map entries key
-
         before : (k : ℕ) (entry : Entry) → k < at → slice_get entries k ≡ Some entry → passes entry ≡ false
         before k entry less is =
             let inside = slice_get_within entries k entry is in
             sym (shows entry)
-            ∙ ne_eqb (key entry) r
-            (λ same. absurd (omega (arith, less, first.least k (omega (arith, inside, long)) (key_at k entry is ∙ same))))
+            ∙ ne_eqb (key entry) r (λ same. absurd (omega (arith, less, first.least k inside (seen_at key entries k entry is ∙ same))))
 
-    pub none_by_key : ((k : ℕ) → k < length keys → get_or keys k 0 ≡ r → ⊥) → find test (staying entries) ≡ None
+    pub none_by_key : ((k : ℕ) → k < length entries → get_or (map key entries) k 0 ≡ r → ⊥) → find test (staying entries) ≡ None
     none_by_key none = none_staying entries fails
       where
-        long : length keys ≡ length entries
-        long = ap length are ∙ length-map entries key
-
         fails : (k : ℕ) (entry : Entry) → slice_get entries k ≡ Some entry → passes entry ≡ false
         fails k entry is =
-            let inside = slice_get_within entries k entry is in
-            sym (shows entry) ∙ ne_eqb (key entry) r (λ same. none k (omega (arith, inside, long)) (key_at k entry is ∙ same))
+            sym (shows entry)
+            ∙ ne_eqb (key entry) r (λ same. none k (slice_get_within entries k entry is) (seen_at key entries k entry is ∙ same))
 
 -- what the keys of the entries show
 off_is_no_resource : (r : ℕ) → r < OFF → (OFF == r) ≡ false

@@ -1,12 +1,10 @@
 -- Entries in the order in which they came, of which some are gone, and what finds them.
-use Rattle.std.specs.Prelude.{Bool, false, ◌≡◌, ℕ, ◌<◌, ◌≤◌, true, if◌then◌else◌, Option, Some, List, length, map, slice_get}
+use Rattle.std.specs.Prelude.{Bool, false, ◌≡◌, ℕ, ◌<◌, ◌≤◌, true, Option, Some, List, length, map, slice_get}
 use Rattle.std.specs.List.{filter, find}
 use Rattle.cell_base.specs.declared.requests.JobId.{JobId}
 use Rattle.part_table.specs.declared.standing.Standing.{Standing}
 use Rattle.part_table.specs.declared.standing.Entry.{Entry}
-use Rattle.part_table.specs.declared.heads.TheConstants.{OFF, NOWHERE}
 use Rattle.cell_base.specs.Policy.{HaveDistinctJobs}
-use Rattle.part_table.specs.Heads.{Keyed}
 use Rattle.part_table.specs.Seats.{Seated, place_at, seat_of}
 use Rattle.part_table.specs.Standings.{parts_of}
 
@@ -26,6 +24,10 @@ gone_entry entry = record entry { stays = false }
 -- the same, done
 abbrev pub done_entry : Entry → Entry
 done_entry entry = record entry { item = record entry.item { part = record entry.item.part { done = true } } }
+
+-- the same, with another seat
+abbrev pub reseated : Entry → ℕ → Entry
+reseated entry seat = record entry { seat = seat }
 
 -- the parts of the entries that are not gone
 abbrev pub staying : List Entry → List Standing
@@ -51,18 +53,6 @@ IsPlaceOfFirst test entries place =
     (found : Entry) × (slice_get entries place ≡ Some found) × (find test (staying entries) ≡ Some found.item)
     × IsPlaceOf entries found.item.part.job place
 
--- the resource on which the part of an entry stands, where it stays, and where it waits for work
-abbrev pub standing_key : Entry → ℕ
-standing_key entry = if entry.stays then entry.item.on.0 else OFF
-
--- the resource on which a part stands that is not done
-abbrev pub key_of_waiting : Standing → ℕ
-key_of_waiting item = if item.part.done then OFF else item.on.0
-
--- the same of an entry that stays
-abbrev pub waiting_key : Entry → ℕ
-waiting_key entry = if entry.stays then key_of_waiting entry.item else OFF
-
 -- what is known of the job of each entry that stays
 abbrev pub IsKnown : List Entry → (ℕ → Option ℕ) → (ℕ → Entry → ℕ) → Type 0
 IsKnown entries known value = (k : ℕ) (entry : Entry) → slice_get entries k ≡ Some entry → entry.stays ≡ true
@@ -76,17 +66,6 @@ AreSeated entries seats = IsKnown entries (seat_of seats) (λ k entry. entry.sea
 pub record ArePlaces (entries : List Entry) (seats : Seated) : Type 0 where
   pub placed : IsKnown entries (place_at seats) (λ k entry. k)
   pub seated : AreSeated entries seats
-
--- the parts of a log that belong together
-pub record IsLogged (entries : List Entry) (room : ℕ) (seats : Seated) (standing waiting : Keyed) : Type 0 where
-  pub within : length entries ≤ room
-  pub small : room < NOWHERE
-  pub placed : ArePlaces entries seats
-  pub standing_keys : standing.keys ≡ map standing_key entries
-  pub waiting_keys : waiting.keys ≡ map waiting_key entries
-  pub standing_room : standing.room ≡ room
-  pub waiting_room : waiting.room ≡ room
-  pub resources : waiting.resources ≡ standing.resources
 
 -- a log whose parts are of different jobs, their number, and how many there may be. One entry more fits for a part that goes on, and
 -- one seat more

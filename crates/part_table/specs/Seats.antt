@@ -2,7 +2,7 @@
 use Rattle.std.specs.Prelude.{◌≡◌, ℕ, ◌<◌, ◌≤◌, Some, Option, List, length, slice_index, nat_eq}
 use Rattle.std.specs.Option.{option_map}
 use Rattle.std.specs.Map.{lookup}
-use Rattle.part_table.specs.declared.heads.TheConstants.{NOWHERE}
+use Rattle.part_table.specs.declared.chain.TheConstants.{NOWHERE}
 
 -- what a contract sees of seats: the seat of each job, the place of each seat, and how many seats there may be
 pub record Seated : Type 0 where

@@ -1,121 +1,77 @@
 //! A log of parts as they came, which is found by job and by resource.
 ghost use Rattle.std.specs.Prelude.{◌≡◌, ◌≢◌, ◌<◌, ◌≤◌, ◌∷◌, ◌++◌, [], true, false, length, Some};
-ghost use Rattle.std.specs.Prelude.{slice_get, slice_set, MatchOption, IfOk, vec_capacity, nat_le, map, filter, find, All, None};
+ghost use Rattle.std.specs.Prelude.{slice_get, slice_set, MatchOption, IfOk, nat_le, map, filter, find, All, None};
 ghost use Rattle.part_table.specs.declared.standing.Entry.{Entry};
-ghost use Rattle.part_table.specs.declared.heads.TheConstants.{NOWHERE};
-ghost use Rattle.part_table.specs.Logs.{gone_entry, done_entry, job_of, IsAbsent, IsPlaceOf, IsPlaceOfFirst, key_of_waiting};
-ghost use Rattle.part_table.specs.Logs.{staying, ArePlaces, AreSeated, IsLogged};
+ghost use Rattle.part_table.specs.declared.chain.TheConstants.{NOWHERE};
+ghost use Rattle.part_table.specs.Logs.{gone_entry, done_entry, staying, job_of, IsAbsent, IsPlaceOf, IsPlaceOfFirst, ArePlaces, AreSeated};
 ghost use Rattle.part_table.specs.Standings.{parts_of, is_on, is_waiting, advanced};
 ghost use Rattle.cell_base.specs.Policy.{is_loaded, HaveDistinctJobs};
 
-use crate::heads::{Heads, OFF};
+use crate::chain::Chain;
 use crate::seats::Seats;
 use crate::standing::{Entry, Standing};
 use cell_base::{JobId, List, NoMemory, Part, ResId};
 use std::alloc::Global;
 use std::marker::Model;
 
-/// The entries in the order in which they came, the place of each job, and the first places of each resource.
+/// The entries in the order in which they came, with the first ones of each resource, and the place of each job.
 #[derive(Drop)]
 pub struct Log {
-    entries: Vec<Entry>,
+    chain: Chain,
     seats: Seats,
-    standing: Heads,
-    waiting: Heads,
 }
 
 impl Model for Log {
-    ghost use Rattle.std.specs.Prelude.{length, vec_capacity};
-    ghost use Rattle.part_table.specs.Logs.{Logged, IsLogged};
+    ghost use Rattle.std.specs.Prelude.{length};
+    ghost use Rattle.part_table.specs.Logs.{Logged, ArePlaces};
 
     ghost Value = { Logged };
 
     ghost view = { λ s. record {
-      entries = s.entries.items;
-      room = vec_capacity s.entries;
-      resources = s.standing.resources;
+      entries = s.chain.entries;
+      room = s.chain.room;
+      resources = s.chain.resources;
       given = length s.seats.places;
       seats = s.seats.room;
     } };
 
-    ghost invariant = { λ s. IsLogged s.entries.items (vec_capacity s.entries) s.seats s.standing s.waiting };
+    ghost invariant = { λ s. ArePlaces s.chain.entries s.seats };
 }
 
-/// The resource on which a part stands that is not done.
-fn key_of_waiting(item: Standing) -> u16
-    ensures { result ≡ key_of_waiting item }
-{
-    if item.part.done { OFF } else { item.on.0 }
-}
-
-/// The entries, whose parts have seats, are found again by their jobs and resources.
-fn list_again(entries: &[Entry], seats: &mut Seats, standing: &mut Heads, waiting: &mut Heads)
-    requires empty { IsLogged [] standing.old.room seats.old standing.old waiting.old }
-    requires within { length entries.now ≤ standing.old.room }
-    requires stay { All (λ entry. entry.stays ≡ true) entries.now }
-    requires distinct { HaveDistinctJobs (map (λ entry. entry.item.part) entries.now) }
-    requires seated { AreSeated entries.now seats.old }
-    ensures logged { IsLogged entries.now standing.old.room seats.new standing.new waiting.new }
-    ensures resources { standing.new.resources ≡ standing.old.resources }
+/// The entries, whose parts have seats, are found again by their jobs.
+fn place_again(chain: &Chain, seats: &mut Seats)
+    requires stay { All (λ entry. entry.stays ≡ true) chain.now.entries }
+    requires distinct { HaveDistinctJobs (map (λ entry. entry.item.part) chain.now.entries) }
+    requires seated { AreSeated chain.now.entries seats.old }
+    ensures placed { ArePlaces chain.now.entries seats.new }
     ensures given { length seats.new.places ≡ length seats.old.places }
     ensures seats { seats.new.room ≡ seats.old.room }
 {
-    for (at, entry) in entries.iter().enumerate() {
-        let item = entry.item;
-        seats.go_on(item.part.job, entry.seat, at as u32);
-        standing.push(item.on.0);
-        waiting.push(key_of_waiting(item));
+    for at in 0..chain.len() {
+        let entry = chain.get(at);
+        seats.go_on(entry.item.part.job, entry.seat, at);
     }
 }
 
 /// The parts of the entries have new seats.
-fn seat_again(entries: &mut Vec<Entry>, seats: &mut Seats)
-    requires stay { All (λ entry. entry.stays ≡ true) entries.old.items }
-    requires distinct { HaveDistinctJobs (map (λ entry. entry.item.part) entries.old.items) }
+fn seat_again(chain: &mut Chain, seats: &mut Seats)
+    requires stay { All (λ entry. entry.stays ≡ true) chain.old.entries }
+    requires distinct { HaveDistinctJobs (map (λ entry. entry.item.part) chain.old.entries) }
     requires none { seats.old.places ≡ [] }
-    requires room { length entries.old.items ≤ seats.old.room }
-    requires few { length entries.old.items ≤ NOWHERE }
-    ensures items { map (λ entry. entry.item) entries.new.items ≡ map (λ entry. entry.item) entries.old.items }
-    ensures stay { All (λ entry. entry.stays ≡ true) entries.new.items }
-    ensures placed { ArePlaces entries.new.items seats.new }
-    ensures capacity { vec_capacity entries.new ≡ vec_capacity entries.old }
-    ensures given { length seats.new.places ≡ length entries.old.items }
+    requires room { length chain.old.entries ≤ seats.old.room }
+    ensures items { map (λ entry. entry.item) chain.new.entries ≡ map (λ entry. entry.item) chain.old.entries }
+    ensures stay { All (λ entry. entry.stays ≡ true) chain.new.entries }
+    ensures placed { ArePlaces chain.new.entries seats.new }
+    ensures capacity { chain.new.room ≡ chain.old.room }
+    ensures resources { chain.new.resources ≡ chain.old.resources }
+    ensures given { length seats.new.places ≡ length chain.old.entries }
     ensures room { seats.new.room ≡ seats.old.room }
 {
-    for at in 0..entries.len() {
-        let mut entry = entries[at];
-        entry.seat = seats.come(entry.item.part.job, at as u32);
-        entries[at] = entry;
+    for at in 0..chain.len() {
+        let entry = chain.get(at);
+        let seat = seats.come(entry.item.part.job, at);
+        chain.seat(at, seat);
     }
-}
-
-/// The part at an index, among the entries that stay.
-fn nth(entries: &[Entry], i: u32) -> Option<Standing>
-    ensures { result ≡ slice_get (staying entries.now) i }
-{
-    let mut left = i;
-    for entry in entries {
-        if entry.stays {
-            if left == 0 {
-                return Some(entry.item);
-            }
-            left -= 1;
-        }
-    }
-    None
-}
-
-/// The parts of the entries that stay.
-fn listed(alloc: Global, entries: &[Entry]) -> Result<List<Part>, NoMemory>
-    ensures { IfOk result (λ parts. parts ≡ parts_of (staying entries.now)) }
-{
-    let mut parts = List::new(alloc);
-    for entry in entries {
-        if entry.stays {
-            parts.try_push(entry.item.part)?;
-        }
-    }
-    Ok(parts)
 }
 
 impl Log {
@@ -129,10 +85,8 @@ impl Log {
         ensures resources { IfOk result (λ log. log.resources ≡ resources) }
     {
         Ok(Log {
-            entries: Vec::with_capacity(alloc, n as usize)?,
+            chain: Chain::with_room(alloc, resources, n)?,
             seats: Seats::with_room(alloc, seats)?,
-            standing: Heads::with_room(alloc, resources, n)?,
-            waiting: Heads::with_room(alloc, resources, n)?,
         })
     }
 
@@ -140,20 +94,15 @@ impl Log {
     pub fn push(&mut self, item: Standing)
         requires room { length self.old.entries < self.old.room }
         requires seat { self.old.given < self.old.seats }
+        requires on { item.on.0 < self.old.resources }
         requires absent { IsAbsent self.old.entries item.part.job }
         ensures items { staying self.new.entries ≡ staying self.old.entries ++ item ∷ [] }
         ensures room { self.new.room ≡ self.old.room }
         ensures resources { self.new.resources ≡ self.old.resources }
         ensures seats { self.new.seats ≡ self.old.seats }
     {
-        let seat = self.seats.come(item.part.job, self.entries.len() as u32);
-        self.standing.push(item.on.0);
-        self.waiting.push(key_of_waiting(item));
-        self.entries.push_reserved(Entry {
-            item,
-            stays: true,
-            seat,
-        });
+        let seat = self.seats.come(item.part.job, self.chain.len());
+        self.chain.push(item, seat);
     }
 
     /// The place of the entry of a job, where one stays.
@@ -181,8 +130,8 @@ impl Log {
         ensures away { result ≡ false → (entry : Entry) → slice_get self.now.entries at ≡ Some entry → entry.stays ≡ true
             → job_of entry ≢ job.0 }
     {
-        if (at as usize) < self.entries.len() {
-            let entry = self.entries[at as usize];
+        if at < self.chain.len() {
+            let entry = self.chain.get(at);
             entry.stays && entry.item.part.job.0 == job.0
         } else {
             false
@@ -194,7 +143,7 @@ impl Log {
         requires { at < length self.now.entries }
         ensures { slice_get self.now.entries at ≡ Some result }
     {
-        self.entries[at as usize]
+        self.chain.get(at)
     }
 
     /// The part of an entry does not stand there any more.
@@ -206,11 +155,7 @@ impl Log {
         ensures resources { self.new.resources ≡ self.old.resources }
         ensures seats { self.new.seats ≡ self.old.seats }
     {
-        let mut entry = self.entries[at as usize];
-        entry.stays = false;
-        self.entries[at as usize] = entry;
-        self.standing.take_off(at);
-        self.waiting.take_off(at);
+        let _ = self.chain.take_out(at);
     }
 
     /// The part of an entry is done.
@@ -222,47 +167,35 @@ impl Log {
         ensures resources { self.new.resources ≡ self.old.resources }
         ensures seats { self.new.seats ≡ self.old.seats }
     {
-        let mut entry = self.entries[at as usize];
-        entry.item.part.done = true;
-        self.entries[at as usize] = entry;
-        self.waiting.take_off(at);
+        self.chain.finish(at);
     }
 
     /// The part of a job goes on: it is not at its entry any more, but at one after all others. It takes no memory.
     pub fn advance(&mut self, job: JobId, at: u32, place: u16, done: bool, on: ResId)
         requires room { length self.old.entries < self.old.room }
         requires at { IsPlaceOf self.old.entries job at }
+        requires on { on.0 < self.old.resources }
         ensures items { staying self.new.entries ≡ advanced (staying self.old.entries) job place done on }
         ensures room { self.new.room ≡ self.old.room }
         ensures resources { self.new.resources ≡ self.old.resources }
         ensures seats { self.new.seats ≡ self.old.seats }
     {
-        let mut entry = self.entries[at as usize];
-        entry.stays = false;
-        self.entries[at as usize] = entry;
-        self.seats.go_on(job, entry.seat, self.entries.len() as u32);
-        self.standing.take_off(at);
-        self.waiting.take_off(at);
+        let entry = self.chain.take_out(at);
+        self.seats.go_on(job, entry.seat, self.chain.len());
         let part = Part {
             place,
             done,
             ..entry.item.part
         };
         let item = Standing { part, on };
-        self.standing.push(on.0);
-        self.waiting.push(key_of_waiting(item));
-        self.entries.push_reserved(Entry {
-            item,
-            stays: true,
-            seat: entry.seat,
-        });
+        self.chain.push(item, entry.seat);
     }
 
     /// Whether no entry more fits.
     pub fn is_full(&self) -> bool
         ensures { result ≡ nat_le self.now.room (length self.now.entries) }
     {
-        self.entries.capacity() <= self.entries.len()
+        self.chain.is_full()
     }
 
     /// The place of the first part on a resource.
@@ -271,7 +204,7 @@ impl Log {
         ensures { MatchOption result (find (is_on on) (staying self.now.entries) ≡ None)
             (IsPlaceOfFirst (is_on on) self.now.entries) }
     {
-        self.standing.first(on.0)
+        self.chain.first_on(on)
     }
 
     /// The place of the first part on a resource that is not done.
@@ -280,21 +213,21 @@ impl Log {
         ensures { MatchOption result (find (is_waiting on) (staying self.now.entries) ≡ None)
             (IsPlaceOfFirst (is_waiting on) self.now.entries) }
     {
-        self.waiting.first(on.0)
+        self.chain.first_waiting(on)
     }
 
     /// The part at an index, among those that stay.
     pub fn nth(&self, i: u32) -> Option<Standing>
         ensures { result ≡ slice_get (staying self.now.entries) i }
     {
-        nth(&self.entries, i)
+        self.chain.nth(i)
     }
 
     /// The parts that stay, in their order, by one walk.
     pub fn listed(&self, alloc: Global) -> Result<List<Part>, NoMemory>
         ensures { IfOk result (λ parts. parts ≡ parts_of (staying self.now.entries)) }
     {
-        listed(alloc, &self.entries)
+        self.chain.listed(alloc)
     }
 
     /// Whether no seat is left for one job more.
@@ -313,15 +246,8 @@ impl Log {
         ensures given { self.new.given ≡ self.old.given }
         ensures seats { self.new.seats ≡ self.old.seats }
     {
-        self.entries.retain(|entry| entry.stays);
-        self.standing.clear();
-        self.waiting.clear();
-        list_again(
-            &self.entries,
-            &mut self.seats,
-            &mut self.standing,
-            &mut self.waiting,
-        );
+        self.chain.compact();
+        place_again(&self.chain, &mut self.seats);
     }
 
     /// The entries, which all stay, take the first seats. It takes no memory.
@@ -337,6 +263,6 @@ impl Log {
         ensures seats { self.new.seats ≡ self.old.seats }
     {
         self.seats.clear();
-        seat_again(&mut self.entries, &mut self.seats);
+        seat_again(&mut self.chain, &mut self.seats);
     }
 }

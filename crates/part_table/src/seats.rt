@@ -3,7 +3,7 @@
 //! A job is looked up by its hash, which leads to its seat. A part that goes on keeps its seat, so that no hash is needed for it.
 ghost use Rattle.std.specs.Prelude.{◌≡◌, ℕ, ◌+◌, ◌<◌, ◌≤◌, ◌&&◌, if◌then◌else◌, [], length, Some, IfOk, nat_eq, nat_le, is_some};
 ghost use Rattle.std.specs.HashMap.{get, hash_map_len, spare};
-ghost use Rattle.part_table.specs.declared.heads.TheConstants.{NOWHERE};
+ghost use Rattle.part_table.specs.declared.chain.TheConstants.{NOWHERE};
 ghost use Rattle.part_table.specs.Seats.{place_at, seat_of};
 
 use cell_base::{JobId, NoMemory};

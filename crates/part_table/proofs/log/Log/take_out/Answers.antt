@@ -1,25 +1,20 @@
--- The entry at the place changes, and what it is found by.
-use Rattle.std.proofs.Common.{◌≡◌, ◌<◌, Some, false, length, slice_get, set, ap, sym, ◌∙◌, vec_capacity}
+-- The entry that is gone was the one at the place.
+use Rattle.std.proofs.Common.{set, ap, sym, ◌∙◌}
 use Rattle.std.proofs.lemmas.Option.{same_Some}
 use Rattle.part_table.specs.declared.standing.Entry.{Entry}
-use Rattle.part_table.proofs.Logs.{get_read, logged_taken}
+use Rattle.part_table.specs.Logs.{gone_entry}
+use Rattle.part_table.proofs.Logs.{places_gone}
 use Rattle.part_table.proofs.log.Log.take_out.Goals as goal
 
 pub invariant_of-self : goal.invariant_of-self
 invariant_of-self c =
-    let entries = c.self.inside.entries.items in
-    let inside : c.args.at < length c.self.inside.entries.items = rw (← c.self.view_is) at c.requires in
-    let there = get_read entries c.args.at c.index-entry.result.now inside c.index-entry.ensures in
-    logged_taken entries
-    (vec_capacity c.self.inside.entries) c.self.inside.seats c.self.inside.standing c.self.inside.waiting c.self.invariant
-    c.args.at c.index-entry.result.now _ _ there c.take_off.ensures.keys c.take_off.ensures.room c.take_off.ensures.resources
-    c.take_off-2.ensures.keys c.take_off-2.ensures.room c.take_off-2.ensures.resources
+    rw (c.take_out.ensures.entries)
+    (places_gone c.self.inside.chain.entries c.self.inside.seats c.self.invariant c.args.at c.take_out.result c.take_out.ensures.entry)
 
 pub returns-clause-entries : goal.returns-clause-entries
 returns-clause-entries c entry is =
-    let entries = c.self.inside.entries.items in
-    let inside : c.args.at < length c.self.inside.entries.items = rw (← c.self.view_is) at c.requires in
-    let there = get_read entries c.args.at c.index-entry.result.now inside c.index-entry.ensures in
-    let is_here : slice_get c.self.inside.entries.items c.args.at ≡ Some entry = rw (← c.self.view_is) at is in
-    let same = same_Some c.index-entry.result.now entry (sym there ∙ is_here) in
-    rw (← c.self.view_is) (ap (λ (e : Entry). set c.self.inside.entries.items c.args.at (record e { stays = false })) same)
+    let here = rw (← c.self.view_is) at is in
+    rw (← c.self.view_is)
+    (c.take_out.ensures.entries
+    ∙ ap (λ (e : Entry). set c.self.inside.chain.entries c.args.at (gone_entry e))
+    (same_Some c.take_out.result entry (sym c.take_out.ensures.entry ∙ here)))

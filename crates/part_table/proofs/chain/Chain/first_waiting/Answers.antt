@@ -1,0 +1,20 @@
+-- The first place of the resource that is not done is known.
+use Rattle.std.proofs.Common.{arith}
+use Rattle.part_table.specs.declared.chain.Ends.{Ends}
+use Rattle.part_table.specs.Chains.{waiting_key}
+use Rattle.part_table.proofs.Changing.{some_read, none_read}
+use Rattle.part_table.proofs.chain.Chain.first_waiting.Goals as goal
+
+pub returns-then-at-len-clause-first : goal.returns-then-at-len-clause-first
+returns-then-at-len-clause-first c =
+    rw (← c.self.view_is)
+    (some_read c.self.inside.links.items c.self.inside.ends.items waiting_key (λ (e : Ends). e.waiting) c.args.on.0
+    c.index.result.now (rw (← c.self.view_is) at c.requires) c.index.ensures c.self.invariant.chained.waiting
+    (omega (arith, c.if-at-len.true, c.self.inside.links.ok.0)))
+
+pub returns-else-at-len-clause-first : goal.returns-else-at-len-clause-first
+returns-else-at-len-clause-first c =
+    rw (← c.self.view_is)
+    (none_read c.self.inside.links.items c.self.inside.ends.items waiting_key (λ (e : Ends). e.waiting) c.args.on.0
+    c.index.result.now (rw (← c.self.view_is) at c.requires) c.index.ensures c.self.invariant.chained.waiting
+    (omega (arith, c.if-at-len.false, c.self.inside.links.ok.0)))

@@ -1,0 +1,26 @@
+-- The entry keeps its part and its link.
+use Rattle.std.proofs.Common.{ap, set, ◌∙◌}
+use Rattle.part_table.specs.declared.standing.Entry.{Entry}
+use Rattle.part_table.specs.Chains.{entries_of}
+use Rattle.part_table.specs.Logs.{reseated}
+use Rattle.part_table.proofs.Changing.{inside_links, chain_seated, entry_same}
+use Rattle.part_table.proofs.Seeking.{entry_set}
+use Rattle.part_table.proofs.chain.Chain.seat.Goals as goal
+
+pub invariant_of-self : goal.invariant_of-self
+invariant_of-self c =
+    let links = c.self.inside.links.items in
+    let inside = inside_links links c.args.at (rw (← c.self.view_is) at c.requires) in
+    chain_seated links c.self.inside.ends.items _ c.args.at c.index_mut.result.now c.self.invariant inside c.index_mut.ensures.value
+    c.args.seat
+
+pub returns-clause-entries : goal.returns-clause-entries
+returns-clause-entries c entry is =
+    let links = c.self.inside.links.items in
+    let old = c.index_mut.result.now in
+    let inside = inside_links links c.args.at (rw (← c.self.view_is) at c.requires) in
+    let here = rw (← c.self.view_is) at is in
+    rw (← c.self.view_is)
+    (entry_set links c.args.at old (reseated old.entry c.args.seat) c.index_mut.ensures.value
+    ∙ ap (λ (e : Entry). set (entries_of c.self.inside.links.items) c.args.at (reseated e c.args.seat))
+    (entry_same links c.self.inside.ends.items _ c.args.at old c.self.invariant inside c.index_mut.ensures.value entry here))
