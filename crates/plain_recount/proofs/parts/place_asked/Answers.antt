@@ -10,4 +10,5 @@ returns-in-Load-clause-within c =
 
 pub returns-in-Process-clause-within : goal.returns-in-Process-clause-within
 returns-in-Process-clause-within c =
-    found_within (is_waiting_on c.args.cell.now c.in-Process.machine.0) c.args.parts.now c.first_waiting_on.result c.first_waiting_on.ensures
+    let waiting = is_waiting_on c.args.cell.now c.in-Process.machine.0 in
+    found_within waiting c.args.parts.now c.first_waiting_on.result c.first_waiting_on.ensures
