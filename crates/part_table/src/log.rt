@@ -106,6 +106,7 @@ impl Log {
     }
 
     /// The place of the entry of a job, where one stays.
+    #[inline(always)]
     pub fn place_of(&self, job: JobId) -> Option<u32>
         ensures { MatchOption result (IsAbsent self.now.entries job) (IsPlaceOf self.now.entries job) }
     {

@@ -76,6 +76,7 @@ impl Seats {
     }
 
     /// The place to which the part of a job came last.
+    #[inline(always)]
     pub fn place_of(&self, job: JobId) -> Option<u32>
         ensures { result ≡ place_at self.now job.0 }
     {
