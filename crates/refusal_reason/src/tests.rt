@@ -56,6 +56,9 @@ fn neighborhoods_are_shown(rt: HostRuntime) -> Result<(), Fail> {
     assert!(rt; cell_fits(&cell));
     let core = Core::open(rt.alloc(), cell)?;
     let text = show_text(rt.alloc(), &core)?;
-    assert!(rt; text.as_slice().starts_with(b"resource M1 capacity 1 order 1\n"));
+    assert!(rt;
+        text.as_slice()
+            .starts_with(b"resource M1 capacity 1 order 1\n")
+    );
     Ok(())
 }
