@@ -17,8 +17,8 @@ use Rattle.shift_checker.specs.Lines.{IsWalked, Walked, judged, unmoved}
 use Rattle.shift_checker.proofs.Staying.{stays}
 use Rattle.shift_checker.proofs.Carrying.{judge_by_walk}
 
--- a walk that has found no line that fails is behind the lines that were read
-pub record IsBehind (cell : Cell) (n : ℕ) (so_far : Reading) (walk : Walked) : Type 0 where
+-- a walk that has found no line that fails stands after the lines that were read
+pub record IsAfter (cell : Cell) (n : ℕ) (so_far : Reading) (walk : Walked) : Type 0 where
   pub of : walk.cell ≡ cell
   pub walked : IsWalked n so_far walk
 
@@ -28,7 +28,7 @@ pub record AreJudged (cell : Cell) (bytes : List ℕ) (left : LinesLeft) (walk :
   pub of : left.cell ≡ cell
   pub read : AreRead left bytes so_far
   pub judged : verdict ≡ verdict_from 1 (judged cell so_far)
-  pub here : verdict ≡ Yes → IsBehind cell left.number so_far walk
+  pub here : verdict ≡ Yes → IsAfter cell left.number so_far walk
 
 -- before the first line
 pub begun : (cell : Cell) → IsWalked 1 unread (unmoved cell)

@@ -89,7 +89,7 @@ IsAt cell n at (Entries head entries) walk = carried_by walk ≡ carried_in cell
 IsAt cell n at (Left head entries left) walk = carried_by walk ≡ carried_in cell at head entries
 IsAt cell n at (Steps head entries left missing steps) walk = IsInPlan cell (carried_in cell at head entries) n missing steps walk
 
--- the lines before the n-th are right, and it is behind them
+-- the lines before the n-th are right, and it stands after them
 pub record IsWalked (n : ℕ) (so_far : Reading) (walk : Walked) : Type 0 where
   pub right : verdict_from 1 (judged walk.cell so_far) ≡ Yes
   pub number : n ≡ 1 + length (judged walk.cell so_far)

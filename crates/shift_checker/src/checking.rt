@@ -22,7 +22,7 @@ pub fn check(alloc: Global, cell: &Cell, blocks: &List<Block>) -> Result<Verdict
     Ok(walk_blocks(&mut walk, blocks.as_slice()))
 }
 
-/// The verdict on the record that some bytes are. Each line is judged as soon as it is read, and none is kept. Behind a line that
+/// The verdict on the record that some bytes are. Each line is judged as soon as it is read, and none is kept. After a line that
 /// fails the others are still read, since a later one may be none of a record.
 pub fn check_text(alloc: Global, cell: &Cell, bytes: &[u8]) -> Result<Verdict, RecordFault>
     requires { CellFits cell.now }

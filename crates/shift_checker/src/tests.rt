@@ -73,7 +73,7 @@ shift 1 after 2\n1 move 7 granted\n1 process M2 granted\n1 unload 7 granted\nlef
             Some(Verdict::Yes),
         ),
         (b"shift 1 after 0\n1 load 7 A granted\n", None),
-        // a line that is none of a record, behind one that fails
+        // a line that is none of a record, after one that fails
         (
             b"shift 1 after 1\n1 load 7 A granted\nleft 1\nplan 4\nprocess M1\nmove 7\nprocess M3\nunload 7\n",
             None,

@@ -1,3 +1,4 @@
+pub mod Clauses
 pub mod Feed
 pub mod Follow
 pub mod FollowTold

@@ -1,13 +1,9 @@
 //! `follow CELL FRAMES JOURNAL`: frames that a standby takes in turn, the grant of each next one written to its journal.
 ghost use Rattle.std.specs.Prelude.{◌≡◌, ◌≤◌, [], Ok, length, IfOk};
-ghost use Rattle.shift_recovery.specs.Replayed.{AreDue};
 ghost use Rattle.cell_walks.specs.Clauses.{Ends, IsDelivered, disk_told, files_told, observed, sink_told};
 ghost use Rattle.cell_texts.specs.Clauses.{CellFits, MAX_CELL_BYTES, known};
-ghost use Rattle.journal_texts.specs.Clauses.{IsFresh};
-ghost use Rattle.standby_commands.specs.Follow.{follow};
-ghost use Rattle.standby_commands.specs.Following.{HasFollowedOn, IsFollowAllowed, IsFollowedOnJournal};
-ghost use Rattle.standby_commands.specs.Following.{StopFits, end_outcome, follow_outcome};
-ghost use Rattle.standby_commands.specs.FrameFiles.{frames_in};
+ghost use Rattle.standby_commands.specs.Clauses.{AreDue, HasFollowedOn, IsFollowAllowed, IsFollowedOnJournal, IsFresh, StopFits};
+ghost use Rattle.standby_commands.specs.Clauses.{end_outcome, follow, follow_outcome, frames_in};
 
 use crate::following::{Stop, take_frames};
 use crate::frames::{FRAME_BYTES, read_frames};
