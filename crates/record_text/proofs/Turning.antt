@@ -1,5 +1,6 @@
 -- What a line says in its turn is what the reading does with it.
-use Rattle.std.proofs.Common.{◌≡◌, ℕ, ◌-◌, ◌<◌, Bool, true, false, cond, ◌==◌, List, [], ◌∷◌, ◌++◌, Option, Some, None, ◌≢◌, ⊎_elim, refl, sym, ap, ◌∙◌, arith}
+use Rattle.std.proofs.Common.{◌≡◌, ℕ, ◌-◌, ◌<◌, Bool, true, false, cond, ◌==◌, List, []}
+use Rattle.std.proofs.Common.{◌∷◌, ◌++◌, Option, Some, None, ◌≢◌, ⊎_elim, refl, sym, ap, ◌∙◌, arith}
 use Rattle.std.specs.Option.{option_map, option_map_or}
 use Rattle.std.proofs.lemmas.Bool.{cases_eq, eq-eqb, ne_eqb}
 use Rattle.cell_base.specs.declared.cells.Cell.{Cell}

@@ -3,7 +3,7 @@ ghost use Rattle.std.specs.Prelude.{◌≡◌};
 ghost use Rattle.std.specs.Option.{option_map, option_copied};
 ghost use Rattle.cell_base.specs.Fits.{CellFits};
 ghost use Rattle.step_text.specs.Words.{words};
-ghost use Rattle.record_text.specs.Reading.{words_of_rest, told_after, asked_at, entry_at, head_at, left_at, plan_at, step_at};
+ghost use Rattle.record_text.specs.Reading.{words_of_rest, told_after, asked_at, entry_at, head_at, left_at, placing_of, plan_at, step_at};
 
 use crate::requests_at::{place_at, three_at, two_at};
 use crate::told_at::told_at;
@@ -107,4 +107,14 @@ pub fn step_at(cell: &Cell, line: &[u8]) -> Option<Request>
     ensures { result ≡ step_at cell.now (words line.now) }
 {
     read_step(cell, line).ok()
+}
+
+/// The request that a line without its newline places a part by. It fits the cell.
+#[tactic(auto, unfolding(crate::specs::Reading::placing_of))]
+pub fn placing_of(cell: &Cell, line: &[u8]) -> Option<Request>
+    requires { CellFits cell.now }
+    ensures { result ≡ placing_of cell.now (words line.now) }
+{
+    let (request, rest) = place_at(cell, Some(line))?;
+    if is_end(rest) { Some(request) } else { None }
 }

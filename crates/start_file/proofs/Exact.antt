@@ -21,7 +21,8 @@ use Rattle.record_text.proofs.Ending.{same_Ok, same_Err}
 use Rattle.record_text.proofs.Pieces.{pieces_lines, pieces_some}
 use Rattle.record_text.proofs.Splitting.{IsLine, joined-pieces, joined-words}
 use Rattle.start_file.specs.declared.reading.TheConstants.{MAX_START_BYTES, MAX_START_LINES}
-use Rattle.start_file.specs.Reading.{GivesStart, next_of, placing_of, read_from}
+use Rattle.record_text.specs.Reading.{placing_of}
+use Rattle.start_file.specs.Reading.{GivesStart, next_of, read_from}
 use Rattle.start_file.specs.StartFiles.{IsBadStartLine, IsPlacing, IsStartOf, StartRefusedAt, place_line, start_reads, start_text}
 use Rattle.start_file.proofs.Lines.{first_piece, next_is, read_all, read_cons}
 use Rattle.start_file.proofs.Placing.{placing-sound}

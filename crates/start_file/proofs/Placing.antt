@@ -12,13 +12,12 @@ use Rattle.cell_base.specs.declared.shifts.Entry.{Entry}
 use Rattle.cell_base.specs.Fits.{CellFits, RequestFits}
 use Rattle.step_text.specs.Words.{words, joined}
 use Rattle.step_text.specs.Steps.{job_number, request_words}
-use Rattle.record_text.specs.Reading.{Words, after_word, done_at, is_end, number_at, place_at, place_fits, type_at}
+use Rattle.record_text.specs.Reading.{Words, after_word, done_at, is_end, number_at, place_at, place_fits, placing_of, type_at}
 use Rattle.record_text.specs.Ranges.{EntryIsWritten}
 use Rattle.record_text.proofs.Chains.{bind_some}
 use Rattle.record_text.proofs.Plain.{ArePlain, IsLine-joined, plain_again, plain_entry}
 use Rattle.record_text.proofs.Requesting.{ended-sound, place_at-complete, place_at-sound}
 use Rattle.record_text.proofs.Splitting.{IsLine}
-use Rattle.start_file.specs.Reading.{placing_of}
 use Rattle.start_file.specs.StartFiles.{IsPlacing}
 
 -- a request is a place

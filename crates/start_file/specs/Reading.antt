@@ -4,14 +4,10 @@ use Rattle.std.specs.Option.{option_map_or}
 use Rattle.cell_base.specs.declared.cells.Cell.{Cell}
 use Rattle.cell_base.specs.declared.requests.Request.{Request}
 use Rattle.step_text.specs.Words.{words}
-use Rattle.record_text.specs.Reading.{Words, ◌>>=◌, ended, place_at}
+use Rattle.record_text.specs.Reading.{placing_of}
 use Rattle.record_text.specs.declared.record.RecordFault.{RecordFault}
 use Rattle.record_text.specs.declared.record.RecordFault.TheVariants.{Bad, Memory}
 use Rattle.start_file.specs.declared.reading.TheConstants.{MAX_START_LINES}
-
--- the request that words place a part by
-unfoldable pub placing_of : Cell → Words → Option Request
-placing_of cell ws = place_at cell ws >>= λ read. ended read.0 read.1
 
 -- the same of a line that comes after those of so many requests
 abbrev pub next_of : Cell → List Request → List ℕ → Option Request

@@ -15,7 +15,6 @@
 
 pub mod laws;
 mod line;
-mod place;
 mod reading;
 
 pub use line::place_line;

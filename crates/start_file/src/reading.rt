@@ -7,9 +7,8 @@ ghost use Rattle.start_file.specs.Reading.{GivesStart, next_of, read_from};
 ghost use Rattle.start_file.specs.declared.reading.TheConstants.{MAX_START_LINES};
 ghost use Rattle.start_file.specs.StartFiles.{IsStartOf, StartRefusedAt};
 
-use crate::place::read_place;
 use cell_base::{Cell, List, Request};
-use record_text::{RecordFault, cut_line};
+use record_text::{RecordFault, cut_line, placing_of};
 use std::alloc::Global;
 
 /// The most bytes of a start file.
@@ -64,5 +63,5 @@ fn next_of(cell: &Cell, found: &List<Request>, line: &[u8]) -> Option<Request>
     if found.len() >= MAX_START_LINES {
         return None;
     }
-    read_place(cell, line)
+    placing_of(cell, line)
 }

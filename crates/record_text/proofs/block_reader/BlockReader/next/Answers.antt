@@ -7,7 +7,8 @@ use Rattle.record_text.specs.declared.stages.Stage.TheVariants.{Between}
 use Rattle.record_text.specs.Progress.{IsOpen, is_between, on_line}
 use Rattle.record_text.specs.Remains.{Remains, IsReadTo}
 use Rattle.record_text.proofs.Portions.{IsReadOn, none_read, one_read, some_bytes, true_false, block_read, refused_line, refused_end}
-use Rattle.record_text.proofs.block_reader.BlockReader.next.Goals.{else-is_empty-via-then-is_empty+else-self-gt1, else-is_empty-via-else-is_empty}
+use Rattle.record_text.proofs.block_reader.BlockReader.next.Goals.{else-is_empty-via-then-is_empty+else-self-gt1}
+use Rattle.record_text.proofs.block_reader.BlockReader.next.Goals.{else-is_empty-via-else-is_empty}
 use Rattle.record_text.proofs.block_reader.BlockReader.next.Goals as goal
 
 pub loop-more-init : goal.loop-more-init
