@@ -35,14 +35,26 @@ impl Model for Arrivals {
     ghost invariant = { λ s. IsTable s.log s.count s.room };
 }
 
-/// How many entries a log holds for each part that may stand at a time. So a part's entries are moved together once in many changes.
+/// How many entries a log holds for each part. So a part's entries are moved together once in many changes.
 const ENTRIES_A_PART: u32 = 4;
 
 /// How many seats there are for each part that may stand at a time. So a part that stays has a new seat once in as many arrivals.
 const SEATS_A_PART: u32 = 2;
 
+/// How many entries a log holds beside those, so that it isn't compacted all the time where few parts stand.
+const ENTRIES_BESIDE: u64 = 64;
+
+/// Whether a log of so many parts is to be compacted: it is full, or most of its entries are gone. So it takes no more memory than its
+/// parts want, however many there may be.
+fn is_worn(log: &Log, parts: u32) -> bool
+    ensures { result ≡ false → length log.now.entries < log.now.room }
+{
+    let wanted = u64::from(parts) * u64::from(ENTRIES_A_PART) + ENTRIES_BESIDE;
+    log.is_full() || u64::from(log.len()) >= wanted
+}
+
 /// Room for one more entry.
-fn make_room(log: &mut Log)
+fn make_room(log: &mut Log, parts: u32)
     requires distinct { HaveDistinctJobs (parts_of (staying log.old.entries)) }
     requires fits { length (staying log.old.entries) < log.old.room }
     ensures items { staying log.new.entries ≡ staying log.old.entries }
@@ -51,7 +63,7 @@ fn make_room(log: &mut Log)
     ensures resources { log.new.resources ≡ log.old.resources }
     ensures seats { log.new.seats ≡ log.old.seats }
 {
-    if log.is_full() {
+    if is_worn(log, parts) {
         log.compact();
     }
 }
@@ -177,7 +189,7 @@ impl Arrivals {
         ensures spare { self.new.spare + 1 ≡ self.old.spare }
         ensures resources { self.new.resources ≡ self.old.resources }
     {
-        make_room(&mut self.log);
+        make_room(&mut self.log, self.count);
         make_seat(&mut self.log);
         self.log.push(Standing { part, on });
         self.count += 1;
@@ -191,7 +203,7 @@ impl Arrivals {
         ensures spare { self.new.spare ≡ self.old.spare }
         ensures resources { self.new.resources ≡ self.old.resources }
     {
-        make_room(&mut self.log);
+        make_room(&mut self.log, self.count);
         if let Some(at) = self.log.place_near(job, clue.0) {
             self.log.advance(job, at, place, done, on);
         }

@@ -5,7 +5,7 @@
 //! is taken once, by `with_room`, and by no later call but `listed`, which makes a list.
 //!
 //! ```text
-//! let mut parts = Parts::with_room(alloc, &cell, 8)?;
+//! let mut parts = Parts::with_room(alloc, cell, 8)?;
 //! parts.arrive(part, on);
 //! if let Some(job) = parts.finish_first(on) {
 //!     parts.advance(job, place, false, next);
@@ -13,8 +13,8 @@
 //! ```
 //!
 //! The parts stand in a log: an arrival is a new entry at its end, a part that moves or leaves only marks its old entry as
-//! gone, and the entries that stay are moved together when the log is full, once in about three times as many arrivals as
-//! there may be parts. A hash table leads from a job to its seat, which it keeps while its part is there, and the seat to the
+//! gone, and the entries that stay are moved together when there are four times as many entries as parts, or the log is full:
+//! so a few parts stand in a few lines of memory, whatever the room is. A hash table leads from a job to its seat, which it keeps while its part is there, and the seat to the
 //! entry: so the table is written as a job comes in, and neither as its part goes on nor as entries are moved. Each entry leads to
 //! the next one that was told the same resource, be it gone or not, and each resource to its first entry that stays, to its first
 //! that stays and is not done, and to its last. So `get`, `first_on`, `first_waiting`, `finish`, `finish_first`, `len` and `spare`

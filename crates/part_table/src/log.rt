@@ -192,6 +192,13 @@ impl Log {
         self.chain.push(item, entry.seat);
     }
 
+    /// The number of entries, also of those that are gone.
+    pub fn len(&self) -> u32
+        ensures { result ≡ length self.now.entries }
+    {
+        self.chain.len()
+    }
+
     /// Whether no entry more fits.
     pub fn is_full(&self) -> bool
         ensures { result ≡ nat_le self.now.room (length self.now.entries) }

@@ -18,8 +18,8 @@ use std::marker::Model;
 /// the one of its stage.
 #[derive(Drop)]
 pub struct Parts {
-    /// A copy of the cell, which contracts alone read. (A `Snapshot` of it would have no bytes, but beside the seats of a durable cell it
-    /// leaves `Send` unproved.)
+    /// The cell, which contracts alone read. (A `Snapshot` of it would have no bytes, but beside the seats of a durable cell it leaves
+    /// `Send` unproved.)
     cell: Cell,
     arrivals: Arrivals,
 }
@@ -38,15 +38,14 @@ impl Model for Parts {
 
 impl Parts {
     /// An empty table of a cell with room for at least `n` parts.
-    pub fn with_room(alloc: Global, cell: &Cell, n: u32) -> Result<Parts, NoMemory>
-        requires few { length cell.now.resources ≤ MAX_RESOURCES }
+    pub fn with_room(alloc: Global, cell: Cell, n: u32) -> Result<Parts, NoMemory>
+        requires few { length cell.resources ≤ MAX_RESOURCES }
         requires room { n ≤ MAX_UNITS }
-        ensures cell { IfOk result (λ table. table.cell ≡ cell.now) }
+        ensures cell { IfOk result (λ table. table.cell ≡ cell) }
         ensures empty { IfOk result (λ table. table.parts ≡ []) }
         ensures spare { IfOk result (λ table. n ≤ table.spare) }
     {
         let arrivals = Arrivals::with_room(alloc, cell.resources.len() as u16, n)?;
-        let cell = cell.copied(alloc)?;
         Ok(Parts { cell, arrivals })
     }
 

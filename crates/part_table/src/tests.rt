@@ -55,7 +55,7 @@ fn assert_parts(
 fn a_table_is_made(rt: HostRuntime) -> Result<(), Fail> {
     let alloc = rt.alloc();
     let cell = cell_of(alloc, Name::read(b"M1").ok_or("a name")?)?;
-    let parts = Parts::with_room(alloc, &cell, 3)?;
+    let parts = Parts::with_room(alloc, cell, 3)?;
     assert_eq!(rt; parts.len(), 0);
     assert_eq!(rt; parts.find(JobId(7)), None);
     assert_eq!(rt; parts.find_on(ON), None);
@@ -66,7 +66,7 @@ fn a_table_is_made(rt: HostRuntime) -> Result<(), Fail> {
 fn a_part_goes_on_by_any_clue(rt: HostRuntime) -> Result<(), Fail> {
     let alloc = rt.alloc();
     let cell = cell_of(alloc, Name::read(b"M1").ok_or("a name")?)?;
-    let mut parts = Parts::with_room(alloc, &cell, 3)?;
+    let mut parts = Parts::with_room(alloc, cell, 3)?;
     parts.arrive(part(7, 0), ON);
     parts.arrive(part(8, 0), ON);
     let found = parts.find_on(ON).ok_or("a part")?;
@@ -84,7 +84,7 @@ fn a_part_goes_on_by_any_clue(rt: HostRuntime) -> Result<(), Fail> {
 fn a_part_leaves_by_any_clue(rt: HostRuntime) -> Result<(), Fail> {
     let alloc = rt.alloc();
     let cell = cell_of(alloc, Name::read(b"M1").ok_or("a name")?)?;
-    let mut parts = Parts::with_room(alloc, &cell, 3)?;
+    let mut parts = Parts::with_room(alloc, cell, 3)?;
     parts.arrive(part(7, 0), ON);
     parts.arrive(part(8, 0), ON);
     parts.arrive(part(9, 0), ON);

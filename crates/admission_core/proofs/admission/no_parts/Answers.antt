@@ -21,7 +21,7 @@ capacity_at cell r within =
 
 pub returns-clause-tallied : goal.returns-clause-tallied
 returns-clause-tallied c =
-    let cell = c.args.cell.now in
+    let cell = c.args.cell in
     let all : c.loop-resource.capacities ≡ map (λ (r : Resource). r.capacity) cell.resources =
     c.loop-resource.invariant ∙ ap (map (λ (r : Resource). r.capacity)) (take_all c.loop-resource.resource-index cell.resources
     (omega (arith, ap length c.as_slice-resource-items.ensures))) in
@@ -30,7 +30,7 @@ returns-clause-tallied c =
     let none = c.in_ok-parts.ensures.empty in
     record {
       same_cell = c.in_ok-parts.ensures.cell;
-      enough = omega (arith, c.in_ok-parts.ensures.spare, c.units.ensures);
+      enough = omega (arith, c.in_ok-parts.ensures.spare, c.units-room.ensures);
       counts = subst (λ (parts : List Part). AreCounts cell parts c.in_ok-counts.counts) (sym none) (record {
         complete = complete;
         each = λ r h. c.in_ok-counts.ensures.zero r;
