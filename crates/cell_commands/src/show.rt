@@ -9,7 +9,7 @@ ghost use Rattle.cell_walks.specs.Clauses.{disk_told, files_told, no_disk, obser
 ghost use Rattle.cell_commands.specs.Show.{member_lines, show, shown_outcome};
 
 use cell_base::{Cell, NoMemory, ResId};
-use cell_texts::{CommandEnd, print_line, read_cell};
+use cell_texts::{CellFile, CommandEnd, print_line, read_cell};
 use cell_walks::{EarlyEnd, Status, finish_early};
 use outside_io::{Disk, Failed, Files, Sink};
 use record_text::Line;
@@ -50,7 +50,7 @@ fn shown_of_files<F: Files>(alloc: Global, files: &mut F, cell: &str) -> Result<
     ensures masks { IfOk result (λ shown. shown.upstream ≡ masks_of shown.table) }
 {
     match read_cell(alloc, files, cell) {
-        Ok(held) => match shown_of(alloc, &held.cell) {
+        Ok(CellFile { cell, text: _ }) => match shown_of(alloc, cell) {
             Ok(shown) => Ok(shown),
             Err(_) => Err(EarlyEnd::WantOfMemory),
         },
@@ -59,12 +59,12 @@ fn shown_of_files<F: Files>(alloc: Global, files: &mut F, cell: &str) -> Result<
 }
 
 // What is shown of a cell.
-fn shown_of(alloc: Global, cell: &Cell) -> Result<Shown, NoMemory>
-    requires { CellFits cell.now }
-    ensures cell { IfOk result (λ shown. shown.table ≡ cell.now) }
+fn shown_of(alloc: Global, cell: Cell) -> Result<Shown, NoMemory>
+    requires { CellFits cell }
+    ensures cell { IfOk result (λ shown. shown.table ≡ cell) }
     ensures masks { IfOk result (λ shown. shown.upstream ≡ masks_of shown.table) }
 {
-    let table = StageTable::new(alloc, cell)?;
+    let table = StageTable::of(alloc, cell)?;
     let upstream = Upstream::new(alloc, &table)?;
     Ok(Shown { table, upstream })
 }

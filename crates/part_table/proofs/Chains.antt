@@ -46,7 +46,7 @@ chained_none entries next ends few none = record {
   links = λ k below. absurd (omega (arith, below));
   lasts = λ r within. record {
     here = λ below. absurd (omega (arith, below));
-    behind = λ k above below. absurd (omega (arith, below));
+    after = λ k above below. absurd (omega (arith, below));
     none = λ beyond k below. absurd (omega (arith, below));
     past = λ beyond. far (λ (e : Ends). e.last) r within refl;
   };
@@ -96,7 +96,7 @@ module _ (entries others : List Entry) (next after : List ℕ) (ends : List Ends
         (same_next (get_or (map told_key entries) k 0) k (get_or next k 0) (is.links k below)));
     lasts = λ r within. let last = is.lasts r within in record {
       here = λ below. told _ below ∙ last.here below;
-      behind = λ k above below has. last.behind k above below (sym (told k below) ∙ has);
+      after = λ k above below has. last.after k above below (sym (told k below) ∙ has);
       none = λ beyond k below has. last.none beyond k below (sym (told k below) ∙ has);
       past = last.past;
     };

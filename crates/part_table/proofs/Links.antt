@@ -27,7 +27,7 @@ module _ (told : List ℕ) (n r : ℕ) where
   last_kept place other more is = record {
     here = λ below. ⊎_elim (λ inside. is.here inside) (λ outside. absurd (omega (arith, below, more, is.past outside)))
         (cases_lt place n);
-    behind = λ k above within same. ⊎_elim (λ inside. is.behind k above inside same)
+    after = λ k above within same. ⊎_elim (λ inside. is.after k above inside same)
         (λ outside. other (subst (λ q. get_or told q 0 ≡ r) (omega (arith, within, outside)) same)) (cases_lt k n);
     none = λ beyond k within same. ⊎_elim (λ inside. is.none (omega (arith, beyond)) k inside same)
         (λ outside. other (subst (λ q. get_or told q 0 ≡ r) (omega (arith, within, outside)) same)) (cases_lt k n);
@@ -38,7 +38,7 @@ module _ (told : List ℕ) (n r : ℕ) where
   pub last_new : get_or told n 0 ≡ r → IsLast told (n + 1) r n
   last_new is = record {
     here = λ below. is;
-    behind = λ k above within. absurd (omega (arith, above, within));
+    after = λ k above within. absurd (omega (arith, above, within));
     none = λ beyond. absurd (omega (arith, beyond));
     past = λ beyond. absurd (omega (arith, beyond));
   }
@@ -57,7 +57,7 @@ module _ (told : List ℕ) (n r : ℕ) where
   next_of_last place inside same is = record {
     after = inside;
     here = λ below. same;
-    between = λ k above below within. is.behind k above below;
+    between = λ k above below within. is.after k above below;
     past = λ beyond. absurd (omega (arith, beyond));
   }
 
@@ -72,7 +72,7 @@ module _ (told next : List ℕ) (n last : ℕ) (links : LeadOn told next n) (is 
       none far = ⊎_elim
           (λ (there : last < n). ⊎_elim
           (λ (later : k < last). absurd ((links k inside).between last later (omega (arith, there, far)) there (is.here there ∙ same)))
-          (λ (other : last ≤ k). absurd (is.behind k (omega (arith, other, away)) inside (sym same)))
+          (λ (other : last ≤ k). absurd (is.after k (omega (arith, other, away)) inside (sym same)))
           (cases_lt k last))
           (λ (beyond : n ≤ last). absurd (is.none beyond k inside (sym same)))
           (cases_lt last n)

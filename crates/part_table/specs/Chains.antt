@@ -60,7 +60,7 @@ pub record IsNextOf (told : List ℕ) (count r from place : ℕ) : Type 0 where
 -- the last place that was told a resource, or one past every place where there is none
 pub record IsLast (told : List ℕ) (count r place : ℕ) : Type 0 where
   pub here : place < count → slice_index told place ≡ r
-  pub behind : (k : ℕ) → place < k → k < count → slice_index told k ≢ r
+  pub after : (k : ℕ) → place < k → k < count → slice_index told k ≢ r
   pub none : count ≤ place → (k : ℕ) → k < count → slice_index told k ≢ r
   pub past : count ≤ place → NOWHERE ≤ place
 

@@ -44,8 +44,8 @@ const SEATS_A_PART: u32 = 2;
 /// How many entries a log holds beside those, so that it isn't compacted all the time where few parts stand.
 const ENTRIES_BESIDE: u64 = 64;
 
-/// Whether a log of so many parts is to be compacted: it is full, or most of its entries are gone. So it takes no more memory than its
-/// parts want, however many there may be.
+/// Whether a log of so many parts is to be compacted. It is where the log is full; and where most of its entries are gone, which no
+/// contract asks for, so that it takes no more memory than its parts want, however many there may be.
 fn is_worn(log: &Log, parts: u32) -> bool
     ensures { result ≡ false → length log.now.entries < log.now.room }
 {

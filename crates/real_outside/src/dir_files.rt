@@ -6,6 +6,7 @@ use crate::failure::Failure;
 use crate::progress::Progress;
 use outside_io::{FileFail, Files};
 use std::alloc::Global;
+use std::fs::OpenFile;
 use std::io::{ErrorKind, Read};
 use std::rt::{Clock, Files as HostFiles};
 use std::{fs, io};
@@ -76,6 +77,19 @@ impl<'a, R: HostFiles + Clock + Eprint> DirFiles<'a, R> {
     }
 }
 
+// Makes room for what an open file holds at this moment, and a byte to see its end by, so that it is read in place. It is a guess: a
+// file that grows meanwhile, or a pipe, is read all the same.
+fn make_room<F: OpenFile>(file: &F, most: u64, out: &mut Vec<u8>) -> io::Result<()>
+    ensures { out.new.items ≡ out.old.items }
+{
+    let length = match file.metadata() {
+        Ok(found) => found.len(),
+        Err(_) => 0,
+    };
+    out.try_reserve_exact(length.min(most).saturating_add(1) as usize)?;
+    Ok(())
+}
+
 // Makes `out` the first bytes of an open file, or leaves nothing. A read that a signal cut short is tried again.
 fn read_first<R: Clock + Eprint, F: Read>(
     progress: &mut Progress<'_, R>,
@@ -141,6 +155,9 @@ impl<R: HostFiles + Clock + Eprint> Files for DirFiles<'_, R> {
             Ok(file) => file,
             Err(error) => return self.failed(alloc, "open", name, error),
         };
+        if let Err(error) = make_room(&file, limit + 1, out) {
+            return self.failed(alloc, "read", name, error);
+        }
         match read_first(&mut self.progress, &mut file, name, limit + 1, out) {
             Ok(()) => Ok(()),
             Err(error) => self.failed(alloc, "read", name, error),

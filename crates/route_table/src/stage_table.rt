@@ -45,7 +45,14 @@ impl StageTable {
         requires { CellFits cell.now }
         ensures { IfOk result (λ table. table ≡ cell.now) }
     {
-        let cell = cell.copied(alloc)?;
+        StageTable::of(alloc, cell.copied(alloc)?)
+    }
+
+    /// The table of a cell, which it keeps.
+    pub fn of(alloc: Global, cell: Cell) -> Result<StageTable, NoMemory>
+        requires { CellFits cell }
+        ensures { IfOk result (λ table. table ≡ cell) }
+    {
         let mut firsts = List::new(alloc);
         let mut entries = List::new(alloc);
         for kind in 0..cell.types.len() {
