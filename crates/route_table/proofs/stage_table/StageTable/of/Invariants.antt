@@ -3,7 +3,7 @@ use Rattle.std.proofs.Common.{◌≡◌, map}
 use Rattle.std.specs.List.{range_with_len, flat_map}
 use Rattle.cell_base.specs.Stages.{stages_of}
 use Rattle.route_table.specs.Entries.{entry_of, first_numbers}
-use Rattle.route_table.proofs.stage_table.StageTable.new.Given as goal
+use Rattle.route_table.proofs.stage_table.StageTable.of.Given as goal
 
 abbrev pub invariant-loop-kind : goal.invariant-loop-kind
 invariant-loop-kind l =
