@@ -15,7 +15,7 @@ returns-clause-allowed g c =
 pub returns-in-Ok-shown_of-clause-allowed : goal.returns-in-Ok-shown_of-clause-allowed
 returns-in-Ok-shown_of-clause-allowed g c =
     show_done (files_told g.F.Files.holds g.F.Files.is_sound g.F.Files.faults c.args.files.now c.read_cell.new.files) c.args.cell.now
-    (known c.in-Ok.held) _ c.in-Ok.ensures.read c.in-Ok-shown_of.ensures.cell
+    (known c.in-Ok.field-0) _ c.in-Ok.ensures.read c.in-Ok-shown_of.ensures.cell
 
 pub returns-in-Ok-clause-allowed : goal.returns-in-Ok-clause-allowed
 returns-in-Ok-clause-allowed g c =
