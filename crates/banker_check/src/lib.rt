@@ -44,6 +44,3 @@ mod ways;
 
 pub use hybrid::Hybrid;
 pub use replies::HybridReply;
-
-#[cfg(test)]
-mod tests;

@@ -18,6 +18,3 @@ mod starts;
 pub use begin::run_begin;
 pub use carry::run_carry;
 pub use refusals::{CarryFault, StartFault, Uncarried};
-
-#[cfg(test)]
-mod tests;

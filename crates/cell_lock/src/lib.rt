@@ -34,6 +34,3 @@ mod steps;
 pub use board::{Key, Law, Opening, View};
 pub use pass::Pass;
 pub use shared_cell::SharedCell;
-
-#[cfg(test)]
-mod tests;

@@ -18,6 +18,3 @@ mod names;
 mod shifts;
 
 pub use made::{Made, make};
-
-#[cfg(test)]
-mod tests;

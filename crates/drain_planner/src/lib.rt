@@ -19,6 +19,3 @@ mod plans;
 
 pub use drainer::Drainer;
 pub use plans::plan;
-
-#[cfg(test)]
-mod tests;

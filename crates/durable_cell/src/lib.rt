@@ -43,6 +43,3 @@ pub use replays::MAX_ROOM;
 pub use restored::{Restored, restore};
 pub use resumed::{Resumed, resume};
 pub use stored::Stored;
-
-#[cfg(test)]
-mod tests;

@@ -18,6 +18,3 @@ mod encoder;
 
 pub use decoder::decode;
 pub use encoder::{ENTRY_SIZE, encode};
-
-#[cfg(test)]
-mod tests;

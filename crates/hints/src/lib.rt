@@ -33,6 +33,3 @@ mod words;
 mod words_line;
 
 pub use ended::{Ended, hint};
-
-#[cfg(test)]
-mod tests;

@@ -18,6 +18,3 @@
 mod input_lines;
 
 pub use input_lines::{InputLines, LINE_KEPT};
-
-#[cfg(test)]
-mod tests;

@@ -34,6 +34,3 @@ pub use laws::acknowledged_law;
 pub use live::LiveCell;
 pub use opening::LiveOpening;
 pub use parted::LiveParts;
-
-#[cfg(test)]
-mod tests;

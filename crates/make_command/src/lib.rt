@@ -16,6 +16,3 @@ mod summary;
 
 pub use make::run_make;
 pub use summary::Summary;
-
-#[cfg(test)]
-mod tests;

@@ -17,6 +17,3 @@
 mod counts;
 
 pub use counts::Counts;
-
-#[cfg(test)]
-mod tests;

@@ -36,6 +36,3 @@ mod standing;
 
 pub use found::{Clue, Found};
 pub use parts::Parts;
-
-#[cfg(test)]
-mod tests;

@@ -3,7 +3,7 @@
 //!
 //! The programs `wishkabe` and `solo_program` hand these to their top calls, and nothing else uses them. Proved of each is that its calls
 //! are safe and return, and that a call answers a failure only where its count of faults rose. None tells what it holds, since no proof
-//! knows what a file does: that bytes go where they are meant to is tested, here and by `checks/real-outside`.
+//! knows what a file does: that bytes go where they are meant to is tested, by `journal_tests` and by `checks/real-outside`.
 //!
 //! ```text
 //! let mut files = DirFiles::new(&rt, false);
@@ -37,6 +37,3 @@ pub use regular_files::RegularFiles;
 pub use rest_pace::RestPace;
 pub use seen_sink::{Seen, SeenSink};
 pub use words::words_after_name;
-
-#[cfg(test)]
-mod tests;

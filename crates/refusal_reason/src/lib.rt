@@ -19,6 +19,3 @@ mod shown;
 
 pub use reasons::explain;
 pub use shown::{resource_line, show_text, write_member, write_stage};
-
-#[cfg(test)]
-mod tests;

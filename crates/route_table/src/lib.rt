@@ -21,6 +21,3 @@ mod entries;
 mod stage_table;
 
 pub use stage_table::{StageNo, StageTable};
-
-#[cfg(test)]
-mod tests;

@@ -24,6 +24,3 @@ mod serving;
 
 pub use asks::{Ask, MAX_ASK_BYTES, MAX_SESSION, read_ask};
 pub use command::{MAX_SERVED, run_serve};
-
-#[cfg(test)]
-mod tests;

@@ -26,6 +26,3 @@ mod walk;
 
 pub use checking::{check, check_text};
 pub use verdict::{Verdict, Why};
-
-#[cfg(test)]
-mod tests;

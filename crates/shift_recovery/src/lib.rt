@@ -33,6 +33,3 @@ pub use faults::JournalFault;
 pub use recoveries::{Opened, recover};
 pub use scans::{Scanned, scan};
 pub use takers::{Taker, Unkept};
-
-#[cfg(test)]
-mod tests;

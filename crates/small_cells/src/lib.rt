@@ -14,6 +14,3 @@ mod files;
 
 pub use cells::{add_machine, add_type, cell_of_one, crossing};
 pub use files::CROSSING;
-
-#[cfg(test)]
-mod tests;

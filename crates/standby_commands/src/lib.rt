@@ -17,6 +17,3 @@ mod refusals;
 
 pub use feed::run_feed;
 pub use follow::run_follow;
-
-#[cfg(test)]
-mod tests;

@@ -11,6 +11,3 @@
 mod torn_sink;
 
 pub use torn_sink::TornSink;
-
-#[cfg(test)]
-mod tests;

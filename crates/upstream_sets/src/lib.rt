@@ -21,6 +21,3 @@ mod sweep;
 mod upstream;
 
 pub use upstream::Upstream;
-
-#[cfg(test)]
-mod tests;

@@ -1,0 +1,152 @@
+//! Whole calls over objects in memory: the texts of both commands.
+use carry_commands::{run_begin, run_carry};
+use cell_base::{List, NoMemory};
+use cell_texts::CommandEnd;
+use outside_io::{MemDisk, MemFiles, MemSink};
+use std::alloc::Global;
+use std::test::Fail;
+
+/// Two machines with one place each, and two types that go through them in either direction.
+const NARROW: &str = r#"version = 1
+resource = [{ name = "M1", capacity = 1, order = 1 }, { name = "M2", capacity = 1, order = 2 }]
+type = [{ name = "A", route = ["M1", "M2"] }, { name = "Z", route = ["M2", "M1"] }]
+"#;
+
+/// The same with two places on the second machine.
+const WIDE: &str = r#"version = 1
+resource = [{ name = "M1", capacity = 1, order = 1 }, { name = "M2", capacity = 2, order = 2 }]
+type = [{ name = "A", route = ["M1", "M2"] }, { name = "Z", route = ["M2", "M1"] }]
+"#;
+
+/// The first type under another name.
+const RENAMED: &str = r#"version = 1
+resource = [{ name = "M1", capacity = 1, order = 1 }, { name = "M2", capacity = 1, order = 2 }]
+type = [{ name = "B", route = ["M1", "M2"] }, { name = "Z", route = ["M2", "M1"] }]
+"#;
+
+/// The first type in the other direction.
+const TURNED: &str = r#"version = 1
+resource = [{ name = "M1", capacity = 1, order = 1 }, { name = "M2", capacity = 1, order = 2 }]
+type = [{ name = "A", route = ["M2", "M1"] }, { name = "Z", route = ["M2", "M1"] }]
+"#;
+
+/// The second place of the first type doesn't work.
+const HOLDING: &str = r#"version = 1
+resource = [{ name = "M1", capacity = 1, order = 1 }, { name = "M2", capacity = 1, order = 2 }]
+type = [{ name = "A", route = ["M1", "M2:hold"] }, { name = "Z", route = ["M2", "M1"] }]
+"#;
+
+/// The exit status, what was printed, and the disk after it.
+#[derive(Drop)]
+struct CallEnd {
+    status: u8,
+    out: MemSink,
+    disk: MemDisk,
+}
+
+fn begin(alloc: Global, cell: &str, start: &str, journal: &[u8]) -> Result<CallEnd, NoMemory> {
+    let mut files = MemFiles::new(alloc, List::new(alloc));
+    files.add("cell", cell.as_bytes())?;
+    files.add("start", start.as_bytes())?;
+    let mut out = MemSink::new(alloc, List::new(alloc));
+    let disk = MemDisk::new(alloc, journal, List::new(alloc))?;
+    let CommandEnd { status, disk } = run_begin(alloc, &mut files, &mut out, "cell", "start", disk);
+    Ok(CallEnd {
+        status: status.number(),
+        out,
+        disk,
+    })
+}
+
+fn carry(alloc: Global, old: &str, new: &str, journal: &[u8]) -> Result<CallEnd, NoMemory> {
+    let mut files = MemFiles::new(alloc, List::new(alloc));
+    files.add("old", old.as_bytes())?;
+    files.add("new", new.as_bytes())?;
+    let mut out = MemSink::new(alloc, List::new(alloc));
+    let disk = MemDisk::new(alloc, journal, List::new(alloc))?;
+    let CommandEnd { status, disk } = run_carry(alloc, &mut files, &mut out, "old", "new", disk);
+    Ok(CallEnd {
+        status: status.number(),
+        out,
+        disk,
+    })
+}
+
+const ON_M2: &str = "place 7 A 1 waiting\n";
+
+const BOTH: &str = "place 7 A 0 waiting\nplace 8 Z 0 waiting\n";
+
+#[test]
+fn begun_and_gone_on_with(rt: HostRuntime) -> Result<(), Fail> {
+    let alloc = rt.alloc();
+    let first = begin(alloc, WIDE, ON_M2, b"")?;
+    assert_eq!(rt; first.status, 0);
+    let text: &[u8] =
+        b"shift 0 after 0\n0 place 7 A 1 waiting granted\nleft 1\nplan 2\nprocess M2\nunload 7\n";
+    assert_eq!(rt; first.out.bytes(), text);
+    let again = begin(alloc, WIDE, ON_M2, first.disk.bytes())?;
+    assert_eq!(rt; again.status, 0);
+    let text: &[u8] = b"shift 0 after 1\nleft 1\nplan 2\nprocess M2\nunload 7\n";
+    assert_eq!(rt; again.out.bytes(), text);
+    let other = begin(alloc, WIDE, BOTH, first.disk.bytes())?;
+    assert_eq!(rt; other.status, 6);
+    let text: &[u8] = b"journal refused 6 0\n";
+    assert_eq!(rt; other.out.bytes(), text);
+    Ok(())
+}
+
+#[test]
+fn starts_refused(rt: HostRuntime) -> Result<(), Fail> {
+    let alloc = rt.alloc();
+    let table: [(&str, u8, &[u8]); 5] = [
+        ("", 0, b"shift 0 after 0\nleft 0\nplan 0\n"),
+        (
+            "place 7 A 0 waiting\nplace 7 A 0 waiting\n",
+            10,
+            b"start refused 2 job-loaded\n",
+        ),
+        (BOTH, 10, b"start refused 2 saturated M2 1 of 1\n"),
+        ("place 7 A 0 waiting\nload 8 Z\n", 5, b"record refused 2\n"),
+        ("place 7 A 1 waiting", 5, b"record refused 1\n"),
+    ];
+    for (start, status, text) in table {
+        let told = begin(alloc, NARROW, start, b"")?;
+        assert_eq!(rt; told.out.bytes(), text);
+        assert_eq!(rt; told.status, status);
+    }
+    Ok(())
+}
+
+#[test]
+fn carried_and_refused(rt: HostRuntime) -> Result<(), Fail> {
+    let alloc = rt.alloc();
+    let table: [(&str, &str, &str, u8, &[u8]); 7] = [
+        (NARROW, ON_M2, WIDE, 0, b"place 7 A 1 waiting\n"),
+        (NARROW, ON_M2, HOLDING, 0, b"place 7 A 1 done\n"),
+        (NARROW, "", WIDE, 0, b""),
+        (
+            WIDE,
+            BOTH,
+            WIDE,
+            0,
+            b"place 7 A 0 waiting\nplace 8 Z 0 waiting\n",
+        ),
+        (NARROW, ON_M2, RENAMED, 10, b"carry refused 7 type\n"),
+        (NARROW, ON_M2, TURNED, 10, b"carry refused 7 place\n"),
+        (
+            WIDE,
+            BOTH,
+            NARROW,
+            10,
+            b"carry refused 8 saturated M2 1 of 1\n",
+        ),
+    ];
+    for (old, start, new, status, text) in table {
+        let begun = begin(alloc, old, start, b"")?;
+        let told = carry(alloc, old, new, begun.disk.bytes())?;
+        assert_eq!(rt; told.out.bytes(), text);
+        assert_eq!(rt; told.status, status);
+        assert_eq!(rt; told.disk.bytes(), begun.disk.bytes());
+    }
+    Ok(())
+}

@@ -1,0 +1,163 @@
+//! A conversation over objects in memory: in pieces of each size, and with each call of the outside failing in its turn.
+use cell_base::List;
+use cell_texts::CommandEnd;
+use cell_walks::Status;
+use outside_io::{CallKind, DiskCall, MemDisk, MemFiles, MemSink, MemSource};
+use serve_command::run_serve;
+use std::alloc::Global;
+use std::sync::Wait;
+use std::test::Fail;
+
+const CELL: &[u8] =
+    b"version = 1\n[[resource]]\nname = \"M1\"\ncapacity = 1\norder = 1\n[[resource]]\nname = \"M2\"\ncapacity = 1\norder = 2\n\
+      [[type]]\nname = \"A\"\nroute = [\"M1\", \"M2\"]\n[[type]]\nname = \"Z\"\nroute = [\"M2\", \"M1\"]\n";
+
+const ASKED: &[u8] =
+    b"left\n1 load 7 A\n2 load 8 Z\n1 grants\nwhy load 8 Z\n1 process M1\n0 move 7\n1 move 7";
+
+const ANSWERED: &[u8] =
+    b"shift 0 after 0\nleft 0\n1 load 7 A granted\n2 load 8 Z refused saturated M2 1 of 1\n1 grants 1\n\
+      why load 8 Z refused saturated M2 1 of 1\n1 process M1 granted\nline refused 7\nleft 1\nplan 3\nmove 7\nprocess M2\nunload 7\n";
+
+// How a conversation ended, what was put, and what the disk holds.
+#[derive(Drop)]
+struct Held {
+    status: Status,
+    put: Vec<u8>,
+    journal: Vec<u8>,
+}
+
+// A list of one number.
+fn only(alloc: Global, number: u64) -> Result<List<u64>, Fail> {
+    let mut list = List::new(alloc);
+    list.try_push(number)?;
+    Ok(list)
+}
+
+// A conversation after a journal, in pieces of this size; the listed reads, puts and calls of the disk fail.
+fn hold<R: Wait>(
+    rt: &R,
+    alloc: Global,
+    journal: &[u8],
+    piece: usize,
+    reads: List<u64>,
+    puts: List<u64>,
+    calls: List<DiskCall>,
+) -> Result<Held, Fail> {
+    let mut files = MemFiles::new(alloc, List::new(alloc));
+    files.add("cell", CELL)?;
+    let mut input = MemSource::new(alloc, ASKED, piece, reads)?;
+    let mut out = MemSink::new(alloc, puts);
+    let disk = MemDisk::new(alloc, journal, calls)?;
+    let CommandEnd { status, disk } = run_serve(
+        rt, alloc, &mut files, &mut input, &mut out, "cell", disk,
+    );
+    Ok(Held {
+        status,
+        put: Vec::from_slice(alloc, out.bytes())?,
+        journal: Vec::from_slice(alloc, disk.bytes())?,
+    })
+}
+
+#[test]
+fn the_answers_are_the_same_for_each_size_of_the_pieces(rt: HostRuntime) -> Result<(), Fail> {
+    let alloc = rt.alloc();
+    for piece in [1, 2, 7, 19, 4096] {
+        let held = hold(
+            &rt,
+            alloc,
+            b"",
+            piece,
+            List::new(alloc),
+            List::new(alloc),
+            List::new(alloc),
+        )?;
+        assert_eq!(rt; held.status, Status::Done);
+        assert_eq!(rt; held.put.as_slice(), ANSWERED);
+        let later = hold(
+            &rt,
+            alloc,
+            held.journal.as_slice(),
+            piece,
+            List::new(alloc),
+            List::new(alloc),
+            List::new(alloc),
+        )?;
+        assert_eq!(rt; later.status, Status::Done);
+        assert!(rt;
+            later.put.as_slice().starts_with(
+                b"shift 0 after 2\nleft 1\n1 load 7 A refused job-loaded\n"
+            )
+        );
+    }
+    Ok(())
+}
+
+#[test]
+fn a_put_that_fails_cuts_the_answers(rt: HostRuntime) -> Result<(), Fail> {
+    let alloc = rt.alloc();
+    for put in 1..14 {
+        let held = hold(
+            &rt,
+            alloc,
+            b"",
+            64,
+            List::new(alloc),
+            only(alloc, put)?,
+            List::new(alloc),
+        )?;
+        assert_eq!(rt; held.status, Status::SinkFault);
+        assert!(rt; ANSWERED.starts_with(held.put.as_slice()));
+    }
+    Ok(())
+}
+
+#[test]
+fn a_read_that_fails_ends_after_the_answers(rt: HostRuntime) -> Result<(), Fail> {
+    let alloc = rt.alloc();
+    let held = hold(
+        &rt,
+        alloc,
+        b"",
+        17,
+        only(alloc, 2)?,
+        List::new(alloc),
+        List::new(alloc),
+    )?;
+    assert_eq!(rt; held.status, Status::ReadFault);
+    assert_eq!(rt;
+        held.put.as_slice(),
+        b"shift 0 after 0\nleft 0\n1 load 7 A granted\nread fault\n".as_slice()
+    );
+    Ok(())
+}
+
+#[test]
+fn a_sync_that_fails_halts_the_first_grant(rt: HostRuntime) -> Result<(), Fail> {
+    let alloc = rt.alloc();
+    for nth in 1..16 {
+        let mut calls = List::new(alloc);
+        calls.try_push(DiskCall {
+            kind: CallKind::Sync,
+            nth,
+        })?;
+        let held = hold(
+            &rt,
+            alloc,
+            b"",
+            4096,
+            List::new(alloc),
+            List::new(alloc),
+            calls,
+        )?;
+        let halted = b"shift 0 after 0\nleft 0\n1 load 7 A halted\n".as_slice();
+        let put = held.put.as_slice();
+        match held.status {
+            Status::DeviceFault => assert!(rt;
+                put == b"device fault\n".as_slice() || put == halted
+            ),
+            status => assert_eq!(rt; status, Status::Done),
+        }
+    }
+    Ok(())
+}

@@ -1,0 +1,57 @@
+//! The same lines for each way in which a text may come.
+use cell_base::List;
+use input_lines::InputLines;
+use outside_io::MemSource;
+use std::alloc::Global;
+use std::test::Fail;
+
+const TEXT: &[u8] =
+    b"1 load 7 A\n\nleft\n1234567890123456789012345678901234567890123456789012345678901234567890\n\
+      \r\n2 move 7";
+
+const LINES: &[u8] =
+    b"1 load 7 A||left|12345678901234567890123456789012345678901234567890123456789012345|\r|";
+
+// The lines of a text that comes in such pieces, each with a bar.
+fn barred(alloc: Global, piece: usize) -> Result<Vec<u8>, Fail> {
+    let mut source = MemSource::new(alloc, TEXT, piece, List::new(alloc))?;
+    let mut lines = InputLines::new(alloc)?;
+    let mut barred = Vec::new(alloc);
+    for _ in 0..1000 {
+        if lines.next_line() {
+            barred.extend_from_slice(lines.line())?;
+            barred.push(b'|')?;
+        } else if let Ok(0) = lines.fill(&mut source) {
+            break;
+        }
+    }
+    Ok(barred)
+}
+
+#[test]
+fn lines_are_the_same_for_each_size_of_the_pieces(rt: HostRuntime) -> Result<(), Fail> {
+    for piece in [1, 2, 3, 7, 11, 12, 64, 65, 66, 4096] {
+        let lines = barred(rt.alloc(), piece)?;
+        assert_eq!(rt; lines.as_slice(), LINES);
+    }
+    Ok(())
+}
+
+#[test]
+fn a_read_that_fails_loses_nothing(rt: HostRuntime) -> Result<(), Fail> {
+    let alloc = rt.alloc();
+    let mut fails = List::new(alloc);
+    fails.try_push(2)?;
+    let mut source = MemSource::new(alloc, b"left\n", 3, fails)?;
+    let mut lines = InputLines::new(alloc)?;
+    let mut given = Vec::new(alloc);
+    for _ in 0..5 {
+        if lines.next_line() {
+            given.extend_from_slice(lines.line())?;
+        } else if lines.fill(&mut source).is_err() {
+            given.push(b'!')?;
+        }
+    }
+    assert_eq!(rt; given.as_slice(), b"!left".as_slice());
+    Ok(())
+}

@@ -1,0 +1,180 @@
+//! What no clause says: what the calls do to real files, in the folder that a test runs in. `checks/real-outside` tests the rest.
+use outside_io::{Disk, Failed, FileFail, Files, Pace, Sink, Source};
+use real_outside::{DirFiles, FileDisk, InSource, OutSink, Purpose, RestPace};
+use std::fs;
+use std::io::{self, Error, ErrorKind, Read, Write};
+use std::test::Fail;
+use std::time::{Duration, Instant};
+
+#[test]
+fn a_file_is_read_up_to_its_limit(rt: HostRuntime) -> Result<(), Fail> {
+    fs::write(&rt, "read.toml", "version = 1")?;
+    let mut files = DirFiles::new(&rt, false);
+    let mut out = Vec::new(rt.alloc());
+    for (limit, wanted) in [
+        (0, "v"),
+        (6, "version"),
+        (10, "version = 1"),
+        (4294967295, "version = 1"),
+    ] {
+        assert_eq!(rt;
+            files.read_file(rt.alloc(), "read.toml", limit, &mut out),
+            Ok(())
+        );
+        assert_eq!(rt; out.as_slice(), wanted.as_bytes());
+    }
+    for name in ["absent.toml", ".", ""] {
+        assert_eq!(rt;
+            files.read_file(rt.alloc(), name, 6, &mut out),
+            Err(FileFail::Failed)
+        );
+        assert_eq!(rt; out.len(), 0);
+    }
+    fs::remove_file(&rt, "read.toml")?;
+    Ok(())
+}
+
+fn may_be_sent<T: Send>(value: T) -> T {
+    value
+}
+
+#[test]
+fn a_journal_is_written_and_read_back(rt: HostRuntime) -> Result<(), Fail> {
+    let alloc = rt.alloc();
+    let mut bytes = [0u8; 4];
+    {
+        let mut disk = may_be_sent(FileDisk::new(&rt, alloc, "journal", Purpose::ToAdd, false));
+        assert_eq!(rt; disk.len(), Ok(0));
+        assert_eq!(rt; disk.write_at(0, b"abc"), Ok(()));
+        assert_eq!(rt; disk.sync(), Ok(()));
+        assert_eq!(rt; disk.write_at(2, b"de"), Ok(()));
+        assert_eq!(rt; disk.read_at(0, &mut bytes), Ok(()));
+        assert_eq!(rt; bytes.as_slice(), b"abde".as_slice());
+        assert_eq!(rt; disk.read_at(1, &mut bytes), Err(Failed));
+        for purpose in [Purpose::ToRead, Purpose::ToAdd] {
+            assert_eq!(rt;
+                FileDisk::new(&rt, alloc, "journal", purpose, false).len(),
+                Err(Failed)
+            );
+        }
+    }
+    let mut one = FileDisk::new(&rt, alloc, "journal", Purpose::ToRead, false);
+    let mut other = FileDisk::new(&rt, alloc, "journal", Purpose::ToRead, false);
+    assert_eq!(rt; one.sync(), Ok(()));
+    assert_eq!(rt; other.len(), Ok(4));
+    assert_eq!(rt; one.write_at(0, b"x"), Err(Failed));
+    assert_eq!(rt;
+        FileDisk::new(&rt, alloc, "journal", Purpose::ToAdd, false).len(),
+        Err(Failed)
+    );
+    fs::remove_file(&rt, "journal")?;
+    Ok(())
+}
+
+#[test]
+fn only_a_regular_file_is_a_journal(rt: HostRuntime) -> Result<(), Fail> {
+    for name in [".", "/dev/null", "", "absent/journal"] {
+        let mut disk = FileDisk::new(&rt, rt.alloc(), name, Purpose::ToAdd, false);
+        assert_eq!(rt; disk.write_at(0, b"a"), Err(Failed));
+        assert_eq!(rt; disk.sync(), Err(Failed));
+    }
+    for name in [".", "/dev/null", ""] {
+        let mut disk = FileDisk::new(&rt, rt.alloc(), name, Purpose::ToRead, false);
+        assert_eq!(rt; disk.len(), Err(Failed));
+    }
+    let mut disk = FileDisk::new(&rt, rt.alloc(), "absent", Purpose::ToRead, false);
+    assert_eq!(rt; disk.sync(), Ok(()));
+    assert_eq!(rt; disk.len(), Ok(0));
+    assert_eq!(rt; disk.read_at(0, &mut []), Ok(()));
+    assert_eq!(rt; disk.read_at(0, &mut [0]), Err(Failed));
+    assert_eq!(rt; disk.write_at(0, b"a"), Err(Failed));
+    assert!(rt; !fs::exists(&rt, "absent")?);
+    Ok(())
+}
+
+// A writer of at most one byte a call. It is interrupted at its first call, and fails where a `!` comes.
+#[derive(Drop)]
+struct Slow {
+    taken: Vec<u8>,
+    was_interrupted: bool,
+}
+
+impl Write for Slow {
+    fn write(&mut self, piece: &[u8]) -> io::Result<usize> {
+        if !self.was_interrupted {
+            self.was_interrupted = true;
+            return Err(Error::from(ErrorKind::Interrupted));
+        }
+        match piece {
+            [] => Ok(0),
+            [b'!', ..] => Err(Error::from(ErrorKind::StorageFull)),
+            [first, ..] => {
+                self.taken.push(*first)?;
+                Ok(1)
+            }
+        }
+    }
+
+    fn flush(&mut self) -> io::Result<()> {
+        Ok(())
+    }
+}
+
+#[test]
+fn a_put_writes_all_or_fails(rt: HostRuntime) -> Result<(), Fail> {
+    let mut writer = Slow {
+        taken: Vec::new(rt.alloc()),
+        was_interrupted: false,
+    };
+    let mut out = OutSink::new(&mut writer);
+    assert_eq!(rt; out.put(b"yes\n"), Ok(()));
+    assert_eq!(rt; out.put(b"no!\n"), Err(Failed));
+    assert_eq!(rt; out.flush(), Ok(()));
+    assert_eq!(rt; writer.taken.as_slice(), b"yes\nno".as_slice());
+    Ok(())
+}
+
+// A reader whose calls answer in turn: a signal, two bytes, a failure, and the end.
+#[derive(Drop)]
+struct Broken {
+    calls: u64,
+}
+
+impl Read for Broken {
+    fn read(&mut self, out: &mut [u8]) -> io::Result<usize> {
+        self.calls = self.calls.saturating_add(1);
+        match (self.calls, out) {
+            (1, _) => Err(Error::from(ErrorKind::Interrupted)),
+            (2, [first, second, ..]) => {
+                *first = b'o';
+                *second = b'k';
+                Ok(2)
+            }
+            (3, _) => Err(Error::from(ErrorKind::WouldBlock)),
+            _ => Ok(0),
+        }
+    }
+}
+
+#[test]
+fn a_read_that_a_signal_cuts_short_is_made_again(rt: HostRuntime) -> Result<(), Fail> {
+    let mut reader = Broken { calls: 0 };
+    let mut source = InSource::new(&mut reader);
+    let mut bytes = [0u8; 4];
+    assert_eq!(rt; source.next_piece(&mut bytes), Ok(2));
+    assert_eq!(rt; bytes.as_slice(), b"ok\0\0".as_slice());
+    assert_eq!(rt; source.next_piece(&mut bytes), Err(Failed));
+    assert_eq!(rt; source.next_piece(&mut bytes), Ok(0));
+    assert_eq!(rt; reader.calls, 4);
+    Ok(())
+}
+
+#[test]
+fn a_session_rests_before_each_ask_but_the_first(rt: HostRuntime) -> Result<(), Fail> {
+    let pace = RestPace::new(&rt);
+    let start = Instant::now(&rt)?;
+    pace.turn(&rt, 1, 0);
+    pace.turn(&rt, 1, 1);
+    assert!(rt; start.elapsed(&rt)? >= Duration::from_millis(1));
+    Ok(())
+}

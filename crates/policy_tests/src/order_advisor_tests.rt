@@ -1,0 +1,90 @@
+//! That memory is had, and the advice for small cells.
+use cell_base::{Cell, JobType, List, Name, ResId, Resource, Step, cell_fits};
+use order_advisor::{AdviceFault, advise, arrange};
+use std::alloc::Global;
+use std::test::Fail;
+
+/// Machines of one unit with these orders, and one type that goes through all of them in turn.
+fn in_a_row(alloc: Global, orders: &[u32]) -> Result<Cell, Fail> {
+    let mut resources = List::new(alloc);
+    let mut route = List::new(alloc);
+    let mut next = List::new(alloc);
+    for r in 0..orders.len().min(26) {
+        resources.try_push(Resource {
+            name: Name::read(&[b'A' + r as u8]).ok_or("a name")?,
+            capacity: 1,
+            order: orders[r],
+        })?;
+        route.try_push(Step {
+            on: ResId(r as u16),
+            works: true,
+        })?;
+        let mut places = List::new(alloc);
+        if r + 1 < orders.len().min(26) {
+            places.try_push(r as u16 + 1)?;
+        }
+        next.try_push(places)?;
+    }
+    let mut types = List::new(alloc);
+    types.try_push(JobType {
+        name: Name::read(b"T").ok_or("a name")?,
+        route,
+        next,
+    })?;
+    Ok(Cell { resources, types })
+}
+
+/// Two machines of one unit, and two types that go through both in opposite orders.
+fn both_ways(alloc: Global, second_order: u32) -> Result<Cell, Fail> {
+    let mut cell = in_a_row(alloc, &[1, second_order])?;
+    let step = |r: u16| Step {
+        on: ResId(r),
+        works: true,
+    };
+    let mut next = List::new(alloc);
+    next.try_push(List::copy_of(alloc, &[1u16])?)?;
+    next.try_push(List::new(alloc))?;
+    cell.types.try_push(JobType {
+        name: Name::read(b"Z").ok_or("a name")?,
+        route: List::copy_of(alloc, &[step(1), step(0)])?,
+        next,
+    })?;
+    Ok(cell)
+}
+
+#[test]
+fn of_two_lists_that_weigh_the_same_the_first_is_given(rt: HostRuntime) -> Result<(), Fail> {
+    for (second_order, given) in [(2u32, 5u64), (1, 6)] {
+        let cell = both_ways(rt.alloc(), second_order)?;
+        assert!(rt; cell_fits(&cell));
+        let advice = advise(rt.alloc(), &cell).map_err(|_| "advice")?;
+        assert!(rt; advice.orders.as_slice() == [1, 2].as_slice());
+        assert!(rt; advice.weight == 5);
+        assert!(rt; advice.given == given);
+    }
+    Ok(())
+}
+
+#[test]
+fn the_last_machine_comes_first(rt: HostRuntime) -> Result<(), Fail> {
+    let cell = in_a_row(rt.alloc(), &[1, 2, 3])?;
+    assert!(rt; cell_fits(&cell));
+    let advice = advise(rt.alloc(), &cell).map_err(|_| "advice")?;
+    assert!(rt; advice.orders.as_slice() == [3, 2, 1].as_slice());
+    assert!(rt; advice.weight == 3);
+    assert!(rt; advice.given == 6);
+    Ok(())
+}
+
+#[test]
+fn eight_machines_are_for_the_larger_table(rt: HostRuntime) -> Result<(), Fail> {
+    let cell = in_a_row(rt.alloc(), &[1, 1, 1, 1, 1, 1, 1, 1])?;
+    assert!(rt; cell_fits(&cell));
+    let refused = advise(rt.alloc(), &cell).err();
+    assert!(rt; refused == Some(AdviceFault::TooManyResources { count: 8 }));
+    let advice = arrange(rt.alloc(), &cell).map_err(|_| "advice")?;
+    assert!(rt; advice.orders.as_slice() == [8, 7, 6, 5, 4, 3, 2, 1].as_slice());
+    assert!(rt; advice.weight == 8);
+    assert!(rt; advice.given == 36);
+    Ok(())
+}

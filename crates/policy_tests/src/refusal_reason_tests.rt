@@ -1,0 +1,64 @@
+//! Why requests are refused in a small cell, and what that cell shows.
+ghost use Rattle.cell_base.specs.Fits.{RequestFits};
+
+use admission_core::Core;
+use cell_base::{
+    JobId, List, NoMemory, Refusal, Reply, Request, ResId, TypeId, cell_fits, request_fits,
+};
+use refusal_reason::{explain, laws, show_text};
+use small_cells::crossing;
+use std::alloc::Global;
+use std::test::Fail;
+
+/// The jobs that stand in the way of a request, if it is refused.
+fn jobs_in_the_way(alloc: Global, core: &Core, request: &Request) -> Result<List<JobId>, NoMemory>
+    requires { RequestFits core.now.cell request.now }
+{
+    match core.decide(request) {
+        Reply::Refused(why) => {
+            laws::refusal_is_present(core, request, &why);
+            explain(alloc, core, &why)
+        }
+        Reply::Granted => Ok(List::new(alloc)),
+    }
+}
+
+#[test]
+fn refusals_are_explained(rt: HostRuntime) -> Result<(), Fail> {
+    let cell = crossing(rt.alloc())?;
+    assert!(rt; cell_fits(&cell));
+    let mut core = Core::open(rt.alloc(), cell)?;
+    let first = Request::Load {
+        job: JobId(7),
+        kind: TypeId(0),
+    };
+    let second = Request::Load {
+        job: JobId(8),
+        kind: TypeId(1),
+    };
+    assert!(rt; request_fits(core.cell(), &first));
+    assert_eq!(rt; core.ask(&first), Reply::Granted);
+    assert!(rt; request_fits(core.cell(), &second));
+    let full = Refusal::Saturated {
+        at: ResId(1),
+        count: 1,
+        capacity: 1,
+    };
+    assert_eq!(rt; core.decide(&second), Reply::Refused(full));
+    assert!(rt; jobs_in_the_way(rt.alloc(), &core, &second)?.as_slice() == [JobId(7)].as_slice());
+    assert_eq!(rt; explain(rt.alloc(), &core, &Refusal::Idle)?.len(), 0);
+    Ok(())
+}
+
+#[test]
+fn neighborhoods_are_shown(rt: HostRuntime) -> Result<(), Fail> {
+    let cell = crossing(rt.alloc())?;
+    assert!(rt; cell_fits(&cell));
+    let core = Core::open(rt.alloc(), cell)?;
+    let text = show_text(rt.alloc(), &core)?;
+    assert!(rt;
+        text.as_slice()
+            .starts_with(b"resource M1 capacity 1 order 1\n")
+    );
+    Ok(())
+}

@@ -1,0 +1,24 @@
+//! That memory is had, and the neighborhoods of two machines.
+use cell_base::{ResId, cell_fits};
+use route_table::{StageNo, StageTable};
+use small_cells::crossing;
+use std::test::Fail;
+use upstream_sets::Upstream;
+
+/// What other threads may have.
+fn may_be_shared<T: Send + Sync>(value: T) -> T {
+    value
+}
+
+#[test]
+fn neighborhoods_are_told(rt: HostRuntime) -> Result<(), Fail> {
+    let cell = crossing(rt.alloc())?;
+    assert!(rt; cell_fits(&cell));
+    let table = StageTable::new(rt.alloc(), &cell)?;
+    let upstream = may_be_shared(Upstream::new(rt.alloc(), &table)?);
+    let first = upstream.members(rt.alloc(), ResId(0))?;
+    assert!(rt; first.as_slice() == [StageNo(0), StageNo(3)].as_slice());
+    let second = upstream.members(rt.alloc(), ResId(1))?;
+    assert!(rt; second.as_slice() == [StageNo(0), StageNo(1), StageNo(2)].as_slice());
+    Ok(())
+}
