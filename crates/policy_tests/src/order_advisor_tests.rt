@@ -1,54 +1,26 @@
 //! That memory is had, and the advice for small cells.
-use cell_base::{Cell, JobType, List, Name, ResId, Resource, Step, cell_fits};
+use cell_base::{Cell, List, NoMemory, cell_fits};
 use order_advisor::{AdviceFault, advise, arrange};
+use small_cells::{add_machine, add_type};
 use std::alloc::Global;
 use std::test::Fail;
 
 /// Machines of one unit with these orders, and one type that goes through all of them in turn.
-fn in_a_row(alloc: Global, orders: &[u32]) -> Result<Cell, Fail> {
+fn in_a_row(alloc: Global, orders: &[u32]) -> Result<Cell, NoMemory> {
     let mut resources = List::new(alloc);
-    let mut route = List::new(alloc);
-    let mut next = List::new(alloc);
-    for r in 0..orders.len().min(26) {
-        resources.try_push(Resource {
-            name: Name::read(&[b'A' + r as u8]).ok_or("a name")?,
-            capacity: 1,
-            order: orders[r],
-        })?;
-        route.try_push(Step {
-            on: ResId(r as u16),
-            works: true,
-        })?;
-        let mut places = List::new(alloc);
-        if r + 1 < orders.len().min(26) {
-            places.try_push(r as u16 + 1)?;
-        }
-        next.try_push(places)?;
+    for (order, name) in orders.iter().zip(b"ABCDEFGH") {
+        add_machine(&mut resources, &[*name], *order)?;
     }
+    let all = [0, 1, 2, 3, 4, 5, 6, 7];
     let mut types = List::new(alloc);
-    types.try_push(JobType {
-        name: Name::read(b"T").ok_or("a name")?,
-        route,
-        next,
-    })?;
+    add_type(alloc, &mut types, b"T", &all[..orders.len().min(8)])?;
     Ok(Cell { resources, types })
 }
 
 /// Two machines of one unit, and two types that go through both in opposite orders.
-fn both_ways(alloc: Global, second_order: u32) -> Result<Cell, Fail> {
+fn both_ways(alloc: Global, second_order: u32) -> Result<Cell, NoMemory> {
     let mut cell = in_a_row(alloc, &[1, second_order])?;
-    let step = |r: u16| Step {
-        on: ResId(r),
-        works: true,
-    };
-    let mut next = List::new(alloc);
-    next.try_push(List::copy_of(alloc, &[1u16])?)?;
-    next.try_push(List::new(alloc))?;
-    cell.types.try_push(JobType {
-        name: Name::read(b"Z").ok_or("a name")?,
-        route: List::copy_of(alloc, &[step(1), step(0)])?,
-        next,
-    })?;
+    add_type(alloc, &mut cell.types, b"Z", &[1, 0])?;
     Ok(cell)
 }
 
