@@ -17,6 +17,6 @@ fn table_is_made(rt: HostRuntime) -> Result<(), Fail> {
     assert_eq!(rt; table.stages(), 4);
     assert_eq!(rt; table.stage_of(TypeId(1), 1), Some(StageNo(3)));
     assert_eq!(rt; table.stage_of(TypeId(1), 2), None);
-    assert_eq!(rt; table.order_of(ResId(1)), 2);
+    assert_eq!(rt; table.order_of(ResId(0)), 1);
     Ok(())
 }
