@@ -53,6 +53,7 @@ fn is_over_with(
 }
 
 /// The least resource whose neighborhood would then hold too many.
+#[inline(always)]
 pub fn first_over(
     table: &LeadTable<'_>,
     parts: &[Part],

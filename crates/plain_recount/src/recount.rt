@@ -57,6 +57,7 @@ impl<'a> Recount<'a> {
     }
 
     /// The reply to a request, and its change if it is granted.
+    #[inline(always)]
     pub fn ask(&mut self, request: &Request) -> Reply
         requires { RequestFits self.old.cell request.now }
         ensures reply { result ≡ reply_to self.old.cell self.old.parts request.now }

@@ -14,6 +14,7 @@ use crate::parts::part_at;
 use cell_base::{Part, Refusal, Reply, Request};
 
 /// The reply to a request, whose part stands there.
+#[inline(always)]
 pub fn reply_to(
     table: &LeadTable<'_>,
     parts: &[Part],
@@ -116,6 +117,7 @@ fn reply_to_unload(table: &LeadTable<'_>, part: Part) -> Reply
 }
 
 /// The reply where the part would come in the place of its job's present one.
+#[inline(always)]
 fn reply_to_arrival(
     table: &LeadTable<'_>,
     parts: &[Part],

@@ -67,6 +67,7 @@ fn asked_at(cell: &Cell, rest: Rest<'_>) -> Option<(Request, Told)>
 }
 
 #[tactic(auto, unfolding(crate::specs::Reading::told_after))]
+#[inline(always)]
 fn told_after(cell: &Cell, read: Option<(Request, Rest<'_>)>) -> Option<(Request, Told)>
     requires { CellFits cell.now }
     ensures { result ≡ told_after cell.now (option_map (λ x. (x.0, words_of_rest (option_copied x.1))) read.entry) }

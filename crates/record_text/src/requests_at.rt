@@ -12,6 +12,7 @@ const PLACE: &[u8] = b"place";
 
 /// A step of two words.
 #[tactic(auto, unfolding(crate::specs::Reading::two_at))]
+#[inline(always)]
 pub fn two_at<'a>(cell: &Cell, rest: Rest<'a>) -> Option<(Request, Rest<'a>)>
     requires { CellFits cell.now }
     ensures { option_map (λ x. (x.0, words_of_rest (option_copied x.1))) result
@@ -27,6 +28,7 @@ pub fn two_at<'a>(cell: &Cell, rest: Rest<'a>) -> Option<(Request, Rest<'a>)>
 
 /// A step of three words.
 #[tactic(auto, unfolding(crate::specs::Reading::three_at))]
+#[inline(always)]
 pub fn three_at<'a>(cell: &Cell, rest: Rest<'a>) -> Option<(Request, Rest<'a>)>
     requires { CellFits cell.now }
     ensures { option_map (λ x. (x.0, words_of_rest (option_copied x.1))) result

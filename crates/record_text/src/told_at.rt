@@ -33,6 +33,7 @@ const OF: &[u8] = b"of";
 
 /// What was told.
 #[tactic(auto, unfolding(crate::specs::Reading::told_at, crate::specs::Reading::told_of))]
+#[inline(always)]
 pub fn told_at(cell: &Cell, rest: Rest<'_>) -> Option<Told>
     requires { CellFits cell.now }
     ensures { result ≡ told_at cell.now (words_of_rest (option_copied rest.entry)) }
