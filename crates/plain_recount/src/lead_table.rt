@@ -1,21 +1,22 @@
-//! A cell with the table of the stages that lead to each resource.
+//! A cell with the table of the resources to which each stage leads.
 ghost use Rattle.std.specs.Prelude.{◌≡◌, ◌<◌, length, IfOk, IfSome, option_map};
 ghost use Rattle.cell_base.specs.Stages.{stage, IsStage, stage_of, is_last, successor};
-ghost use Rattle.cell_base.specs.Neighborhoods.{leads};
+ghost use Rattle.cell_base.specs.Neighborhoods.{leads, mask_of};
 ghost use Rattle.cell_base.specs.Outcomes.{arrival};
 ghost use Rattle.cell_base.specs.Fits.{CellFits};
 
+use crate::mask::has_bit;
 use crate::sweep;
 use cell_base::{Cell, JobId, List, NoMemory, Part, ResId, TypeId};
 use std::alloc::Global;
 use std::marker::Model;
 
-/// A cell that fits, with the table of the stages that lead to its resources. Contracts see it as the cell.
+/// A cell that fits, with the masks of its stages. Contracts see it as the cell.
 #[derive(Drop)]
 pub struct LeadTable<'a> {
     cell: &'a Cell,
-    /// By resource, type and place.
-    leads: List<List<List<bool>>>,
+    /// By type and place: a bit for each resource to which the stage leads.
+    masks: List<List<u64>>,
 }
 
 impl<'a> Model for LeadTable<'a> {
@@ -28,7 +29,7 @@ impl<'a> Model for LeadTable<'a> {
 
     ghost view = { λ s. s.cell.now };
 
-    ghost invariant = { λ s. CellFits s.cell.now × (s.leads ≡ leading_table s.cell.now) };
+    ghost invariant = { λ s. CellFits s.cell.now × (s.masks ≡ leading_table s.cell.now) };
 }
 
 impl<'a> LeadTable<'a> {
@@ -37,8 +38,8 @@ impl<'a> LeadTable<'a> {
         requires { CellFits cell.now }
         ensures { IfOk result (λ table. table ≡ cell.now) }
     {
-        let leads = sweep::table(alloc, cell)?;
-        Ok(LeadTable { cell, leads })
+        let masks = sweep::table(alloc, cell)?;
+        Ok(LeadTable { cell, masks })
     }
 
     /// The cell.
@@ -49,17 +50,22 @@ impl<'a> LeadTable<'a> {
         self.cell
     }
 
+    /// The resources to which a part's stage leads, as a mask.
+    pub fn mask(&self, part: Part) -> u64
+        requires { IsStage self.now (stage_of part) }
+        ensures mask { result ≡ mask_of self.now (stage_of part) }
+        ensures fits { CellFits self.now }
+    {
+        *self.masks.get(part.kind.0 as u64).get(part.place as u64)
+    }
+
     /// Whether a part's stage leads to a resource.
     pub fn leads(&self, part: Part, r: ResId) -> bool
         requires resource { r.0 < length self.now.resources }
         requires stage { IsStage self.now (stage_of part) }
         ensures { result ≡ leads self.now (stage_of part) r.0 }
     {
-        *self
-            .leads
-            .get(r.0 as u64)
-            .get(part.kind.0 as u64)
-            .get(part.place as u64)
+        has_bit(self.mask(part), r)
     }
 
     /// Whether a part stands at a last stage.

@@ -17,6 +17,7 @@
 mod changes;
 mod counts;
 mod lead_table;
+mod mask;
 mod parts;
 mod recount;
 mod replies;

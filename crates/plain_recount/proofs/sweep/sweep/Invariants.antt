@@ -5,4 +5,4 @@ use Rattle.plain_recount.specs.Leading.{KnowsAfter}
 use Rattle.plain_recount.proofs.sweep.sweep.Given as goal
 
 abbrev pub invariant-loop-place : goal.invariant-loop-place
-invariant-loop-place l = (length l.row ≡ MAX_PLACES) × KnowsAfter l.cell l.r.0 l.kind.0 l.place l.row
+invariant-loop-place l = (length l.row ≡ MAX_PLACES) × KnowsAfter l.cell l.kind.0 l.place l.row

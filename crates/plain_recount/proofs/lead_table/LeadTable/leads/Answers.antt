@@ -1,38 +1,15 @@
--- The table is read at the resource, the type and the place.
-use Rattle.std.proofs.Common.{ap, ◌∙◌, ℕ}
-use Rattle.cell_base.specs.Stages.{stage, stage_of}
-use Rattle.cell_base.specs.Neighborhoods.{leads}
-use Rattle.plain_recount.specs.Leading.{leading_row, leading_rows, leading_table}
-use Rattle.cell_base.proofs.Growing.{length-made, made_at}
-use Rattle.policy_laws.proofs.Stages.{kind_within}
+-- The mask of a stage has the bits of the resources to which it leads.
+use Rattle.std.proofs.Common.{ap, arith, ◌∙◌}
+use Rattle.cell_base.specs.Masks.{has_bit}
+use Rattle.cell_base.specs.Stages.{stage_of}
+use Rattle.policy_laws.proofs.Masks.{mask_law}
 use Rattle.plain_recount.proofs.lead_table.LeadTable.leads.Goals as goal
 
-pub get-requires : goal.get-requires
-get-requires c =
-    let made = c.self.invariant.1 ∙ ap leading_table c.self.view_is in
-    rw (length-made (leading_rows c.args.self.now) _ _ made) c.requires.resource
-
-pub get-requires-2 : goal.get-requires-2
-get-requires-2 c =
-    let made = c.self.invariant.1 ∙ ap leading_table c.self.view_is in
-    let rows = made_at (leading_rows c.args.self.now) _ c.args.r.0 _ _ made c.requires.resource c.get.ensures in
-    rw (length-made (leading_row c.args.self.now c.args.r.0) _ _ rows) (kind_within c.args.self.now (stage_of c.args.part) c.requires.stage)
-
-pub get-requires-3 : goal.get-requires-3
-get-requires-3 c =
-    let made = c.self.invariant.1 ∙ ap leading_table c.self.view_is in
-    let rows = made_at (leading_rows c.args.self.now) _ c.args.r.0 _ _ made c.requires.resource c.get.ensures in
-    let row =
-    made_at (leading_row c.args.self.now c.args.r.0) _ c.args.part.kind.0 _ _ rows
-    (kind_within c.args.self.now (stage_of c.args.part) c.requires.stage) c.get-2.ensures in
-    rw (length-made (λ (place : ℕ). leads c.args.self.now (stage c.args.part.kind.0 place) c.args.r.0) _ _ row) c.requires.stage
+pub has_bit-requires : goal.has_bit-requires
+has_bit-requires c = omega (arith, c.mask.ensures.fits.resource_count.1, c.requires.resource)
 
 pub returns : goal.returns
 returns c =
-    let made = c.self.invariant.1 ∙ ap leading_table c.self.view_is in
-    let rows = made_at (leading_rows c.args.self.now) _ c.args.r.0 _ _ made c.requires.resource c.get.ensures in
-    let row =
-    made_at (leading_row c.args.self.now c.args.r.0) _ c.args.part.kind.0 _ _ rows
-    (kind_within c.args.self.now (stage_of c.args.part) c.requires.stage) c.get-2.ensures in
-    made_at (λ (place : ℕ). leads c.args.self.now (stage c.args.part.kind.0 place) c.args.r.0) _ c.args.part.place _ _ row
-    c.requires.stage c.get-3.ensures
+    c.has_bit.ensures
+    ∙ ap (λ mask. has_bit mask c.args.r.0) c.mask.ensures.mask
+    ∙ mask_law c.args.self.now c.mask.ensures.fits (stage_of c.args.part) c.args.r.0
