@@ -138,7 +138,7 @@ module _ (cell : Cell) (fits : CellFits cell) (parts : List Part) (state : IsSta
   ending (Process machine) h = process_ending machine.0
   ending (Move job branch) h = move_ending branch (part_of parts job)
   ending (Unload job) h = unload_ending (part_of parts job) (λ part e. (part_of-found parts job part e).0)
-  ending (Place job kind place done) h = entry_ending (record { job = job; kind = kind; place = place; done = done }) h.0
+  ending (Place done kind job place) h = entry_ending (record { job = job; kind = kind; place = place; done = done }) h.0
 
 module _ (cell : Cell) (parts : List Part) where
   -- the next state is granted where the policy admits it, and where it is ordered

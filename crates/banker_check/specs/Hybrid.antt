@@ -64,7 +64,7 @@ outcome_h cell parts (Load job kind) = outcome_h_of_entry cell parts (arrival ce
 outcome_h cell parts (Process machine) = let o = outcome_of_process cell parts machine.0 in (told o.0, o.1)
 outcome_h cell parts (Move job branch) = outcome_h_of_move cell parts (part_of parts job) branch
 outcome_h cell parts (Unload job) = let o = outcome_of_unload cell parts (part_of parts job) in (told o.0, o.1)
-outcome_h cell parts (Place job kind place done) =
+outcome_h cell parts (Place done kind job place) =
     outcome_h_of_entry cell parts (record { job = job; kind = kind; place = place; done = done })
 
 -- the reply alone

@@ -23,7 +23,7 @@ use Rattle.carry_commands.specs.Starts.{granted_from, unless_refused}
 
 -- such a request fits
 pub placing_fits : (cell : Cell) (request : Request) → IsPlacing cell request → RequestFits cell request
-placing_fits cell (Place job kind place done) placing = placing.0
+placing_fits cell (Place done kind job place) placing = placing.0
 placing_fits cell (Load job kind) placing = absurd placing
 placing_fits cell (Process machine) placing = absurd placing
 placing_fits cell (Move job branch) placing = absurd placing
@@ -45,7 +45,7 @@ module _ (cell : Cell) (parts : List Part) where
 
   -- a place is refused for its job, or for a neighborhood that is full
   pub of_place : (request : Request) (why : Refusal) → IsPlacing cell request → reply_to cell parts request ≡ Refused why → IsOfPlace why
-  of_place (Place job kind place done) why placing is =
+  of_place (Place done kind job place) why placing is =
       by_loaded (record { job = job; kind = kind; place = place; done = done }) why (is_loaded parts job) is
   of_place (Load job kind) why placing is = absurd placing
   of_place (Process machine) why placing is = absurd placing

@@ -29,7 +29,7 @@ is_alike old new from to =
 -- the request that places the part at the same place of a type: done where it was, or where the stage does not work
 abbrev pub placed : Cell → Part → ℕ → Request
 placed new part kind =
-    Place part.job (record { 0 = kind }) part.place (part.done || not (works_at new (stage kind part.place)))
+    Place (part.done || not (works_at new (stage kind part.place))) (record { 0 = kind }) part.job part.place
 
 -- the part goes to the type of its name, at the same place, on a resource of the same name
 abbrev pub placed_as : Cell → Cell → Part → Option ℕ → Result Request Uncarried

@@ -34,6 +34,7 @@ impl<K: Taker> Taker for Replay<K> {
 }
 
 // Replays a grant more, whose gate stands at an offset. Gives where the first stray stands.
+#[inline(always)]
 fn replay_one(core: &mut Core, stray: Option<u64>, at: u64, grant: &Grant) -> Option<u64>
     ensures { (start : CoreState) (first : ℕ) (grants : Sequence OneGrant) → at ≡ first + ENTRY_SIZE * length grants
         → HasReplayed start first grants core.old stray → HasReplayed start first (grants ++ grant.now ∷ []) core.new result }
@@ -51,6 +52,7 @@ fn replay_one(core: &mut Core, stray: Option<u64>, at: u64, grant: &Grant) -> Op
 }
 
 // Takes the step of a request that fits the cell and is granted now. Gives whether it is.
+#[inline(always)]
 fn is_taken(core: &mut Core, request: &Request) -> bool
     ensures due { result ≡ is_due core.old.cell core.old.parts request.now }
     ensures cell { core.new.cell ≡ core.old.cell }

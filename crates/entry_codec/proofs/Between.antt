@@ -76,7 +76,7 @@ between bytes (Load job kind) = plain bytes
 between bytes (Process machine) = plain bytes && nat_eq (number_4 bytes 8) 0
 between bytes (Move job branch) = nat_lt branch MAX_BRANCHES && plain bytes
 between bytes (Unload job) = plain bytes && nat_eq (number_2 bytes 14) 0
-between bytes (Place job kind place done) = nat_le (slice_index bytes 1) 1
+between bytes (Place done kind job place) = nat_le (slice_index bytes 1) 1
 
 -- the numbers of sixteen bytes, with what stands between them
 module _ (bytes : List ℕ) (long : length bytes ≡ 16) (small : (i : ℕ) → get_or bytes i 0 < 256) where

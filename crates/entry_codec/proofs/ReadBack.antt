@@ -61,14 +61,14 @@ grant_of-record_of granted range has = by_request granted.shift granted.session 
           session = session_in 4 0 session shift job.0 argument s i;
           request = Unload (record { 0 = job_in 4 0 session shift job.0 argument range i });
         })
-    by_request shift session (Place job kind place done) h s range has =
+    by_request shift session (Place done kind job place) h s range has =
         let flag = flag_of done in
         let argument = to_be_bytes w16 kind.0 ++ to_be_bytes w16 place in
-        read (grant shift session (Place job kind place done)) _ has (λ i. record {
+        read (grant shift session (Place done kind job place)) _ has (λ i. record {
           shift = shift_in 5 flag session shift job.0 argument h i;
           session = session_in 5 flag session shift job.0 argument s i;
-          request = Place (record { 0 = job_in 5 flag session shift job.0 argument range.0 i })
+          request = Place (done-flag_of done i)
               (record { 0 = high_in 5 flag session shift job.0 kind.0 place range.1 i })
-              (low_in 5 flag session shift job.0 kind.0 place range.2 i)
-              (done-flag_of done i);
+              (record { 0 = job_in 5 flag session shift job.0 argument range.0 i })
+              (low_in 5 flag session shift job.0 kind.0 place range.2 i);
         })

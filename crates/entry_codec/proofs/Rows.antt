@@ -24,6 +24,6 @@ an_unload : granted 65536 258 (Unload (record { 0 = 16909060 })) ≡ 4 ∷ 0 ∷
 an_unload = refl
 
 -- a part of job 7, done, of the type 258 at the place 3
-a_place : granted 0 0 (Place (record { 0 = 7 }) (record { 0 = 258 }) 3 true)
+a_place : granted 0 0 (Place true (record { 0 = 258 }) (record { 0 = 7 }) 3)
     ≡ 5 ∷ 1 ∷ 0 ∷ 0 ∷ 0 ∷ 0 ∷ 0 ∷ 0 ∷ 0 ∷ 0 ∷ 0 ∷ 7 ∷ 1 ∷ 2 ∷ 0 ∷ 3 ∷ []
 a_place = refl

@@ -28,7 +28,7 @@ request_in bytes =
     else if kind == 2 then Some (Process (record { 0 = low }))
     else if kind == 3 then Some (Move job low)
     else if kind == 4 then Some (Unload job)
-    else if kind == 5 then Some (Place job (record { 0 = number_2 bytes 12 }) low (slice_index bytes 1 == 1))
+    else if kind == 5 then Some (Place (slice_index bytes 1 == 1) (record { 0 = number_2 bytes 12 }) job low)
     else None
 
 -- a request with the session and the shift that stand in the bytes

@@ -13,7 +13,7 @@ length-record_by session shift (Load job kind) = refl
 length-record_by session shift (Process machine) = refl
 length-record_by session shift (Move job branch) = refl
 length-record_by session shift (Unload job) = refl
-length-record_by session shift (Place job kind place done) = refl
+length-record_by session shift (Place done kind job place) = refl
 
 pub length-record_of : (grant : Grant) → length (record_of grant) ≡ 16
 length-record_of grant = length-record_by grant.session grant.shift grant.request

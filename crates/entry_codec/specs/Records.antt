@@ -21,7 +21,7 @@ record_by session shift (Load job kind) = fields 1 0 session shift job.0 (to_be_
 record_by session shift (Process machine) = fields 2 0 session shift 0 (to_be_bytes w32 machine.0)
 record_by session shift (Move job branch) = fields 3 0 session shift job.0 (to_be_bytes w32 branch)
 record_by session shift (Unload job) = fields 4 0 session shift job.0 (to_be_bytes w32 0)
-record_by session shift (Place job kind place done) =
+record_by session shift (Place done kind job place) =
     fields 5 (flag_of done) session shift job.0 (to_be_bytes w16 kind.0 ++ to_be_bytes w16 place)
 
 -- the one record of a grant
@@ -43,7 +43,7 @@ RequestIsInRange (Load job kind) = (job.0 < 2 ^ 32) × (kind.0 < 2 ^ 16)
 RequestIsInRange (Process machine) = machine.0 < 2 ^ 16
 RequestIsInRange (Move job branch) = (job.0 < 2 ^ 32) × (branch < 2 ^ 16)
 RequestIsInRange (Unload job) = job.0 < 2 ^ 32
-RequestIsInRange (Place job kind place done) = (job.0 < 2 ^ 32) × (kind.0 < 2 ^ 16) × (place < 2 ^ 16)
+RequestIsInRange (Place done kind job place) = (job.0 < 2 ^ 32) × (kind.0 < 2 ^ 16) × (place < 2 ^ 16)
 
 -- the numbers of a grant are in the ranges of their types, as those of every grant at run time are
 pub record IsInRange (grant : Grant) : Type 0 where

@@ -92,7 +92,7 @@ module _ (cell : Cell) where
   after_in_range parts (Process machine) all range = processes parts machine.0 all
   after_in_range parts (Move job branch) all range = moves parts job branch (part_of parts job) refl all
   after_in_range parts (Unload job) all range = unloads parts job all (part_of parts job)
-  after_in_range parts (Place job kind place done) all range =
+  after_in_range parts (Place done kind job place) all range =
       enters parts (record { job = job; kind = kind; place = place; done = done }) all range
 
   -- ---- the plan

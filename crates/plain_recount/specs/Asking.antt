@@ -13,7 +13,7 @@ is_asked cell (Load job kind) = is_of_job job
 is_asked cell (Process machine) = is_waiting_on cell machine.0
 is_asked cell (Move job branch) = is_of_job job
 is_asked cell (Unload job) = is_of_job job
-is_asked cell (Place job kind place done) = is_of_job job
+is_asked cell (Place done kind job place) = is_of_job job
 
 -- where the first such part stands, if there is one
 abbrev pub place_asked : Cell → List Part → Request → Option ℕ

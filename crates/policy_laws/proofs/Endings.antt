@@ -151,4 +151,4 @@ module _ (cell : Cell) (fits : CellFits cell) (parts : List Part) (state : IsSta
   ending (Process machine) h = process_ending machine.0
   ending (Move job branch) h = move_ending job branch (part_of parts job) refl
   ending (Unload job) h = unload_ending job (part_of parts job) refl
-  ending (Place job kind place done) h = entry_ending (record { job = job; kind = kind; place = place; done = done }) h.0
+  ending (Place done kind job place) h = entry_ending (record { job = job; kind = kind; place = place; done = done }) h.0

@@ -30,7 +30,7 @@ wanted cell parts (Process machine) = finish_first (is_waiting_on cell machine.0
 wanted cell parts (Move job branch) =
     option_map_or (λ part. without parts part.job ++ part ∷ []) (option_and_then (onward cell branch) (part_of parts job)) parts
 wanted cell parts (Unload job) = without parts job
-wanted cell parts (Place job kind place done) = parts ++ (record { job = job; kind = kind; place = place; done = done }) ∷ []
+wanted cell parts (Place done kind job place) = parts ++ (record { job = job; kind = kind; place = place; done = done }) ∷ []
 
 -- the part of the job is done, and stands at a last stage
 pub record MayLeave (cell : Cell) (parts : List Part) (job : JobId) (part : Part) : Type 0 where
@@ -45,7 +45,7 @@ PassesTests cell parts (Load job kind) = is_loaded parts job ≡ false
 PassesTests cell parts (Process machine) = list_any (is_waiting_on cell machine.0) parts ≡ true
 PassesTests cell parts (Move job branch) = (part : Part) × ((to : Stage) × MayMove cell parts job branch part to)
 PassesTests cell parts (Unload job) = (part : Part) × MayLeave cell parts job part
-PassesTests cell parts (Place job kind place done) = is_loaded parts job ≡ false
+PassesTests cell parts (Place done kind job place) = is_loaded parts job ≡ false
 
 -- the refusal is one for a full neighborhood
 abbrev pub is_saturation : Refusal → Bool

@@ -86,7 +86,7 @@ module _ (cell : Cell) (fits : CellFits cell) where
       (key (codes "process") refl, (plain_name _ (resource_named cell fits machine.0 asked), tt))
   plain_request (Move n b) asked small = (key (codes "move") refl, (job n.0 small, branch b _ asked))
   plain_request (Unload n) asked small = (key (codes "unload") refl, (job n.0 small, tt))
-  plain_request (Place n kind place done) asked small =
+  plain_request (Place done kind n place) asked small =
       let is_small = stage_is_small cell fits kind.0 place asked.0 in (
         key (codes "place") refl,
         (

@@ -57,7 +57,7 @@ abbrev unload : Request
 unload = Unload (record { 0 = 7 })
 
 abbrev waiting : Request
-waiting = Place (record { 0 = 7 }) (record { 0 = 0 }) 1 false
+waiting = Place false (record { 0 = 0 }) (record { 0 = 7 }) 1
 
 abbrev granted : Told
 granted = Answered Granted

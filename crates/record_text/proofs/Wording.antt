@@ -148,8 +148,8 @@ module _ (cell : Cell) (fits : CellFits cell) (told : Told) (known : ToldFits ce
       by_three (codes "move") (decimal job.0) (decimal branch) (Move job branch) (no_branch_told job.0 branch small (omega (arith, below)))
       (move_again cell fits job branch false is below small)
 
-  placed : (job : JobId) (kind : TypeId) (place : ℕ) (done : Bool) → RequestFits cell (Place job kind place done) → job.0 < 2 ^ 32
-      → asked_at cell (request_words cell (Place job kind place done) ++ told_words cell told) ≡ Some (Place job kind place done, told)
+  placed : (job : JobId) (kind : TypeId) (place : ℕ) (done : Bool) → RequestFits cell (Place done kind job place) → job.0 < 2 ^ 32
+      → asked_at cell (request_words cell (Place done kind job place) ++ told_words cell told) ≡ Some (Place done kind job place, told)
   unfolding asked_at two_at three_at told_after step_of_two step_of_three
   placed job kind place done standing small =
       rw (place_at-complete cell fits job kind place done (told_words cell told) standing small, told_again) refl
@@ -165,7 +165,7 @@ module _ (cell : Cell) (fits : CellFits cell) (told : Told) (known : ToldFits ce
   asked_at-complete (Move job branch) asked small = move_asked job branch (branch == 0) refl asked small
   asked_at-complete (Unload job) asked small =
       by_two (codes "unload") (decimal job.0) (Unload job) (request_again cell fits (Unload job) asked small)
-  asked_at-complete (Place job kind place done) asked small = placed job kind place done asked small
+  asked_at-complete (Place done kind job place) asked small = placed job kind place done asked small
 
 pub entry_at-complete : (cell : Cell) → CellFits cell → (entry : Entry) → EntryIsWritten cell entry
     → entry_at cell (entry_words cell entry) ≡ Some entry

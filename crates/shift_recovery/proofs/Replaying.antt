@@ -42,7 +42,7 @@ fit_test cell (Load job kind) = less_test kind.0 (length cell.types)
 fit_test cell (Process machine) = less_test machine.0 (length cell.resources)
 fit_test cell (Move job branch) = less_test branch MAX_BRANCHES
 fit_test cell (Unload job) = (λ is. tt, λ fits. refl)
-fit_test cell (Place job kind place done) =
+fit_test cell (Place done kind job place) =
     let s = stage kind.0 place in let less = less_test place (length (route_of cell kind.0)) in (
       λ is. let both = place_test (is_stage cell s) (works_at cell s) done is in (less.0 both.0, both.1),
       λ fits. place_passes (is_stage cell s) (works_at cell s) done (less.1 fits.0) fits.1,

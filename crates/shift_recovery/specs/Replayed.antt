@@ -25,7 +25,7 @@ is_fit cell (Load job kind) = nat_lt kind.0 (length cell.types)
 is_fit cell (Process machine) = nat_lt machine.0 (length cell.resources)
 is_fit cell (Move job branch) = nat_lt branch MAX_BRANCHES
 is_fit cell (Unload job) = true
-is_fit cell (Place job kind place done) = is_stage cell (stage kind.0 place) && (works_at cell (stage kind.0 place) || done)
+is_fit cell (Place done kind job place) = is_stage cell (stage kind.0 place) && (works_at cell (stage kind.0 place) || done)
 
 -- it fits the cell and is granted in this state
 abbrev pub is_due : Cell → List Part → Request → Bool

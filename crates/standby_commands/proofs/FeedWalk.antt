@@ -46,7 +46,7 @@ fit_has_record cell (Load job kind) fits = refl
 fit_has_record cell (Process machine) fits = refl
 fit_has_record cell (Move job branch) fits = lt-ltb branch _ fits
 fit_has_record cell (Unload job) fits = refl
-fit_has_record cell (Place job kind place done) fits = refl
+fit_has_record cell (Place done kind job place) fits = refl
 
 pub fit_have_records : (cell : Cell) (grants : List Grant) → All (λ (grant : Grant). RequestFits cell grant.request) grants
     → All HasRecord grants

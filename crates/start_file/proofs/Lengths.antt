@@ -35,11 +35,11 @@ five a b c d e =
 
 module _ (cell : Cell) (fits : CellFits cell) where
   line_short : (request : Request) → IsPlacing cell request → length (place_line cell request) ≤ 64
-  line_short (Place job kind place done) placing =
+  line_short (Place done kind job place) placing =
       let small = stage_is_small cell fits kind.0 place placing.0.0 in
       omega (
         arith,
-        length-append (joined (request_words cell (Place job kind place done))) (10 ∷ []),
+        length-append (joined (request_words cell (Place done kind job place))) (10 ∷ []),
         five (codes "place") (decimal job.0) (type_name cell kind.0) (decimal place) (done_word done),
         length-decimal-le 10 job.0 (lit< tt) (omega (arith, placing.1)) (omega (arith, placing.1)),
         (type_named cell fits kind.0 small.kind).short,

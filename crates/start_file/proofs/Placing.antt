@@ -26,7 +26,7 @@ record IsPlace (request : Request) : Type 0 where
   kind : TypeId
   place : ℕ
   done : Bool
-  is : request ≡ Place job kind place done
+  is : request ≡ Place done kind job place
 
 -- what is read as a place is one
 place_is : (cell : Cell) (ws : Words) (r : Request × Words) → place_at cell ws ≡ Some r → IsPlace r.0
@@ -68,7 +68,7 @@ placing-sound cell ws request is =
 pub placing-complete : (cell : Cell) → CellFits cell → (request : Request) → IsPlacing cell request
     → placing_of cell (request_words cell request) ≡ Some request
 unfolding placing_of is_end
-placing-complete cell fits (Place job kind place done) placing =
+placing-complete cell fits (Place done kind job place) placing =
     rw (place_at-complete cell fits job kind place done [] placing.0 placing.1) refl
 placing-complete cell fits (Load job kind) placing = absurd placing
 placing-complete cell fits (Process machine) placing = absurd placing
@@ -78,7 +78,7 @@ placing-complete cell fits (Unload job) placing = absurd placing
 -- ---- lines without their newlines
 
 plain_placing : (cell : Cell) → CellFits cell → (request : Request) → IsPlacing cell request → ArePlain (request_words cell request)
-plain_placing cell fits (Place job kind place done) placing =
+plain_placing cell fits (Place done kind job place) placing =
     let entry : Entry = record { session = 0; request = Place job kind place done; told = Answered Granted } in
     let written : EntryIsWritten cell entry = record {
       fits = record { request = placing.0; told = tt };

@@ -13,7 +13,7 @@ use Rattle.start_file.specs.declared.reading.TheConstants.{MAX_START_BYTES, MAX_
 
 -- a request that places a part of a job, a number of 32 bits, at a place of the cell
 abbrev pub IsPlacing : Cell → Request → Type 0
-IsPlacing cell (Place job kind place done) = PlaceFits cell kind place done × (job.0 < 2 ^ 32)
+IsPlacing cell (Place done kind job place) = PlaceFits cell kind place done × (job.0 < 2 ^ 32)
 IsPlacing cell request = ⊥
 
 -- its line
