@@ -79,7 +79,7 @@ placing-complete cell fits (Unload job) placing = absurd placing
 
 plain_placing : (cell : Cell) → CellFits cell → (request : Request) → IsPlacing cell request → ArePlain (request_words cell request)
 plain_placing cell fits (Place done kind job place) placing =
-    let entry : Entry = record { session = 0; request = Place job kind place done; told = Answered Granted } in
+    let entry : Entry = record { session = 0; request = Place done kind job place; told = Answered Granted } in
     let written : EntryIsWritten cell entry = record {
       fits = record { request = placing.0; told = tt };
       session = search rules;

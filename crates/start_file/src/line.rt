@@ -26,8 +26,8 @@ pub fn place_line(cell: &Cell, request: &Request) -> Line
 
 fn line_of(cell: &Cell, job: JobId, kind: TypeId, place: u16, done: bool) -> Line
     requires fits { CellFits cell.now }
-    requires placing { IsPlacing cell.now (Place job kind place done) }
-    ensures { result ≡ place_line cell.now (Place job kind place done) }
+    requires placing { IsPlacing cell.now (Place done kind job place) }
+    ensures { result ≡ place_line cell.now (Place done kind job place) }
 {
     let mut line = Line::of_word(b"place");
     line.number(job.0);
