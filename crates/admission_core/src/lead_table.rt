@@ -46,12 +46,12 @@ impl Model for LeadTable {
 }
 
 impl LeadTable {
-    /// The table of a cell.
-    pub fn new(alloc: Global, cell: &Cell) -> Result<LeadTable, NoMemory>
-        requires { CellFits cell.now }
-        ensures { IfOk result (λ table. table ≡ cell.now) }
+    /// The table of a cell, which it keeps.
+    pub fn of(alloc: Global, cell: Cell) -> Result<LeadTable, NoMemory>
+        requires { CellFits cell }
+        ensures { IfOk result (λ table. table ≡ cell) }
     {
-        let stages = StageTable::new(alloc, cell)?;
+        let stages = StageTable::of(alloc, cell)?;
         let upstream = Upstream::new(alloc, &stages)?;
         let rows = rows(alloc, &stages, &upstream)?;
         Ok(LeadTable {

@@ -10,22 +10,22 @@ use Rattle.part_table.specs.declared.standing.Standing.{Standing}
 use Rattle.part_table.specs.declared.standing.Entry.{Entry}
 use Rattle.part_table.specs.Chains.{IsFirst}
 use Rattle.part_table.specs.Standings.{parts_of, is_job, finished}
-use Rattle.part_table.specs.Logs.{done_entry, staying, job_of, IsAbsent, IsPlaceOf, IsPlaceOfFirst, IsKnown}
+use Rattle.part_table.specs.Logs.{done_entry, staying, entry_job, IsAbsent, IsPlaceOf, IsPlaceOfFirst, IsKnown}
 use Rattle.part_table.proofs.Standings.{part_of-find}
 use Rattle.part_table.proofs.Staying.{passes, first_staying, none_staying, staying_finished}
 use Rattle.part_table.proofs.Staying.{found_by_key, passes_by_key, none_by_key}
 
 -- an entry that stays and is of the job passes the test, and no other
-passes_not : (job : JobId) (entry : Entry) → (entry.stays ≡ true → job_of entry ≡ job.0 → ⊥) → passes (is_job job) entry ≡ false
+passes_not : (job : JobId) (entry : Entry) → (entry.stays ≡ true → entry_job entry ≡ job.0 → ⊥) → passes (is_job job) entry ≡ false
 passes_not job entry fails = at entry.stays (is_job job entry.item) refl refl
   where
     at : (a b : Bool) → entry.stays ≡ a → is_job job entry.item ≡ b → (a && b) ≡ false
-    at true true stays is = absurd (fails stays (eqb-true (job_of entry) job.0 is))
+    at true true stays is = absurd (fails stays (eqb-true (entry_job entry) job.0 is))
     at true false stays is = refl
     at false b stays is = refl
 
-passes_so : (job : JobId) (entry : Entry) → entry.stays ≡ true → job_of entry ≡ job.0 → passes (is_job job) entry ≡ true
-passes_so job entry stays is = rw (stays, eq-eqb (job_of entry) job.0 is) refl
+passes_so : (job : JobId) (entry : Entry) → entry.stays ≡ true → entry_job entry ≡ job.0 → passes (is_job job) entry ≡ true
+passes_so job entry stays is = rw (stays, eq-eqb (entry_job entry) job.0 is) refl
 
 pub part_at : (entries : List Entry) (job : JobId) (at : ℕ) (entry : Entry) → IsPlaceOf entries job at → slice_get entries at ≡ Some entry
     → Some entry.item.part ≡ part_of (parts_of (staying entries)) job
@@ -52,7 +52,7 @@ entry_at entries k inside =
 module _ (entries : List Entry) (places : ℕ → Option ℕ) (are : IsKnown entries places (λ k entry. k)) where
   -- and no other entry that stays is of the job
   pub only_place : (job : JobId) (at : ℕ) → places job.0 ≡ Some at → (k : ℕ) (entry : Entry) → slice_get entries k ≡ Some entry
-      → entry.stays ≡ true → job_of entry ≡ job.0 → k ≡ at
+      → entry.stays ≡ true → entry_job entry ≡ job.0 → k ≡ at
   only_place job at e k entry there stays is =
       same_Some k at (sym (subst (λ n. places n ≡ Some k) is (are k entry there stays)) ∙ e)
 

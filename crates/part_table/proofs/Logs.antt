@@ -3,7 +3,7 @@ use Rattle.std.proofs.Common.{◌≡◌, ℕ, true, cond, List, [], ◌∷◌, �
 use Rattle.part_table.specs.declared.standing.Standing.{Standing}
 use Rattle.part_table.specs.declared.standing.Entry.{Entry}
 use Rattle.part_table.specs.Seats.{Seated, place_at, seat_of}
-use Rattle.part_table.specs.Logs.{gone_entry, done_entry, job_of, IsAbsent, AreSeated, ArePlaces}
+use Rattle.part_table.specs.Logs.{gone_entry, done_entry, entry_job, IsAbsent, AreSeated, ArePlaces}
 use Rattle.part_table.proofs.Places.{known_pushed, known_changed}
 
 module _ (entries : List Entry) (seats : Seated) (are : ArePlaces entries seats) where
@@ -16,7 +16,7 @@ module _ (entries : List Entry) (seats : Seated) (are : ArePlaces entries seats)
     seated = seated;
   }
 
-  places_changed : (i : ℕ) (old next : Entry) → slice_get entries i ≡ Some old → job_of next ≡ job_of old → next.seat ≡ old.seat
+  places_changed : (i : ℕ) (old next : Entry) → slice_get entries i ≡ Some old → entry_job next ≡ entry_job old → next.seat ≡ old.seat
       → (next.stays ≡ true → old.stays ≡ true) → ArePlaces (set entries i next) seats
   places_changed i old next there job seat stays = record {
     placed = known_changed entries (place_at seats) (λ k entry. k) are.placed i old next there job stays refl;

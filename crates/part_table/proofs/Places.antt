@@ -5,7 +5,7 @@ use Rattle.std.proofs.lemmas.Bool.{eqb-true, eq-eqb, ne_eqb}
 use Rattle.std.proofs.lemmas.Option.{none-some, same_Some}
 use Rattle.part_table.specs.declared.standing.Standing.{Standing}
 use Rattle.part_table.specs.declared.standing.Entry.{Entry}
-use Rattle.part_table.specs.Logs.{job_of, IsAbsent, IsKnown}
+use Rattle.part_table.specs.Logs.{entry_job, IsAbsent, IsKnown}
 
 module _ {X : Type 0} where
   -- what stands in a list with one more at its end
@@ -60,17 +60,17 @@ known_pushed entries known next value are item seat absent noted k entry e stays
     last : Option ℕ
     last = Some (value (length entries) (record { item = item; stays = true; seat = seat }))
 
-    earlier : slice_get entries k ≡ Some entry → next (job_of entry) ≡ Some (value k entry)
+    earlier : slice_get entries k ≡ Some entry → next (entry_job entry) ≡ Some (value k entry)
     earlier there =
-        noted (job_of entry)
-        ∙ ap (λ b. cond b (Some (value (length entries) (record { item = item; stays = true; seat = seat }))) (known (job_of entry)))
-        (ne_eqb item.part.job.0 (job_of entry) (λ same. absent k entry there stays (sym same)))
+        noted (entry_job entry)
+        ∙ ap (λ b. cond b (Some (value (length entries) (record { item = item; stays = true; seat = seat }))) (known (entry_job entry)))
+        (ne_eqb item.part.job.0 (entry_job entry) (λ same. absent k entry there stays (sym same)))
         ∙ are k entry there stays
 
     at_end : (k ≡ length entries) × ((let y : Entry = record { item = item; stays = true; seat = seat } in y) ≡ entry)
-        → next (job_of entry) ≡ Some (value k entry)
+        → next (entry_job entry) ≡ Some (value k entry)
     at_end h =
-        subst (λ (x : Entry). next (job_of x) ≡ Some (value k x)) h.1
+        subst (λ (x : Entry). next (entry_job x) ≡ Some (value k x)) h.1
         (noted item.part.job.0
         ∙ ap (λ b. cond b (Some (value (length entries) (record { item = item; stays = true; seat = seat }))) (known item.part.job.0))
         (eq-eqb item.part.job.0 item.part.job.0 refl)
@@ -78,15 +78,15 @@ known_pushed entries known next value are item seat absent noted k entry e stays
 
 -- the same with an entry that changes, with its job, and does not stay again
 pub known_changed : (entries : List Entry) (known : ℕ → Option ℕ) (value : ℕ → Entry → ℕ) → IsKnown entries known value → (i : ℕ)
-    (old next : Entry) → slice_get entries i ≡ Some old → job_of next ≡ job_of old → (next.stays ≡ true → old.stays ≡ true)
+    (old next : Entry) → slice_get entries i ≡ Some old → entry_job next ≡ entry_job old → (next.stays ≡ true → old.stays ≡ true)
     → value i next ≡ value i old → IsKnown (set entries i next) known value
 known_changed entries known value are i old next there job stays same k entry e here =
     ⊎_elim changed (λ other. are k entry other.1 here) (get_in_set entries i k next entry e)
   where
-    changed : (k ≡ i) × (next ≡ entry) → known (job_of entry) ≡ Some (value k entry)
+    changed : (k ≡ i) × (next ≡ entry) → known (entry_job entry) ≡ Some (value k entry)
     changed h =
         let old_stays : old.stays ≡ true = stays (ap (λ (x : Entry). x.stays) h.1 ∙ here) in
-        ap known (sym (ap job_of h.1) ∙ job) ∙ are i old there old_stays
+        ap known (sym (ap entry_job h.1) ∙ job) ∙ are i old there old_stays
         ∙ ap Some (sym same ∙ ap (λ n. value n next) (sym h.0) ∙ ap (value k) h.1)
 
 -- what is known of a job already is known again

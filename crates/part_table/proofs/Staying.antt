@@ -14,7 +14,7 @@ use Rattle.part_table.specs.declared.standing.Standing.{Standing}
 use Rattle.part_table.specs.declared.standing.Entry.{Entry}
 use Rattle.part_table.specs.Chains.{OFF, IsFirst, standing_key, waiting_key}
 use Rattle.part_table.specs.Standings.{parts_of, is_job, is_on, is_waiting, without_job, finished}
-use Rattle.part_table.specs.Logs.{gone_entry, done_entry, staying, job_of, IsAbsent}
+use Rattle.part_table.specs.Logs.{gone_entry, done_entry, staying, entry_job, IsAbsent}
 use Rattle.part_table.proofs.Chains.{seen_at}
 use Rattle.part_table.proofs.Standings.{finish_no}
 
@@ -119,7 +119,8 @@ not_loaded_from_absent (y ∷ ys) job absent =
     at : (a : Bool) → y.stays ≡ a → is_loaded (parts_of (staying ys)) job ≡ false
         → is_loaded (parts_of (map item_of (cond a (y ∷ filter is_staying ys) (filter is_staying ys)))) job ≡ false
     at true stays rest =
-        or_from (is_of_job job y.item.part) (is_loaded (parts_of (staying ys)) job) (ne_eqb (job_of y) job.0 (absent 0 y refl stays)) rest
+        or_from (is_of_job job y.item.part) (is_loaded (parts_of (staying ys)) job)
+        (ne_eqb (entry_job y) job.0 (absent 0 y refl stays)) rest
     at false stays rest = rest
 
 pub absent_from_not_loaded : (entries : List Entry) (job : JobId) → is_loaded (parts_of (staying entries)) job ≡ false
@@ -127,12 +128,12 @@ pub absent_from_not_loaded : (entries : List Entry) (job : JobId) → is_loaded 
 absent_from_not_loaded [] job none = λ k entry e stays same. none-some entry e
 absent_from_not_loaded (y ∷ ys) job none = at y.stays refl none (absent_from_not_loaded ys job)
   where
-    head : (k : ℕ) (entry : Entry) → (y.stays ≡ true → job_of y ≡ job.0 → ⊥) → IsAbsent ys job → slice_get (y ∷ ys) k ≡ Some entry
+    head : (k : ℕ) (entry : Entry) → (y.stays ≡ true → entry_job y ≡ job.0 → ⊥) → IsAbsent ys job → slice_get (y ∷ ys) k ≡ Some entry
         → entry.stays ≡ true
-        → job_of entry ≡ job.0 → ⊥
+        → entry_job entry ≡ job.0 → ⊥
     head zero entry here behind e stays same =
         let is = same_Some y entry e in
-        here (ap is_staying is ∙ stays) (ap job_of is ∙ same)
+        here (ap is_staying is ∙ stays) (ap entry_job is ∙ same)
     head (suc k) entry here behind e stays same = behind k entry e stays same
 
     at : (a : Bool) → y.stays ≡ a
@@ -140,7 +141,7 @@ absent_from_not_loaded (y ∷ ys) job none = at y.stays refl none (absent_from_n
         → (is_loaded (parts_of (staying ys)) job ≡ false → IsAbsent ys job) → IsAbsent (y ∷ ys) job
     at true stays none later k entry e stays_too same =
         let split = or_parts (is_of_job job y.item.part) (is_loaded (parts_of (staying ys)) job) none in
-        head k entry (λ h is. false≢true (sym split.0 ∙ eq-eqb (job_of y) job.0 is)) (later split.1) e stays_too same
+        head k entry (λ h is. false≢true (sym split.0 ∙ eq-eqb (entry_job y) job.0 is)) (later split.1) e stays_too same
     at false gone none later k entry e stays_too same =
         head k entry (λ h is. false≢true (sym gone ∙ h)) (later none) e stays_too same
 
@@ -152,7 +153,7 @@ without_absent (y ∷ ys) job absent =
   where
     at : (a : Bool) → y.stays ≡ a → without_job (staying ys) job ≡ staying ys
         → (let rest = map item_of (cond a (y ∷ filter is_staying ys) (filter is_staying ys)) in without_job rest job ≡ rest)
-    at true stays rest = rw (ne_eqb (job_of y) job.0 (absent 0 y refl stays)) (ap (λ items. y.item ∷ items) rest)
+    at true stays rest = rw (ne_eqb (entry_job y) job.0 (absent 0 y refl stays)) (ap (λ items. y.item ∷ items) rest)
     at false stays rest = rest
 
 pub finished_absent : (entries : List Entry) (job : JobId) → IsAbsent entries job → finished (staying entries) job ≡ staying entries
@@ -162,19 +163,19 @@ finished_absent (y ∷ ys) job absent =
   where
     at : (a : Bool) → y.stays ≡ a → finished (staying ys) job ≡ staying ys
         → (let rest = map item_of (cond a (y ∷ filter is_staying ys) (filter is_staying ys)) in finished rest job ≡ rest)
-    at true stays rest = ap₂ ◌∷◌ (finish_no job y.item (ne_eqb (job_of y) job.0 (absent 0 y refl stays))) rest
+    at true stays rest = ap₂ ◌∷◌ (finish_no job y.item (ne_eqb (entry_job y) job.0 (absent 0 y refl stays))) rest
     at false stays rest = rest
 
 -- the part of a job leaves
 pub staying_taken : (entries : List Entry) (at : ℕ) (old : Entry) (job : JobId) → slice_get entries at ≡ Some old → old.stays ≡ true
-    → job_of old ≡ job.0
-    → ((k : ℕ) (entry : Entry) → slice_get entries k ≡ Some entry → entry.stays ≡ true → job_of entry ≡ job.0 → k ≡ at)
+    → entry_job old ≡ job.0
+    → ((k : ℕ) (entry : Entry) → slice_get entries k ≡ Some entry → entry.stays ≡ true → entry_job entry ≡ job.0 → k ≡ at)
     → staying (set entries at (gone_entry old)) ≡ without_job (staying entries) job
 staying_taken [] at old job e stays is unique = absurd (none-some old e)
 staying_taken (y ∷ ys) zero old job e stays is unique =
     let same = same_Some y old e in
     let here : y.stays ≡ true = ap is_staying same ∙ stays in
-    let of_job : is_job job y.item ≡ true = eq-eqb (job_of y) job.0 (ap job_of same ∙ is) in
+    let of_job : is_job job y.item ≡ true = eq-eqb (entry_job y) job.0 (ap entry_job same ∙ is) in
     let others = without_absent ys job
     (λ k entry there stays_too of_it. absurd (omega (arith, unique (suc k) entry there stays_too of_it))) in
     rw (here, of_job) (sym others)
@@ -186,20 +187,20 @@ staying_taken (y ∷ ys) (suc at) old job e stays is unique =
         → map item_of (cond a (y ∷ filter is_staying (set ys at (gone_entry old))) (filter is_staying (set ys at (gone_entry old))))
         ≡ without_job (map item_of (cond a (y ∷ filter is_staying ys) (filter is_staying ys))) job
     by true here rest =
-        let other : is_job job y.item ≡ false = ne_eqb (job_of y) job.0 (λ of_it. absurd (omega (arith, unique 0 y refl here of_it))) in
+        let other : is_job job y.item ≡ false = ne_eqb (entry_job y) job.0 (λ of_it. absurd (omega (arith, unique 0 y refl here of_it))) in
         rw other (ap (λ items. y.item ∷ items) rest)
     by false gone rest = rest
 
 -- the part of a job is done
 pub staying_finished : (entries : List Entry) (at : ℕ) (old : Entry) (job : JobId) → slice_get entries at ≡ Some old → old.stays ≡ true
-    → job_of old ≡ job.0
-    → ((k : ℕ) (entry : Entry) → slice_get entries k ≡ Some entry → entry.stays ≡ true → job_of entry ≡ job.0 → k ≡ at)
+    → entry_job old ≡ job.0
+    → ((k : ℕ) (entry : Entry) → slice_get entries k ≡ Some entry → entry.stays ≡ true → entry_job entry ≡ job.0 → k ≡ at)
     → staying (set entries at (done_entry old)) ≡ finished (staying entries) job
 staying_finished [] at old job e stays is unique = absurd (none-some old e)
 staying_finished (y ∷ ys) zero old job e stays is unique =
     let same = same_Some y old e in
     let here : y.stays ≡ true = ap is_staying same ∙ stays in
-    let of_job : is_job job y.item ≡ true = eq-eqb (job_of y) job.0 (ap job_of same ∙ is) in
+    let of_job : is_job job y.item ≡ true = eq-eqb (entry_job y) job.0 (ap entry_job same ∙ is) in
     let others = finished_absent ys job
     (λ k entry there stays_too of_it. absurd (omega (arith, unique (suc k) entry there stays_too of_it))) in
     rw (here, of_job, stays)
@@ -214,7 +215,7 @@ staying_finished (y ∷ ys) (suc at) old job e stays is unique =
         → map item_of (cond a (y ∷ filter is_staying (set ys at (done_entry old))) (filter is_staying (set ys at (done_entry old))))
         ≡ finished (map item_of (cond a (y ∷ filter is_staying ys) (filter is_staying ys))) job
     by true here rest =
-        let other : is_job job y.item ≡ false = ne_eqb (job_of y) job.0 (λ of_it. absurd (omega (arith, unique 0 y refl here of_it))) in
+        let other : is_job job y.item ≡ false = ne_eqb (entry_job y) job.0 (λ of_it. absurd (omega (arith, unique 0 y refl here of_it))) in
         ap₂ ◌∷◌ (sym (finish_no job y.item other)) rest
     by false gone rest = rest
 

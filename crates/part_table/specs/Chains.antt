@@ -14,8 +14,8 @@ pub record Chained : Type 0 where
   pub resources : ℕ
 
 -- the entries of links, and where each of them leads
-abbrev pub entries_of : List Link → List Entry
-entries_of links = map (λ link. link.entry) links
+abbrev pub link_entries : List Link → List Entry
+link_entries links = map (λ link. link.entry) links
 
 abbrev pub nexts_of : List Link → List ℕ
 nexts_of links = map (λ link. link.next) links
@@ -92,7 +92,7 @@ AreNone ends = All (λ end. end ≡ no_end) ends
 pub record IsChain (links : List Link) (ends : List Ends) (room : ℕ) : Type 0 where
   pub within : length links ≤ room
   pub small : room < NOWHERE
-  pub chained : IsChained (entries_of links) (nexts_of links) ends (length links)
+  pub chained : IsChained (link_entries links) (nexts_of links) ends (length links)
 
 -- the place after the last one, where there is one
 abbrev pub linked : List ℕ → ℕ → ℕ → List ℕ

@@ -34,18 +34,18 @@ abbrev pub staying : List Entry → List Standing
 staying entries = map (λ entry. entry.item) (filter (λ entry. entry.stays) entries)
 
 -- the number of the job of an entry
-abbrev pub job_of : Entry → ℕ
-job_of entry = entry.item.part.job.0
+abbrev pub entry_job : Entry → ℕ
+entry_job entry = entry.item.part.job.0
 
 -- no entry that stays is of the job
 abbrev pub IsAbsent : List Entry → JobId → Type 0
-IsAbsent entries job = (k : ℕ) (entry : Entry) → slice_get entries k ≡ Some entry → entry.stays ≡ true → job_of entry ≡ job.0 → ⊥
+IsAbsent entries job = (k : ℕ) (entry : Entry) → slice_get entries k ≡ Some entry → entry.stays ≡ true → entry_job entry ≡ job.0 → ⊥
 
 -- the entry at the place, and no other that stays, is of the job
 abbrev pub IsPlaceOf : List Entry → JobId → ℕ → Type 0
 IsPlaceOf entries job place =
-    (found : Entry) × (slice_get entries place ≡ Some found) × (found.stays ≡ true) × (job_of found ≡ job.0)
-    × ((k : ℕ) (entry : Entry) → slice_get entries k ≡ Some entry → entry.stays ≡ true → job_of entry ≡ job.0 → k ≡ place)
+    (found : Entry) × (slice_get entries place ≡ Some found) × (found.stays ≡ true) × (entry_job found ≡ job.0)
+    × ((k : ℕ) (entry : Entry) → slice_get entries k ≡ Some entry → entry.stays ≡ true → entry_job entry ≡ job.0 → k ≡ place)
 
 -- the entry at the place is that of the first part that passes the test
 abbrev pub IsPlaceOfFirst : (Standing → Bool) → List Entry → ℕ → Type 0
@@ -56,7 +56,7 @@ IsPlaceOfFirst test entries place =
 -- what is known of the job of each entry that stays
 abbrev pub IsKnown : List Entry → (ℕ → Option ℕ) → (ℕ → Entry → ℕ) → Type 0
 IsKnown entries known value = (k : ℕ) (entry : Entry) → slice_get entries k ≡ Some entry → entry.stays ≡ true
-    → known (job_of entry) ≡ Some (value k entry)
+    → known (entry_job entry) ≡ Some (value k entry)
 
 -- the job of each entry that stays has the seat that the entry tells
 abbrev pub AreSeated : List Entry → Seated → Type 0

@@ -4,7 +4,7 @@
 //! by one step for each of them that is gone. One chain serves both: the next that stays, and the next that stays and is not done.
 ghost use Rattle.std.specs.Prelude.{◌≡◌, ◌≢◌, ℕ, ◌+◌, ◌<◌, ◌≤◌, ◌∷◌, ◌++◌, [], true, not, ◌&&◌, if◌then◌else◌, nat_le, min, map, filter};
 ghost use Rattle.std.specs.Prelude.{length, All, Some, None, slice_get, slice_set, slice_index, MatchOption, IfOk, vec_capacity};
-ghost use Rattle.part_table.specs.Chains.{OFF, entries_of, nexts_of, told_key, key_of, standing_key, waiting_key};
+ghost use Rattle.part_table.specs.Chains.{OFF, link_entries, nexts_of, told_key, key_of, standing_key, waiting_key};
 ghost use Rattle.part_table.specs.Chains.{IsFirst, IsOnWay, WasFirst, AreLinked, AreNone, IsChained, linked};
 ghost use Rattle.part_table.specs.Logs.{gone_entry, done_entry, reseated, staying};
 ghost use Rattle.part_table.specs.Standings.{parts_of};
@@ -70,12 +70,12 @@ pub struct Chain {
 
 impl Model for Chain {
     ghost use Rattle.std.specs.Prelude.{length, vec_capacity};
-    ghost use Rattle.part_table.specs.Chains.{Chained, IsChain, entries_of};
+    ghost use Rattle.part_table.specs.Chains.{Chained, IsChain, link_entries};
 
     ghost Value = { Chained };
 
     ghost view = { λ s. record {
-      entries = entries_of s.links.items;
+      entries = link_entries s.links.items;
       room = vec_capacity s.links;
       resources = length s.ends.items;
     } };
@@ -102,7 +102,7 @@ fn forget(ends: &mut Vec<Ends>)
 /// The last place before a place leads to it, where there is one.
 fn lead(links: &mut Vec<Link>, last: u32, at: u32)
     requires { at < length links.old.items }
-    ensures entries { entries_of links.new.items ≡ entries_of links.old.items }
+    ensures entries { link_entries links.new.items ≡ link_entries links.old.items }
     ensures next { nexts_of links.new.items ≡ linked (nexts_of links.old.items) last at }
     ensures room { vec_capacity links.new ≡ vec_capacity links.old }
 {
@@ -114,14 +114,14 @@ fn lead(links: &mut Vec<Link>, last: u32, at: u32)
 /// The entry at a place, which stays, has the item and leads nowhere, comes after those before it, which are linked.
 fn join(links: &mut Vec<Link>, ends: &mut Vec<Ends>, at: u32, item: Standing)
     requires few { length links.old.items ≤ NOWHERE }
-    requires chained { IsChained (entries_of links.old.items) (nexts_of links.old.items) ends.old.items at }
+    requires chained { IsChained (link_entries links.old.items) (nexts_of links.old.items) ends.old.items at }
     requires inside { at < length links.old.items }
     requires nowhere { slice_index (nexts_of links.old.items) at ≡ NOWHERE }
-    requires entry { (entry : Entry) → slice_get (entries_of links.old.items) at ≡ Some entry
+    requires entry { (entry : Entry) → slice_get (link_entries links.old.items) at ≡ Some entry
         → (entry.item ≡ item) × (entry.stays ≡ true) }
     requires told { item.on.0 < length ends.old.items }
-    ensures entries { entries_of links.new.items ≡ entries_of links.old.items }
-    ensures chained { IsChained (entries_of links.new.items) (nexts_of links.new.items) ends.new.items (at + 1) }
+    ensures entries { link_entries links.new.items ≡ link_entries links.old.items }
+    ensures chained { IsChained (link_entries links.new.items) (nexts_of links.new.items) ends.new.items (at + 1) }
     ensures room { vec_capacity links.new ≡ vec_capacity links.old }
     ensures resources { length ends.new.items ≡ length ends.old.items }
 {
@@ -136,10 +136,10 @@ fn join_all(links: &mut Vec<Link>, ends: &mut Vec<Ends>)
     requires few { length links.old.items ≤ NOWHERE }
     requires none { AreNone ends.old.items }
     requires resources { length ends.old.items ≤ OFF }
-    requires stay { All (λ entry. entry.stays ≡ true) (entries_of links.old.items) }
-    requires told { All (λ entry. told_key entry < length ends.old.items) (entries_of links.old.items) }
-    ensures entries { entries_of links.new.items ≡ entries_of links.old.items }
-    ensures chained { IsChained (entries_of links.new.items) (nexts_of links.new.items) ends.new.items (length links.new.items) }
+    requires stay { All (λ entry. entry.stays ≡ true) (link_entries links.old.items) }
+    requires told { All (λ entry. told_key entry < length ends.old.items) (link_entries links.old.items) }
+    ensures entries { link_entries links.new.items ≡ link_entries links.old.items }
+    ensures chained { IsChained (link_entries links.new.items) (nexts_of links.new.items) ends.new.items (length links.new.items) }
     ensures room { vec_capacity links.new ≡ vec_capacity links.old }
     ensures resources { length ends.new.items ≡ length ends.old.items }
 {
@@ -160,10 +160,10 @@ fn is_sought(entry: Entry, waiting: bool) -> bool
 /// The first entry from a place on that stays, and where `waiting`, is not done.
 fn seek(links: &[Link], from: u32, waiting: bool) -> u32
     requires few { length links.now ≤ NOWHERE }
-    requires linked { AreLinked (entries_of links.now) (nexts_of links.now) (length links.now) }
+    requires linked { AreLinked (link_entries links.now) (nexts_of links.now) (length links.now) }
     ensures { (r : ℕ) → r < OFF
-        → IsOnWay (map (key_of waiting) (entries_of links.now)) (map told_key (entries_of links.now)) (length links.now) r from
-        → IsFirst (map (key_of waiting) (entries_of links.now)) (length links.now) r result }
+        → IsOnWay (map (key_of waiting) (link_entries links.now)) (map told_key (link_entries links.now)) (length links.now) r from
+        → IsFirst (map (key_of waiting) (link_entries links.now)) (length links.now) r result }
 {
     let mut at = from;
     while (at as usize) < links.len() {
@@ -179,11 +179,11 @@ fn seek(links: &[Link], from: u32, waiting: bool) -> u32
 /// The first place of a resource, which was `first`, after the one at a place lost it.
 fn first_after(links: &[Link], first: u32, at: u32, waiting: bool) -> u32
     requires few { length links.now ≤ NOWHERE }
-    requires linked { AreLinked (entries_of links.now) (nexts_of links.now) (length links.now) }
+    requires linked { AreLinked (link_entries links.now) (nexts_of links.now) (length links.now) }
     requires inside { at < length links.now }
-    ensures { (r : ℕ) → r < OFF → slice_index (map told_key (entries_of links.now)) at ≡ r
-        → WasFirst (map (key_of waiting) (entries_of links.now)) (length links.now) r at first
-        → IsFirst (map (key_of waiting) (entries_of links.now)) (length links.now) r result }
+    ensures { (r : ℕ) → r < OFF → slice_index (map told_key (link_entries links.now)) at ≡ r
+        → WasFirst (map (key_of waiting) (link_entries links.now)) (length links.now) r at first
+        → IsFirst (map (key_of waiting) (link_entries links.now)) (length links.now) r result }
 {
     if first == at {
         seek(links, links[at as usize].next, waiting)
@@ -194,7 +194,7 @@ fn first_after(links: &[Link], first: u32, at: u32, waiting: bool) -> u32
 
 /// The part at an index, among the entries that stay.
 fn nth(links: &[Link], i: u32) -> Option<Standing>
-    ensures { result ≡ slice_get (staying (entries_of links.now)) i }
+    ensures { result ≡ slice_get (staying (link_entries links.now)) i }
 {
     let mut left = i;
     for link in links {
@@ -210,7 +210,7 @@ fn nth(links: &[Link], i: u32) -> Option<Standing>
 
 /// The parts of the entries that stay.
 fn listed(alloc: Global, links: &[Link]) -> Result<List<Part>, NoMemory>
-    ensures { IfOk result (λ parts. parts ≡ parts_of (staying (entries_of links.now))) }
+    ensures { IfOk result (λ parts. parts ≡ parts_of (staying (link_entries links.now))) }
 {
     let mut parts = List::new(alloc);
     for link in links {

@@ -3,7 +3,8 @@ ghost use Rattle.std.specs.Prelude.{◌≡◌, ◌≢◌, ◌<◌, ◌≤◌, �
 ghost use Rattle.std.specs.Prelude.{slice_get, slice_set, MatchOption, IfOk, nat_le, map, filter, find, All, None};
 ghost use Rattle.part_table.specs.declared.standing.Entry.{Entry};
 ghost use Rattle.part_table.specs.declared.chain.TheConstants.{NOWHERE};
-ghost use Rattle.part_table.specs.Logs.{gone_entry, done_entry, staying, job_of, IsAbsent, IsPlaceOf, IsPlaceOfFirst, ArePlaces, AreSeated};
+ghost use Rattle.part_table.specs.Logs.{gone_entry, done_entry, staying, entry_job, IsAbsent, IsPlaceOf};
+ghost use Rattle.part_table.specs.Logs.{IsPlaceOfFirst, ArePlaces, AreSeated};
 ghost use Rattle.part_table.specs.Standings.{parts_of, is_on, is_waiting, advanced};
 ghost use Rattle.cell_base.specs.Policy.{is_loaded, HaveDistinctJobs};
 
@@ -129,7 +130,7 @@ impl Log {
     fn is_at(&self, job: JobId, at: u32) -> bool
         ensures here { result ≡ true → IsPlaceOf self.now.entries job at }
         ensures away { result ≡ false → (entry : Entry) → slice_get self.now.entries at ≡ Some entry → entry.stays ≡ true
-            → job_of entry ≢ job.0 }
+            → entry_job entry ≢ job.0 }
     {
         if at < self.chain.len() {
             let entry = self.chain.get(at);

@@ -13,13 +13,14 @@ use crate::found::{Clue, Found};
 use cell_base::{Cell, JobId, List, NoMemory, Part, ResId};
 use std::alloc::Global;
 use std::marker::Model;
+use std::sync::Arc;
 
 /// The parts of a cell in the order of arrival at their present stages. Their jobs differ, and the resource that was told of a part is
 /// the one of its stage.
 pub struct Parts {
-    /// The cell, which contracts alone read. (A `Snapshot` of it would have no bytes, but beside the seats of a durable cell it leaves
-    /// `Send` unproved.)
-    cell: Cell,
+    /// The cell, which contracts alone read and others hold too. (A `Snapshot` of it would have no bytes, but beside the seats of a
+    /// durable cell it leaves `Send` unproved.)
+    cell: Arc<Cell, Global>,
     arrivals: Arrivals,
 }
 
@@ -35,22 +36,25 @@ impl Drop for Parts {
 
 impl Model for Parts {
     ghost use Rattle.std.specs.Prelude.{◌≡◌, length};
+    ghost use Rattle.std.specs.Arc.{arc_value};
     ghost use Rattle.part_table.specs.Standings.{parts_of, AreOn};
     ghost use Rattle.part_table.specs.Parts.{Table};
 
     ghost Value = { Table };
 
-    ghost view = { λ s. record { cell = s.cell; parts = parts_of s.arrivals.items; spare = s.arrivals.spare } };
+    ghost view = { λ s. record { cell = arc_value s.cell; parts = parts_of s.arrivals.items; spare = s.arrivals.spare } };
 
-    ghost invariant = { λ s. AreOn s.cell s.arrivals.items × (s.arrivals.resources ≡ length s.cell.resources) };
+    ghost invariant = { λ s. AreOn (arc_value s.cell) s.arrivals.items × (s.arrivals.resources ≡ length (arc_value s.cell).resources) };
 }
 
 impl Parts {
+    ghost use Rattle.std.specs.Arc.{arc_value};
+
     /// An empty table of a cell with room for at least `n` parts.
-    pub fn with_room(alloc: Global, cell: Cell, n: u32) -> Result<Parts, NoMemory>
-        requires few { length cell.resources ≤ MAX_RESOURCES }
+    pub fn with_room(alloc: Global, cell: Arc<Cell, Global>, n: u32) -> Result<Parts, NoMemory>
+        requires few { length (arc_value cell).resources ≤ MAX_RESOURCES }
         requires room { n ≤ MAX_UNITS }
-        ensures cell { IfOk result (λ table. table.cell ≡ cell) }
+        ensures cell { IfOk result (λ table. table.cell ≡ arc_value cell) }
         ensures empty { IfOk result (λ table. table.parts ≡ []) }
         ensures spare { IfOk result (λ table. n ≤ table.spare) }
     {

@@ -1,19 +1,21 @@
 //! With memory at hand the table is made, and a part is found by any clue, be it right, stale or none.
 ghost use Rattle.std.specs.Prelude.{◌≡◌, [], false, length, IfOk};
+ghost use Rattle.std.specs.Arc.{arc_value};
 
 use cell_base::{Cell, JobId, List, Name, NoMemory, Part, ResId, Resource, TypeId};
 use part_table::{Clue, Parts};
 use std::alloc::Global;
 use std::process::Abort;
+use std::sync::Arc;
 use std::test::Fail;
 
 /// The one resource.
 const ON: ResId = ResId(0);
 
 /// A cell of one resource, on which all stages are.
-fn cell_of(alloc: Global, name: Name) -> Result<Cell, NoMemory>
-    ensures resources { IfOk result (λ cell. length cell.resources ≡ 1) }
-    ensures types { IfOk result (λ cell. cell.types ≡ []) }
+fn cell_of(alloc: Global, name: Name) -> Result<Arc<Cell, Global>, NoMemory>
+    ensures resources { IfOk result (λ cell. length (arc_value cell).resources ≡ 1) }
+    ensures types { IfOk result (λ cell. (arc_value cell).types ≡ []) }
 {
     let mut resources = List::new(alloc);
     resources.try_push(Resource {
@@ -21,10 +23,8 @@ fn cell_of(alloc: Global, name: Name) -> Result<Cell, NoMemory>
         capacity: 3,
         order: 1,
     })?;
-    Ok(Cell {
-        resources,
-        types: List::new(alloc),
-    })
+    let types = List::new(alloc);
+    Ok(Arc::new(alloc, Cell { resources, types })?)
 }
 
 /// The part of a job at a place.

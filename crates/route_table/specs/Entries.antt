@@ -9,8 +9,8 @@ use Rattle.route_table.specs.declared.entries.Entry.{Entry}
 use Rattle.cell_base.specs.Numbers.{first_number}
 
 -- the entry of a stage: its type and place, and the steps that a part needs which is done there
-abbrev pub entry_of : Cell → Stage → Entry
-entry_of cell s = record { kind = record { 0 = s.kind }; place = s.place; left = work_from cell s true }
+abbrev pub stage_entry : Cell → Stage → Entry
+stage_entry cell s = record { kind = record { 0 = s.kind }; place = s.place; left = work_from cell s true }
 
 -- the numbers of the first stages of the types before a type
 abbrev pub first_numbers : Cell → ℕ → List ℕ
@@ -20,7 +20,7 @@ first_numbers cell kinds = map (first_number cell) (range_with_len 0 kinds)
 pub record IsTableOf (cell : Cell) (firsts : List ℕ) (entries : List Entry) : Type 0 where
   pub fits : CellFits cell
   pub numbers : firsts ≡ first_numbers cell (length cell.types)
-  pub rows : entries ≡ map (entry_of cell) (stages cell)
+  pub rows : entries ≡ map (stage_entry cell) (stages cell)
 
 -- a row knows of each place, from the place `from` on, the steps that a part needs which is done there
 abbrev pub KnowsWork : Cell → ℕ → ℕ → List ℕ → Type 0

@@ -4,7 +4,7 @@ ghost use Rattle.cell_base.specs.declared.limits.TheConstants.{MAX_PLACES};
 ghost use Rattle.cell_base.specs.Stages.{stage, IsStage, stages_of};
 ghost use Rattle.cell_base.specs.Plans.{work_at, work_from};
 ghost use Rattle.cell_base.specs.Fits.{CellFits};
-ghost use Rattle.route_table.specs.Entries.{entry_of, KnowsWork};
+ghost use Rattle.route_table.specs.Entries.{stage_entry, KnowsWork};
 
 use cell_base::{Cell, List, MAX_PLACES, NoMemory, TypeId};
 
@@ -24,7 +24,7 @@ pub struct Entry {
 pub fn push_route(entries: &mut List<Entry>, cell: &Cell, kind: TypeId) -> Result<(), NoMemory>
     requires fits { CellFits cell.now }
     requires kind { kind.0 < length cell.now.types }
-    ensures { OnOk result (entries.new ≡ entries.old ++ map (entry_of cell.now) (stages_of cell.now kind.0)) }
+    ensures { OnOk result (entries.new ≡ entries.old ++ map (stage_entry cell.now) (stages_of cell.now kind.0)) }
 {
     let row = sweep(cell, kind);
     for place in 0..cell.places(kind) {

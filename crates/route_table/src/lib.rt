@@ -3,7 +3,7 @@
 //! A stage is a place of the route of a type. The stages are numbered from 0, types in the order of the cell, and places
 //! upward within a type. A `StageTable` keeps its cell, a copy by `new` and the caller's own by `of`, with an entry for each stage,
 //! so that each look-up reads a fixed number of entries, however long the routes are. Contracts see it as the cell. It takes memory
-//! when it is made and never after.
+//! when it is made and never after. Whoever needs the cell for longer holds it too, by `shared`.
 //!
 //! ```text
 //! let table = StageTable::new(alloc, &cell)?;

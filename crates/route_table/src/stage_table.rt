@@ -1,5 +1,6 @@
 //! The table of the stages of a cell.
 ghost use Rattle.std.specs.Prelude.{◌≡◌, ◌<◌, length, option_map, IfOk, IfSome};
+ghost use Rattle.std.specs.Arc.{arc_value};
 ghost use Rattle.std.specs.Option.{SomeIff};
 ghost use Rattle.cell_base.specs.Stages.{stage, IsStage, stages, resource_at, works_at, order_of, successor, successors};
 ghost use Rattle.cell_base.specs.Plans.{work_from};
@@ -10,6 +11,7 @@ use crate::entries::{Entry, push_route};
 use cell_base::{Cell, List, NoMemory, ResId, TypeId};
 use std::alloc::Global;
 use std::marker::Model;
+use std::sync::Arc;
 
 /// A stage, by its number from 0: types in the order of the cell, places upward.
 #[derive(Clone, Copy, Debug, PartialEq, Eq, Drop)]
@@ -18,7 +20,7 @@ pub struct StageNo(pub u16);
 /// The stages of a cell by their numbers. Contracts see it as the cell, which fits.
 #[derive(Drop)]
 pub struct StageTable {
-    cell: Cell,
+    cell: Arc<Cell, Global>,
     /// By type, the number of its first stage.
     firsts: List<u16>,
     /// By stage.
@@ -30,15 +32,16 @@ impl Model for StageTable {
 
     ghost Value = { Cell };
 
+    ghost use Rattle.std.specs.Arc.{arc_value};
     ghost use Rattle.route_table.specs.Entries.{IsTableOf};
 
-    ghost view = { λ s. s.cell };
+    ghost view = { λ s. arc_value s.cell };
 
-    ghost invariant = { λ s. IsTableOf s.cell s.firsts s.entries };
+    ghost invariant = { λ s. IsTableOf (arc_value s.cell) s.firsts s.entries };
 }
 
 impl StageTable {
-    ghost use Rattle.route_table.specs.Entries.{entry_of};
+    ghost use Rattle.route_table.specs.Entries.{stage_entry};
 
     /// The table of a cell, which it copies.
     pub fn new(alloc: Global, cell: &Cell) -> Result<StageTable, NoMemory>
@@ -60,7 +63,7 @@ impl StageTable {
             push_route(&mut entries, &cell, TypeId(kind as u16))?;
         }
         Ok(StageTable {
-            cell,
+            cell: Arc::new(alloc, cell)?,
             firsts,
             entries,
         })
@@ -73,6 +76,13 @@ impl StageTable {
     {
         let _entries = &self.entries;
         &self.cell
+    }
+
+    /// The cell, for one holder more.
+    pub fn shared(&self) -> Result<Arc<Cell, Global>, NoMemory>
+        ensures { IfOk result (λ cell. arc_value cell ≡ self.now) }
+    {
+        Ok(Arc::try_clone(&self.cell)?)
     }
 
     /// The number of stages.
@@ -105,7 +115,7 @@ impl StageTable {
     /// What the table keeps of a stage.
     fn entry(&self, stage: StageNo) -> Entry
         requires { IsNumber self.now stage.0 }
-        ensures entry { result ≡ entry_of self.now (stage_numbered self.now stage.0) }
+        ensures entry { result ≡ stage_entry self.now (stage_numbered self.now stage.0) }
         ensures stage { IsStage self.now (stage_numbered self.now stage.0) }
         ensures fits { CellFits self.now }
     {

@@ -21,20 +21,20 @@ capacity_at cell r within =
 
 pub returns-clause-tallied : goal.returns-clause-tallied
 returns-clause-tallied c =
-    let cell = c.args.cell in
+    let cell = c.cell-cell.result.now in
     let all : c.loop-resource.capacities ≡ map (λ (r : Resource). r.capacity) cell.resources =
     c.loop-resource.invariant ∙ ap (map (λ (r : Resource). r.capacity)) (take_all c.loop-resource.resource-index cell.resources
     (omega (arith, ap length c.as_slice-resource-items.ensures))) in
     let complete : length c.in_ok-counts.counts.counts ≡ length cell.resources =
     c.in_ok-counts.ensures.length ∙ ap length all ∙ length-map cell.resources (λ (r : Resource). r.capacity) in
     let none = c.in_ok-parts.ensures.empty in
-    record {
-      same_cell = c.in_ok-parts.ensures.cell;
-      enough = omega (arith, c.in_ok-parts.ensures.spare, c.units-room.ensures);
+    rw (← c.cell-cell.ensures.value) (record {
+      same_cell = c.in_ok-parts.ensures.cell ∙ c.in_ok-shared.ensures ∙ sym c.cell-cell.ensures.value;
+      enough = omega (arith, c.in_ok-parts.ensures.spare, c.units.ensures);
       counts = subst (λ (parts : List Part). AreCounts cell parts c.in_ok-counts.counts) (sym none) (record {
         complete = complete;
         each = λ r h. c.in_ok-counts.ensures.zero r;
         capacities = λ r h. ap (λ (xs : List ℕ). get_or xs r 0) (c.in_ok-counts.ensures.capacities ∙ all) ∙ capacity_at cell r h;
       });
       work = ap (λ (parts : List Part). work cell parts) (sym none);
-    }
+    })

@@ -5,24 +5,24 @@ use Rattle.std.proofs.lemmas.Option.{same_Some}
 use Rattle.part_table.specs.declared.chain.Link.{Link}
 use Rattle.part_table.specs.declared.chain.TheConstants.{NOWHERE}
 use Rattle.part_table.specs.declared.standing.Entry.{Entry}
-use Rattle.part_table.specs.Chains.{IsChained, entries_of, nexts_of, told_key}
+use Rattle.part_table.specs.Chains.{IsChained, link_entries, nexts_of, told_key}
 use Rattle.part_table.proofs.Chains.{chained_none}
 use Rattle.part_table.proofs.Seeking.{same_entries, next_set, chained_apart, all_at, entry_read}
 use Rattle.part_table.proofs.chain.join_all.Goals as goal
 
 -- as many links as there were
-same_length : (links first : List Link) → entries_of links ≡ entries_of first → length links ≡ length first
+same_length : (links first : List Link) → link_entries links ≡ link_entries first → length links ≡ length first
 same_length links first same =
     sym (length-map links (λ (link : Link). link.entry)) ∙ ap (λ (xs : List Entry). length xs) same
     ∙ length-map first (λ (link : Link). link.entry)
 
-inside_so : (links first : List Link) (at : ℕ) → entries_of links ≡ entries_of first → at < length first → at < length links
+inside_so : (links first : List Link) (at : ℕ) → link_entries links ≡ link_entries first → at < length first → at < length links
 inside_so links first at same inside = subst (λ l. at < l) (sym (same_length links first same)) inside
 
 pub loop-at-init : goal.loop-at-init
 loop-at-init c = record {
   entries = refl;
-  chained = chained_none (entries_of c.args.links.now.items) (nexts_of c.args.links.now.items) c.args.ends.now.items c.requires.resources
+  chained = chained_none (link_entries c.args.links.now.items) (nexts_of c.args.links.now.items) c.args.ends.now.items c.requires.resources
       c.requires.none;
   room = refl;
   resources = refl;
@@ -48,12 +48,12 @@ join-requires-clause-entry c entry is =
     let same = same_entries links c.loop-at.at c.index_mut.result.now NOWHERE c.index_mut.ensures.value in
     let read = entry_read links c.loop-at.at c.index.result.now (inside_so c.loop-at.links.items c.args.links.now.items c.loop-at.at
     c.loop-at.invariant.entries (omega (arith, c.loop-at-test.true, c.len-at-end.ensures, c.args.links.now.ok.0))) c.index.ensures in
-    let there : slice_get (entries_of c.loop-at.links.items) c.loop-at.at ≡ Some entry =
+    let there : slice_get (link_entries c.loop-at.links.items) c.loop-at.at ≡ Some entry =
     ap (λ (xs : List Entry). slice_get xs c.loop-at.at) (sym same) ∙ is in
-    let first : slice_get (entries_of c.args.links.now.items) c.loop-at.at ≡ Some entry =
+    let first : slice_get (link_entries c.args.links.now.items) c.loop-at.at ≡ Some entry =
     ap (λ (xs : List Entry). slice_get xs c.loop-at.at) (sym c.loop-at.invariant.entries) ∙ there in (
       ap (λ (e : Entry). e.item) (same_Some entry c.index.result.now.entry (sym there ∙ read)),
-      all_at (λ (entry : Entry). entry.stays ≡ true) (entries_of c.args.links.now.items) c.loop-at.at entry c.requires.stay first,
+      all_at (λ (entry : Entry). entry.stays ≡ true) (link_entries c.args.links.now.items) c.loop-at.at entry c.requires.stay first,
     )
 
 pub join-requires-clause-told : goal.join-requires-clause-told
@@ -61,10 +61,10 @@ join-requires-clause-told c =
     let links = c.loop-at.links.items in
     let read = entry_read links c.loop-at.at c.index.result.now (inside_so c.loop-at.links.items c.args.links.now.items c.loop-at.at
     c.loop-at.invariant.entries (omega (arith, c.loop-at-test.true, c.len-at-end.ensures, c.args.links.now.ok.0))) c.index.ensures in
-    let first : slice_get (entries_of c.args.links.now.items) c.loop-at.at ≡ Some c.index.result.now.entry =
+    let first : slice_get (link_entries c.args.links.now.items) c.loop-at.at ≡ Some c.index.result.now.entry =
     ap (λ (xs : List Entry). slice_get xs c.loop-at.at) (sym c.loop-at.invariant.entries) ∙ read in
     subst (λ l. c.index.result.now.entry.item.on.0 < l) (sym c.loop-at.invariant.resources)
-    (all_at (λ (entry : Entry). told_key entry < length c.args.ends.now.items) (entries_of c.args.links.now.items) c.loop-at.at
+    (all_at (λ (entry : Entry). told_key entry < length c.args.ends.now.items) (link_entries c.args.links.now.items) c.loop-at.at
     c.index.result.now.entry c.requires.told first)
 
 pub loop-at-preserved : goal.loop-at-preserved
@@ -82,5 +82,5 @@ returns-clause-chained c =
     let long = same_length c.loop-at.links.items c.args.links.now.items c.loop-at.invariant.entries in
     let end : c.loop-at.at ≡ length c.loop-at.links.items =
     omega (arith, c.loop-at-test.false, c.loop-at.auto.at-end, c.len-at-end.ensures, c.args.links.now.ok.0, long) in
-    subst (IsChained (entries_of c.loop-at.links.items) (nexts_of c.loop-at.links.items) c.loop-at.ends.items) end
+    subst (IsChained (link_entries c.loop-at.links.items) (nexts_of c.loop-at.links.items) c.loop-at.ends.items) end
     c.loop-at.invariant.chained

@@ -1,6 +1,6 @@
 -- Each step goes to the next place that was told the resource.
 use Rattle.std.proofs.Common.{sym, arith, ◌∙◌, map, length}
-use Rattle.part_table.specs.Chains.{entries_of, told_key, key_of}
+use Rattle.part_table.specs.Chains.{link_entries, told_key, key_of}
 use Rattle.part_table.proofs.Firsts.{way_ended}
 use Rattle.part_table.proofs.Seeking.{passed_on, found_at, goes_on}
 use Rattle.part_table.proofs.chain.seek.Goals as goal
@@ -21,5 +21,5 @@ returns-then-is_sought c r below way =
 
 pub returns : goal.returns
 returns c r below way =
-    way_ended (map (key_of c.args.waiting) (entries_of c.args.links.now)) (map told_key (entries_of c.args.links.now))
+    way_ended (map (key_of c.args.waiting) (link_entries c.args.links.now)) (map told_key (link_entries c.args.links.now))
     (length c.args.links.now) r c.loop-at.at (c.loop-at.invariant r below way) c.requires.few c.loop-at-test.false

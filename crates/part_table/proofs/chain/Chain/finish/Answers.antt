@@ -1,7 +1,7 @@
 -- The entry is done, and the first place of its resource that waits goes on to the next one.
 use Rattle.std.proofs.Common.{◌<◌, set, ap, refl, arith, ◌∙◌}
 use Rattle.part_table.specs.declared.standing.Entry.{Entry}
-use Rattle.part_table.specs.Chains.{OFF, told_key, entries_of}
+use Rattle.part_table.specs.Chains.{OFF, told_key, link_entries}
 use Rattle.part_table.specs.Logs.{done_entry}
 use Rattle.part_table.proofs.Changing.{inside_links, lane_of, linked_still, told_still, chain_done, entry_same}
 use Rattle.part_table.proofs.Seeking.{entry_set}
@@ -54,5 +54,5 @@ returns-clause-entries c entry is =
     let here = rw (← c.self.view_is) at is in
     rw (← c.self.view_is)
     (entry_set links c.args.at old (done_entry old.entry) c.index_mut-link.ensures.value
-    ∙ ap (λ (e : Entry). set (entries_of c.self.inside.links.items) c.args.at (done_entry e))
+    ∙ ap (λ (e : Entry). set (link_entries c.self.inside.links.items) c.args.at (done_entry e))
     (entry_same links c.self.inside.ends.items _ c.args.at old c.self.invariant inside c.index_mut-link.ensures.value entry here))

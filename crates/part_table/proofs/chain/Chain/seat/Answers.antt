@@ -1,7 +1,7 @@
 -- The entry keeps its part and its link.
 use Rattle.std.proofs.Common.{ap, set, ◌∙◌}
 use Rattle.part_table.specs.declared.standing.Entry.{Entry}
-use Rattle.part_table.specs.Chains.{entries_of}
+use Rattle.part_table.specs.Chains.{link_entries}
 use Rattle.part_table.specs.Logs.{reseated}
 use Rattle.part_table.proofs.Changing.{inside_links, chain_seated, entry_same}
 use Rattle.part_table.proofs.Seeking.{entry_set}
@@ -22,5 +22,5 @@ returns-clause-entries c entry is =
     let here = rw (← c.self.view_is) at is in
     rw (← c.self.view_is)
     (entry_set links c.args.at old (reseated old.entry c.args.seat) c.index_mut.ensures.value
-    ∙ ap (λ (e : Entry). set (entries_of c.self.inside.links.items) c.args.at (reseated e c.args.seat))
+    ∙ ap (λ (e : Entry). set (link_entries c.self.inside.links.items) c.args.at (reseated e c.args.seat))
     (entry_same links c.self.inside.ends.items _ c.args.at old c.self.invariant inside c.index_mut.ensures.value entry here))

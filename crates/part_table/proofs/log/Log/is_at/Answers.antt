@@ -5,7 +5,7 @@ use Rattle.std.proofs.lemmas.Option.{same_Some, slice_get_within}
 use Rattle.cell_base.specs.declared.requests.JobId.{JobId}
 use Rattle.part_table.specs.declared.standing.Entry.{Entry}
 use Rattle.part_table.specs.Seats.{place_at}
-use Rattle.part_table.specs.Logs.{job_of, IsPlaceOf}
+use Rattle.part_table.specs.Logs.{entry_job, IsPlaceOf}
 use Rattle.part_table.proofs.Jobs.{place_staying}
 use Rattle.part_table.proofs.log.Log.is_at.Goals as goal
 
@@ -21,7 +21,7 @@ pub returns-then-entry-clause-away : goal.returns-then-entry-clause-away
 returns-then-entry-clause-away c is entry e stays same =
     let here : slice_get c.self.inside.chain.entries c.args.at ≡ Some entry = rw (← c.self.view_is) at e in
     let read = same_Some c.get-entry.result entry (sym c.get-entry.ensures ∙ here) in
-    true≢false (sym (eq-eqb (job_of c.get-entry.result) c.args.job.0 (ap job_of read ∙ same)) ∙ is)
+    true≢false (sym (eq-eqb (entry_job c.get-entry.result) c.args.job.0 (ap entry_job read ∙ same)) ∙ is)
 
 pub returns-else-entry-clause-away : goal.returns-else-entry-clause-away
 returns-else-entry-clause-away c is entry e stays same =

@@ -1,5 +1,6 @@
 -- The parts that stay keep their resources.
 use Rattle.std.proofs.Common.{List, ap, sym, subst, ◌∙◌}
+use Rattle.std.specs.Arc.{arc_value}
 use Rattle.part_table.specs.declared.standing.Standing.{Standing}
 use Rattle.part_table.specs.Standings.{parts_of, AreOn}
 use Rattle.part_table.proofs.Standings.{parts_of-without}
@@ -8,8 +9,8 @@ use Rattle.part_table.proofs.parts.Parts.depart_near.Goals as goal
 
 pub invariant_of-self : goal.invariant_of-self
 invariant_of-self c = (
-  subst (AreOn c.self.inside.cell) (sym c.depart.ensures.items)
-      (AreOn-without c.self.inside.cell c.self.inside.arrivals.items c.args.job c.self.invariant.0),
+  subst (AreOn (arc_value c.self.inside.cell)) (sym c.depart.ensures.items)
+      (AreOn-without (arc_value c.self.inside.cell) c.self.inside.arrivals.items c.args.job c.self.invariant.0),
   c.depart.ensures.resources ∙ c.self.invariant.1,
 )
 

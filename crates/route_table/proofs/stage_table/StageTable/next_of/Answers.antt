@@ -13,7 +13,8 @@ here c = ap (λ (entry : Entry). stage entry.kind.0 entry.place) c.entry-entry.e
 
 standing : (c : goal.After-number) → IsStage c.args.self.now (stage c.entry-entry.result.kind.0 c.in_ok-place.place)
 standing c =
-    subst (λ cell. IsStage cell (stage c.entry-entry.result.kind.0 c.in_ok-place.place)) c.self.view_is c.in_ok-place.ensures.within
+    subst (λ cell. IsStage cell (stage c.entry-entry.result.kind.0 c.in_ok-place.place)) (c.deref.ensures ∙ c.self.view_is)
+    c.in_ok-place.ensures.within
 
 pub returns-clause-stage : goal.returns-clause-stage
 returns-clause-stage c =
@@ -22,7 +23,8 @@ returns-clause-stage c =
     ap (λ n. Some (stage_numbered cell n)) c.number.ensures
     ∙ ap (λ s. Some s) ((numbering_law cell).numbered next (standing c))
     ∙ c.in_ok-place.ensures.stage
-    ∙ ap (λ cell. successor cell (stage c.entry-entry.result.kind.0 c.entry-entry.result.place) c.args.branch) c.self.view_is
+    ∙ ap (λ cell. successor cell (stage c.entry-entry.result.kind.0 c.entry-entry.result.place) c.args.branch)
+    (c.deref.ensures ∙ c.self.view_is)
     ∙ ap (λ s. successor cell s c.args.branch) (here c)
 
 pub returns-clause-within : goal.returns-clause-within

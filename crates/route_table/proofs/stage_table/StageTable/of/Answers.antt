@@ -3,7 +3,7 @@ use Rattle.std.proofs.Common.{◌≡◌, ◌≤◌, length, [], ◌∷◌, ◌++
 use Rattle.cell_base.specs.declared.cells.Cell.{Cell}
 use Rattle.cell_base.specs.Stages.{stages_of}
 use Rattle.cell_base.specs.Numbers.{first_number}
-use Rattle.route_table.specs.Entries.{entry_of, first_numbers}
+use Rattle.route_table.specs.Entries.{stage_entry, first_numbers}
 use Rattle.route_table.proofs.Made.{length-entries_before, entries_before-next, first_numbers-next}
 use Rattle.cell_base.proofs.StageCounts.{few_before}
 use Rattle.route_table.proofs.stage_table.StageTable.of.Goals as goal
@@ -29,6 +29,6 @@ loop-kind-preserved c =
     c.len.ensures ∙ ap length c.loop-kind.invariant.1 ∙ length-entries_before cell kind within in (
       c.in_ok-try_push.ensures.ok ∙ ap (λ firsts. firsts ++ c.len.result ∷ []) c.loop-kind.invariant.0
           ∙ ap (λ n. first_numbers cell kind ++ n ∷ []) first ∙ sym (first_numbers-next cell kind),
-      c.in_ok-push_route.ensures ∙ ap (λ entries. entries ++ map (entry_of cell) (stages_of cell kind)) c.loop-kind.invariant.1
+      c.in_ok-push_route.ensures ∙ ap (λ entries. entries ++ map (stage_entry cell) (stages_of cell kind)) c.loop-kind.invariant.1
           ∙ sym (entries_before-next cell kind),
     )
