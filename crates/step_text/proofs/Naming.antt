@@ -1,14 +1,12 @@
 -- Names of a cell and their numbers, both ways.
 use Rattle.std.proofs.Common.{◌≡◌, ◌≢◌, ℕ, zero, suc, ◌<◌, true, false, List, [], ◌∷◌, map, length}
-use Rattle.std.specs.Prelude.{Option}
-use Rattle.std.proofs.Common.{get_or, Ok, Some, position, refl, sym, ap, subst, ◌∙◌, arith}
+use Rattle.std.proofs.Common.{get_or, Ok, Some, position, refl, sym, subst, ◌∙◌, arith}
 use Rattle.std.specs.List.{All, AllPairs, position_or_len, slice_get}
 use Rattle.std.specs.Option.{option_map_or}
 use Rattle.std.specs.Str.{bytes_eq}
 use Rattle.std.proofs.lemmas.Bool.{lt-ltb}
 use Rattle.std.proofs.lemmas.List.{length-map, get_or-map}
 use Rattle.std.proofs.lemmas.List.Quantifiers.{position-Some}
-use Rattle.std.proofs.lemmas.Option.{slice_get_within}
 use Rattle.std.proofs.lemmas.List.Sums.{position_or_len_is}
 use Rattle.std.proofs.lemmas.Slice.Eq.{bytes_eq-Decides}
 use Rattle.cell_base.specs.declared.cells.Cell.{Cell}
@@ -134,14 +132,6 @@ module _ (cell : Cell) (fits : CellFits cell) where
   pub type_found : (word : List ℕ) (k : ℕ) → position (bytes_eq word) (type_names cell.types) ≡ Some k
       → number_of_name (type_names cell.types) word ≡ Ok k
   type_found word k found = found_name _ word k types_are found
-
-  pub type_guessed : (word : List ℕ) (k : ℕ) (found : JobType) → slice_get cell.types k ≡ Some found → bytes_eq word found.name ≡ true
-      → position (bytes_eq word) (type_names cell.types) ≡ Some k
-  type_guessed word k found at same =
-      let is : get_or (type_names cell.types) k [] ≡ word =
-      sym (name_listed (λ (t : JobType). t.name) cell.types k) ∙ ap (λ (t : Option JobType). option_map_or (λ (t : JobType). t.name) t []) at
-      ∙ sym ((bytes_eq-Decides word found.name).0 same) in
-      found_at (type_names cell.types) word k types_are (rw length-map (slice_get_within cell.types k found at)) is
 
   pub resource_again : (k : ℕ) → k < length cell.resources → number_of_name (resource_names cell.resources) (resource_name cell k) ≡ Ok k
   resource_again k within = listed_again (λ (r : Resource). r.name) cell.resources k resources_are within

@@ -1,12 +1,12 @@
 //! Steps of one cell, many of them: a type is found by the last bytes of its name, where `read_step` compares name after name.
-ghost use Rattle.std.specs.Prelude.{◌≡◌, ◌<◌, ◌∷◌, [], codes, length, IfOk, IfSome};
+ghost use Rattle.std.specs.Prelude.{◌≡◌, ◌<◌, ◌∷◌, codes, length, Ok, IfOk, IfSome};
 ghost use Rattle.cell_base.specs.Fits.{CellFits};
-ghost use Rattle.cell_base.specs.Named.{type_names};
-ghost use Rattle.step_text.specs.Steps.{IsStep, load_of, number_of_name, step_of};
+ghost use Rattle.cell_base.specs.Named.{type_name};
+ghost use Rattle.step_text.specs.Steps.{IsStep, step_of};
 ghost use Rattle.step_text.specs.Words.{words};
 
 use crate::names::are_same;
-use crate::reading::{LOAD, job_of, read_step, type_named};
+use crate::reading::{job_of, read_step};
 use crate::{StepFault, cut};
 use cell_base::{Cell, JobId, Request, TypeId};
 use std::marker::Model;
@@ -53,27 +53,33 @@ impl<'a> StepReader<'a> {
         StepReader { cell, guesses }
     }
 
-    // The number of the type of which a word is the name.
-    fn type_named(&self, word: &[u8]) -> Result<u16, StepFault>
-        ensures number { result ≡ number_of_name (type_names self.now.types) word.now }
-        ensures within { IfOk result (λ number. number < length self.now.types) }
+    // The number of the type of which a word is the name, where the guess is right.
+    fn guess(&self, word: &[u8]) -> Option<u16>
+        ensures name { IfSome result (λ number. type_name self.now number ≡ word.now) }
+        ensures within { IfSome result (λ number. number < length self.now.types) }
+        ensures fits { CellFits self.now }
     {
         let guess = self.guesses[usize::from(key_of(word))];
         match self.cell.types.as_slice().get(usize::from(guess)) {
-            Some(found) if are_same(word, found.name.bytes()) => Ok(u16::from(guess)),
-            _ => type_named(self.cell, word),
+            Some(found) if are_same(word, found.name.bytes()) => Some(u16::from(guess)),
+            _ => None,
         }
     }
 
-    // The load of a job of a type.
-    #[tactic(auto, unfolding(crate::specs::Steps::load_of))]
-    fn load_of(&self, job_word: &[u8], type_word: &[u8]) -> Result<Request, StepFault>
-        ensures step { result ≡ load_of self.now job_word.now type_word.now }
-        ensures fits { IfOk result (IsStep self.now) }
+    // The load that a text asks for, where it is one and the guess is right.
+    fn load(&self, text: &[u8]) -> Option<Request>
+        ensures step { IfSome result (λ request. step_of self.now text.now ≡ Ok request) }
+        ensures fits { IfSome result (IsStep self.now) }
     {
-        let job = JobId(job_of(job_word)?);
-        let kind = TypeId(self.type_named(type_word)?);
-        Ok(Request::Load { job, kind })
+        let (job_word, rest) = cut(after_load(text)?);
+        let number = self.guess(rest?)?;
+        match job_of(job_word) {
+            Ok(job) => Some(Request::Load {
+                job: JobId(job),
+                kind: TypeId(number),
+            }),
+            Err(_) => None,
+        }
     }
 
     /// The request that a text asks for, as `read_step` gives it.
@@ -81,25 +87,19 @@ impl<'a> StepReader<'a> {
         ensures step { result ≡ step_of self.now text.now }
         ensures fits { IfOk result (IsStep self.now) }
     {
-        match load_words(text) {
-            Some((job_word, type_word)) => self.load_of(job_word, type_word),
+        match self.load(text) {
+            Some(request) => Ok(request),
             None => read_step(self.cell, text),
         }
     }
 }
 
-// The two words after the verb of a load.
-fn load_words(text: &[u8]) -> Option<(&[u8], &[u8])>
-    ensures { IfSome result (λ found. words text.now ≡ codes "load" ∷ found.0.now ∷ found.1.now ∷ []) }
+// What stands after the verb of a load.
+fn after_load(text: &[u8]) -> Option<&[u8]>
+    ensures { IfSome result (λ rest. words text.now ≡ codes "load" ∷ words rest.now) }
 {
-    let (verb, rest) = cut(text);
-    if verb != LOAD {
-        return None;
-    }
-    let (job_word, rest) = cut(rest?);
-    let (type_word, rest) = cut(rest?);
-    match rest {
-        Some(_) => None,
-        None => Some((job_word, type_word)),
+    match text {
+        [b'l', b'o', b'a', b'd', b' ', rest @ ..] => Some(rest),
+        _ => None,
     }
 }
