@@ -16,9 +16,9 @@ use Rattle.cell_base.specs.Policy.{is_loaded, first_over}
 use Rattle.cell_base.specs.Outcomes.{part_of, without, arrival, is_waiting_on, finish_first, refuse, outcome_of_process, outcome_of_unload}
 use Rattle.policy_laws.proofs.Granting.{unload-granted}
 use Rattle.banker_check.specs.Orders.{is_ordered}
-use Rattle.banker_check.specs.Hybrid.{told, refuse_h, block, admit_h, outcome_h_of_entry, outcome_h_of_step, outcome_h_of_move}
+use Rattle.banker_check.specs.Hybrid.{as_hybrid, refuse_h, block, admit_h, outcome_h_of_entry, outcome_h_of_step, outcome_h_of_move}
 
-told-granted : (reply : Reply) → told reply ≡ Granted → reply ≡ Permitted
+told-granted : (reply : Reply) → as_hybrid reply ≡ Granted → reply ≡ Permitted
 told-granted Permitted e = refl
 told-granted (Denied why) e = cc e
 
@@ -68,16 +68,16 @@ module _ (cell : Cell) (parts : List Part) where
       ∙ ap (λ o. (outcome_h_of_step cell parts part o).1) next
       ∙ admit_h-next (without parts part.job ++ arrival cell part.job part.kind to.place ∷ []) (rw next at on_more)
 
-  pub process-next : (r : ℕ) → told (outcome_of_process cell parts r).0 ≡ Granted → (outcome_of_process cell parts r).1 ≡ finish_first
+  pub process-next : (r : ℕ) → as_hybrid (outcome_of_process cell parts r).0 ≡ Granted → (outcome_of_process cell parts r).1 ≡ finish_first
       (is_waiting_on cell r) parts
   process-next r = of (list_any (is_waiting_on cell r) parts)
     where
-      of : (b : Bool) → told (cond b (Permitted, finish_first (is_waiting_on cell r) parts) (refuse Idle parts)).0 ≡ Granted
+      of : (b : Bool) → as_hybrid (cond b (Permitted, finish_first (is_waiting_on cell r) parts) (refuse Idle parts)).0 ≡ Granted
           → (cond b (Permitted, finish_first (is_waiting_on cell r) parts) (refuse Idle parts)).1 ≡ finish_first
           (is_waiting_on cell r) parts
       of true e = refl
       of false e = cc e
 
-  pub unload-next : (job : JobId) → told (outcome_of_unload cell parts (part_of parts job)).0 ≡ Granted
+  pub unload-next : (job : JobId) → as_hybrid (outcome_of_unload cell parts (part_of parts job)).0 ≡ Granted
       → (outcome_of_unload cell parts (part_of parts job)).1 ≡ without parts job
   unload-next job e = unload-granted cell parts job (told-granted (outcome_of_unload cell parts (part_of parts job)).0 e)

@@ -31,7 +31,7 @@ use Rattle.policy_laws.proofs.States.{first_over-none, within-first_over}
 use Rattle.policy_laws.proofs.Requests.{moved}
 use Rattle.policy_laws.specs.Decisions.{is_saturation}
 use Rattle.banker_check.specs.Orders.{IsOrdered, is_ordered}
-use Rattle.banker_check.specs.Hybrid.{IsHybrid, told, refuse_h, block, admit_h, outcome_h, outcome_h_of_entry, outcome_h_of_step}
+use Rattle.banker_check.specs.Hybrid.{IsHybrid, as_hybrid, refuse_h, block, admit_h, outcome_h, outcome_h_of_entry, outcome_h_of_step}
 use Rattle.banker_check.specs.Hybrid.{outcome_h_of_move}
 use Rattle.banker_check.specs.Laws.{BlockLaw, BlockedLaw, GrantLaw, HybridLaw, IsOverfilled, UnsaturatedLaw}
 use Rattle.banker_check.proofs.Greed.{ordered-without}
@@ -50,7 +50,7 @@ pub data Ending (cell : Cell) (parts : List Part) : Reply × List Part → Hybri
 
 -- an ending with the reply of the policy
 abbrev EndingTold : Cell → List Part → Reply × List Part → Type 0
-EndingTold cell parts o = Ending cell parts o (told o.0, o.1)
+EndingTold cell parts o = Ending cell parts o (as_hybrid o.0, o.1)
 
 module _ (cell : Cell) where
   hybrid-finish_first : (test : Part → Bool) (parts : List Part) → IsHybrid cell parts → IsHybrid cell (finish_first test parts)

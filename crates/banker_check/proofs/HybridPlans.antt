@@ -4,7 +4,7 @@ use Rattle.std.proofs.Common.{Option, Some, None, find, ap, refl, sym, subst, in
 use Rattle.std.specs.Option.{option_map, option_map_or}
 use Rattle.std.proofs.lemmas.Bool.{and_parts, and_from, not-true, not-false, not_from_false, eq-eqb, eqb-false, cond_both, both_ways}
 use Rattle.std.proofs.lemmas.List.Elements.{All-contains}
-use Rattle.std.proofs.lemmas.List.Sums.{sum_by-cons, sum_by_push}
+use Rattle.std.proofs.lemmas.List.Sums.{sum_by_push}
 use Rattle.std.proofs.lemmas.Option.{none-some, same_Some}
 use Rattle.cell_base.specs.declared.cells.Cell.{Cell}
 use Rattle.cell_base.specs.declared.cells.ResId.{ResId}
@@ -24,12 +24,12 @@ use Rattle.policy_laws.proofs.Lists.{first_some, find-Contains, find_passes, fin
 use Rattle.policy_laws.proofs.Stages.{resource_within}
 use Rattle.policy_laws.proofs.Parts.{part_of-job, sum_by-without, sum_by-finish_first}
 use Rattle.policy_laws.proofs.Requests.{moved, unload_outcome, process_outcome}
-use Rattle.policy_laws.proofs.Work.{work_of-last, work_of-moved, work_of-finished, work_of-positive}
+use Rattle.policy_laws.proofs.Work.{work_of-last, work_of-moved, work_of-finished}
 use Rattle.policy_laws.proofs.Picks.{plan_step-none}
-use Rattle.policy_laws.proofs.Plans.{plan_step_advances}
+use Rattle.policy_laws.proofs.Plans.{no_work, plan_step_advances}
 use Rattle.banker_check.specs.Ways.{is_held_up}
 use Rattle.banker_check.specs.Orders.{IsOrdered}
-use Rattle.banker_check.specs.Hybrid.{IsHybrid, told, admit_h, outcome_h, state_after_h}
+use Rattle.banker_check.specs.Hybrid.{IsHybrid, as_hybrid, admit_h, outcome_h, state_after_h}
 use Rattle.banker_check.specs.HybridPlans.{goes_first, plan_h, plan_h_within, DrainsHybrid}
 use Rattle.banker_check.specs.Laws.{AdvancesHybrid, HybridPlanLaw}
 use Rattle.banker_check.proofs.Greed.{ordered-loose, loose-first}
@@ -64,13 +64,13 @@ module _ (cell : Cell) (fits : CellFits cell) (parts : List Part) where
         let first = find_some test parts part c passes in
         let unfinished : first.0.done ≡ false = not-true _ (and_parts _ _ (find_passes test parts first.0 first.1)).0 in
         advances (Process machine) (finish_first test parts) (inr ordered) (resource_within cell fits (stage_of part) standing)
-        (ap (λ o. (told o.0, o.1)) (process_outcome cell parts machine (list_any-Contains test parts part c passes)))
+        (ap (λ o. (as_hybrid o.0, o.1)) (process_outcome cell parts machine (list_any-Contains test parts part c passes)))
         (omega (arith, sum_by-finish_first (work_of cell) test parts first.0 first.1, work_of-finished cell first.0 unfinished))
 
     unload_advances : part.done ≡ true → is_last cell (stage_of part) ≡ true → AdvancesHybrid cell parts (Unload part.job)
     unload_advances done last =
         advances (Unload part.job) (without parts part.job) (inr ordered) tt
-        (ap (λ o. (told o.0, o.1))
+        (ap (λ o. (as_hybrid o.0, o.1))
         (unload_outcome cell parts part.job part (part_of-job parts part ordered.state.distinct c) done last))
         (omega (
           arith,
@@ -151,10 +151,6 @@ plan_h-none cell fits parts hybrid = at (is_admitted cell parts) refl
 
 plan_h-empty : (cell : Cell) → plan_h cell [] ≡ None
 plan_h-empty cell = cond_both {A = Option Request} (is_admitted cell []) None None (λ o. o ≡ None) (λ e. refl) (λ e. refl)
-
-no_work : (cell : Cell) (parts : List Part) → work cell parts ≡ 0 → parts ≡ []
-no_work cell [] e = refl
-no_work cell (part ∷ parts) e = absurd (omega (arith, e, sum_by-cons (work_of cell) part parts, work_of-positive cell part))
 
 -- n requests that empty the cell
 abbrev DrainsBy : Cell → List Part → ℕ → List Request → Type 0

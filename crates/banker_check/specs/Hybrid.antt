@@ -23,9 +23,9 @@ abbrev pub IsHybrid : Cell → List Part → Type 0
 IsHybrid cell parts = IsAdmitted cell parts ⊎ IsOrdered cell parts
 
 -- a reply of the policy as one of the hybrid
-abbrev pub told : Reply → HybridReply
-told Permitted = Granted
-told (Denied why) = Refused why
+abbrev pub as_hybrid : Reply → HybridReply
+as_hybrid Permitted = Granted
+as_hybrid (Denied why) = Refused why
 
 -- a refusal leaves the parts
 abbrev pub refuse_h : Refusal → List Part → HybridReply × List Part
@@ -61,9 +61,9 @@ outcome_h_of_entry cell parts part =
 -- the reply of the hybrid to a request that fits the cell, and the next state
 abbrev pub outcome_h : Cell → List Part → Request → HybridReply × List Part
 outcome_h cell parts (Load job kind) = outcome_h_of_entry cell parts (arrival cell job kind 0)
-outcome_h cell parts (Process machine) = let o = outcome_of_process cell parts machine.0 in (told o.0, o.1)
+outcome_h cell parts (Process machine) = let o = outcome_of_process cell parts machine.0 in (as_hybrid o.0, o.1)
 outcome_h cell parts (Move job branch) = outcome_h_of_move cell parts (part_of parts job) branch
-outcome_h cell parts (Unload job) = let o = outcome_of_unload cell parts (part_of parts job) in (told o.0, o.1)
+outcome_h cell parts (Unload job) = let o = outcome_of_unload cell parts (part_of parts job) in (as_hybrid o.0, o.1)
 outcome_h cell parts (Place done kind job place) =
     outcome_h_of_entry cell parts (record { job = job; kind = kind; place = place; done = done })
 

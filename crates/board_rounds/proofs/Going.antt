@@ -22,8 +22,8 @@ use Rattle.solo_rounds.specs.Underway.{IsWithinScript, script_asks_left}
 use Rattle.wait_board.specs.declared.waiter.Waiter.{Waiter}
 use Rattle.wait_board.specs.declared.entries.BoardTold.TheVariants as told
 use Rattle.wait_board.specs.declared.entries.BoardEntry.{BoardEntry}
-use Rattle.wait_board.specs.Boards.{OnBoard, asks_of, board, decided, end_of_wait, entry, is_answer, is_ready, joined}
-use Rattle.wait_board.specs.Boards.{noted, renewed, scan_within, settled, told_on, waiter_of, without_first}
+use Rattle.wait_board.specs.Boards.{OnBoard, asks_of, board, after_wait, end_of_wait, entry, is_answer, is_ready, with_waiter}
+use Rattle.wait_board.specs.Boards.{noted, renewed, scan_within, all_renewed, told_on, waiter_of, without_first}
 use Rattle.wait_board.specs.BoardState.{AreApart, IsOther}
 use Rattle.wait_board.proofs.Firsts.{All-without, length-without, pairs-head, pairs-map, pairs-tail, pairs-without}
 use Rattle.wait_board.proofs.Room.{others_wait}
@@ -117,7 +117,8 @@ module _ (shift : Shift) where
   -- ---- a scan
 
   module _ (cell : Cell) where
-    decided_going : (on : OnBoard) (w : Waiter) → find (is_ready cell on.parts) on.waiters ≡ Some w → Going on → Going (decided cell on w)
+    decided_going : (on : OnBoard) (w : Waiter) → find (is_ready cell on.parts) on.waiters ≡ Some w → Going on
+        → Going (after_wait cell on w)
     decided_going on w some going =
         let test = is_ready cell on.parts in
         let reply = reply_to cell on.parts w.request in
@@ -136,7 +137,7 @@ module _ (shift : Shift) where
           room = omega (arith, going.room, asks, one, length-append history (e ∷ []));
         }
 
-    settled_going : (on : OnBoard) → Going on → Going (settled cell on)
+    settled_going : (on : OnBoard) → Going on → Going (all_renewed cell on)
     settled_going on going =
         let same = length-map on.waiters (renewed cell on.parts) in
         record {
@@ -152,9 +153,9 @@ module _ (shift : Shift) where
     scan_going zero on going = settled_going on going
     scan_going (suc n) on going =
         elim (find (is_ready cell on.parts) on.waiters) as (λ o. find (is_ready cell on.parts) on.waiters ≡ o
-        → Going (option_map_or (λ waiter. scan_within n cell (decided cell on waiter)) o (settled cell on))) [
+        → Going (option_map_or (λ waiter. scan_within n cell (after_wait cell on waiter)) o (all_renewed cell on))) [
           | None ↦ λ none. settled_going on going
-          | Some w ↦ λ some. scan_going n (decided cell on w) (decided_going on w some going)
+          | Some w ↦ λ some. scan_going n (after_wait cell on w) (decided_going on w some going)
         ] refl
 
     -- ---- the board
@@ -170,7 +171,7 @@ module _ (shift : Shift) where
             (answered on.waiters on.history (entry session request told.Granted) Granted refl refl has free going)
         by_reply (Refused why) =
             elim (is_saturation why) as (λ b.
-            Going (cond b (joined on session request why) (noted on session request (told.Refused why)))) [
+            Going (cond b (with_waiter on session request why) (noted on session request (told.Refused why)))) [
               | true ↦ waits_from_now on.waiters on.history session request why has free going
               | false ↦ answered on.waiters on.history (entry session request (told.Refused why)) (Refused why) refl refl has free going
             ]

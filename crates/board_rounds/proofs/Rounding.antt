@@ -23,8 +23,8 @@ use Rattle.policy_laws.specs.Decisions.{is_saturation}
 use Rattle.wait_board.specs.declared.entries.BoardTold.TheVariants as told
 use Rattle.wait_board.specs.declared.entries.BoardEntry.{BoardEntry}
 use Rattle.wait_board.specs.declared.waiter.Waiter.{Waiter}
-use Rattle.wait_board.specs.Boards.{OnBoard, asks_of, board, decided, end_of_wait, entry, is_ready}
-use Rattle.wait_board.specs.Boards.{joined, noted, opened, scan_within, settled, told_on, waiter_of}
+use Rattle.wait_board.specs.Boards.{OnBoard, asks_of, board, after_wait, end_of_wait, entry, is_ready}
+use Rattle.wait_board.specs.Boards.{with_waiter, noted, opened, scan_within, all_renewed, told_on, waiter_of}
 use Rattle.wait_board.specs.BoardState.{BoardState}
 use Rattle.wait_board.proofs.Asks.{board-asks}
 use Rattle.board_rounds.specs.Rounds.{present_step, progress_in, queue_run, round, rounds}
@@ -47,10 +47,10 @@ module _ (cell : Cell) where
   scan_grows zero on = ([], sym (append-nil on.history))
   scan_grows (suc n) on =
       elim (find (is_ready cell on.parts) on.waiters) as (λ o.
-      Grows on.history (option_map_or (λ waiter. scan_within n cell (decided cell on waiter)) o (settled cell on)).history) [
+      Grows on.history (option_map_or (λ waiter. scan_within n cell (after_wait cell on waiter)) o (all_renewed cell on)).history) [
         | None ↦ ([], sym (append-nil on.history))
-        | Some w ↦ grows_on on.history (decided cell on w).history (scan_within n cell (decided cell on w)).history
-            (entry w.session w.request (end_of_wait (reply_to cell on.parts w.request)) ∷ [], refl) (scan_grows n (decided cell on w))
+        | Some w ↦ grows_on on.history (after_wait cell on w).history (scan_within n cell (after_wait cell on w)).history
+            (entry w.session w.request (end_of_wait (reply_to cell on.parts w.request)) ∷ [], refl) (scan_grows n (after_wait cell on w))
       ]
 
   pub board_grows : (on : OnBoard) (session : ℕ) (request : Request) → Grows on.history (board cell on session request).history
@@ -63,7 +63,7 @@ module _ (cell : Cell) where
           (entry session request told.Granted ∷ [], refl) (scan_grows (length on.waiters) noted_on)
       by_reply (Refused why) =
           elim (is_saturation why) as (λ b.
-          Grows on.history (cond b (joined on session request why) (noted on session request (told.Refused why))).history) [
+          Grows on.history (cond b (with_waiter on session request why) (noted on session request (told.Refused why))).history) [
             | true ↦ (entry session request (told.Waits why) ∷ [], refl)
             | false ↦ (entry session request (told.Refused why) ∷ [], refl)
           ]

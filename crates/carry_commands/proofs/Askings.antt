@@ -15,19 +15,19 @@ use Rattle.durable_cell.specs.declared.fault.AskFault.TheVariants as fault
 use Rattle.durable_cell.proofs.Halts.{halted_at-none}
 use Rattle.journal_texts.specs.Recorded.{IsFresh}
 use Rattle.journal_texts.proofs.HaltedHistories.{none_halted}
-use Rattle.journal_texts.specs.AskedSteps.{HaltsIn, after_steps, drained, drained_to, step_entry, step_grant}
+use Rattle.journal_texts.specs.AskedSteps.{HaltsIn, after_plan_steps, drained, drained_to, step_entry, step_grant}
 use Rattle.journal_texts.proofs.AskedSteps.{after_drained, drained_unhalted}
 use Rattle.carry_commands.proofs.Granting.{granted_at}
 
 module _ {D : Type 0} (old : DurableState D) where
   -- nothing was asked yet
-  pub begins : IsFresh old → old ≡ after_steps old old.disk []
+  pub begins : IsFresh old → old ≡ after_plan_steps old old.disk []
   begins fresh = λ i. record old { history = fresh.history i; added = fresh.added i; unsure = fresh.unsure i }
 
   -- one request more
   grown : (before behind : D) (first : List Request) (request : Request)
-      → with_entry (after_steps old before first) behind 0 (entry 0 request (Answered Granted))
-      ≡ after_steps old behind (first ++ request ∷ [])
+      → with_entry (after_plan_steps old before first) behind 0 (entry 0 request (Answered Granted))
+      ≡ after_plan_steps old behind (first ++ request ∷ [])
   grown before behind first request = λ i. record old {
     disk = behind;
     history = sym (map-append (step_entry (Answered Granted)) first (request ∷ [])) i;
@@ -36,7 +36,7 @@ module _ {D : Type 0} (old : DurableState D) where
   }
 
   module _ (now new : DurableState D) (requests first rest : List Request) (request : Request)
-      (parted : requests ≡ first ++ request ∷ rest) (so_far : now ≡ after_steps old now.disk first) where
+      (parted : requests ≡ first ++ request ∷ rest) (so_far : now ≡ after_plan_steps old now.disk first) where
     -- it is granted
     granted_next : all_granted old.cell (first_parts old) requests ≡ true → reply_to now.cell (parts now) request ≡ Granted
     granted_next granted =
@@ -46,7 +46,7 @@ module _ {D : Type 0} (old : DurableState D) where
         (subst (λ (rs : List Request). all_granted old.cell (first_parts old) rs ≡ true) parted granted)
 
     pub goes_on : all_granted old.cell (first_parts old) requests ≡ true → (reply : Reply) → Answers now 0 0 request (Ok reply) new
-        → new ≡ after_steps old new.disk (first ++ request ∷ [])
+        → new ≡ after_plan_steps old new.disk (first ++ request ∷ [])
     goes_on granted reply answer =
         answer.0
         ∙ ap (λ (r : Reply). with_entry now new.disk 0 (entry 0 request (Answered r))) (answer.1 ∙ granted_next granted)

@@ -12,11 +12,12 @@ use Rattle.start_file.specs.StartFiles.{start_reads}
 use Rattle.cell_walks.specs.Allowed.{AllowsFrom, ByMemory, ByRefusal, IsAllowed, IsEndedAt, JournalOpened}
 use Rattle.cell_walks.specs.Allowed.{NotOpened, Opened, Passed, Stopped, Unasked}
 use Rattle.cell_walks.specs.DiskTold.{DiskTold, IsUntouched, disk_told}
-use Rattle.cell_walks.specs.Observed.{File, Observed, Shows, files_told, observed}
-use Rattle.cell_walks.specs.Outcomes.{early}
+use Rattle.cell_walks.specs.Observed.{File, Observed, HoldsOfBytes, files_told, observed}
+use Rattle.cell_walks.specs.Outcomes.{Outcome, early}
 use Rattle.cell_walks.specs.Walks.{Opens, Tests, Walk}
 use Rattle.cell_walks.specs.declared.early_end.EarlyEnd.{EarlyEnd}
-use Rattle.cell_walks.proofs.Steps.{ended_after, ended_at, shown_before}
+use Rattle.cell_walks.proofs.TwoTests.{both_passed, first_ended, second_ended}
+use Rattle.cell_walks.proofs.Steps.{ended_at}
 use Rattle.journal_texts.specs.Recorded.{recorded_or_early}
 use Rattle.cell_texts.specs.Tests.{KnownCell, cell_file, cell_reads}
 use Rattle.journal_texts.specs.Tests.{to_add}
@@ -63,19 +64,16 @@ module _ (seen : Observed) (held : KnownCell) (requests : List Request) where
 abbrev tried : KnownCell → List Request → Walk
 tried held requests = Tests (grants_start held.cell requests) λ granted. Opens (to_add held MAX_ROOM) (goes_on held requests)
 
-abbrev read : List ℕ → KnownCell → Walk
-read start held = Tests (start_file held.cell start) (tried held)
-
 module _ {F : Type 0} (holds : F → Option Names) (is_sound : F → Type 0) (faults : F → ℕ) (disk : DiskTold) (cell start : List ℕ) where
   -- the cell was not read
   pub begin_unread : (old new : F) (end : EarlyEnd) → IsUntouched disk
       → IsEndedAt (files_told holds is_sound faults old new) (cell_file cell) end
       → IsAllowed (observed (files_told holds is_sound faults old new) disk) (begin cell start) (early end)
-  begin_unread old new end still ended =
-      ended_at (observed (files_told holds is_sound faults old new) disk) Unasked (cell_file cell) (read start) end ended still
+  begin_unread =
+      first_ended holds is_sound faults disk (cell_file cell) (λ held. start_file held.cell start) tried
 
   module _ (old mid new : F) (held : KnownCell)
-      (shows : Shows (files_told holds is_sound faults old mid) (File cell) (λ bytes. cell_reads bytes (Ok held)))
+      (shows : HoldsOfBytes (files_told holds is_sound faults old mid) (File cell) (λ bytes. cell_reads bytes (Ok held)))
       (same : holds mid ≡ holds old) where
     abbrev seen : Observed
     seen = observed (files_told holds is_sound faults old new) disk
@@ -84,30 +82,28 @@ module _ {F : Type 0} (holds : F → Option Names) (is_sound : F → Type 0) (fa
     pub begin_without_start : (end : EarlyEnd) → IsUntouched disk → faults mid ≡ faults old → (is_sound old → is_sound mid)
         → IsEndedAt (files_told holds is_sound faults mid new) (start_file held.cell start) end
         → IsAllowed seen (begin cell start) (early end)
-    begin_without_start end still kept stays ended =
-        Passed held shows
-        (ended_at seen Unasked (start_file held.cell start) (tried held) end
-        (ended_after holds is_sound faults old mid new same kept stays (start_file held.cell start) end ended) still)
+    begin_without_start =
+        second_ended holds is_sound faults disk (cell_file cell) (λ known. start_file known.cell start) tried old mid new held shows same
 
     module _ (requests : List Request)
-        (start_shows : Shows (files_told holds is_sound faults mid new) (File start) (λ bytes. start_reads held.cell bytes (Ok requests)))
+        (start_shows : HoldsOfBytes (files_told holds is_sound faults mid new) (File start)
+        (λ bytes. start_reads held.cell bytes (Ok requests)))
       where
-        of_start : Shows (files_told holds is_sound faults old new) (File start) (λ bytes. start_reads held.cell bytes (Ok requests))
-        of_start =
-            shown_before holds is_sound faults old mid new same (File start) (λ bytes. start_reads held.cell bytes (Ok requests))
-            start_shows
+        went_on : (outcome : Outcome) → AllowsFrom seen outcome Unasked (tried held requests) → IsAllowed seen (begin cell start) outcome
+        went_on outcome =
+            both_passed holds is_sound faults disk (cell_file cell) (λ known. start_file known.cell start) tried old mid new held shows same
+            requests outcome start_shows
 
         -- a request of it is not granted
         pub begin_refused : (end : EarlyEnd) → IsUntouched disk → EndsBeforeJournal held.cell requests end
             → IsAllowed seen (begin cell start) (early end)
         begin_refused end still ended =
-            Passed held shows
-            (Passed requests of_start
+            went_on (early end)
             (ended_at seen Unasked (grants_start held.cell requests) (λ granted. Opens (to_add held MAX_ROOM) (goes_on held requests)) end
-            (at_start seen held requests end ended) still))
+            (at_start seen held requests end ended) still)
 
         -- each is; and the journal was begun, or the command ended there
         pub begin_on_disk : (made : Result Recorded EarlyEnd) → IsGrantedStart held.cell requests → IsBegunOnJournal disk held requests made
             → IsAllowed seen (begin cell start) (recorded_or_early made)
         begin_on_disk made granted has =
-            Passed held shows (Passed requests of_start (Passed tt granted (from_journal seen held requests made has)))
+            went_on (recorded_or_early made) (Passed tt granted (from_journal seen held requests made has))

@@ -14,15 +14,15 @@ use Rattle.start_file.proofs.Lengths.{is_start}
 use Rattle.cell_walks.specs.Allowed.{AllowsFrom, ByMemory, ByRefusal, IsAllowed, IsEndedAt}
 use Rattle.cell_walks.specs.Allowed.{JournalOpened, NotOpened, Passed, Stopped, Unasked}
 use Rattle.cell_walks.specs.DiskTold.{DiskTold, IsOnlyRead, IsUntouched}
-use Rattle.cell_walks.specs.Observed.{File, Observed, Shows, files_told, observed}
+use Rattle.cell_walks.specs.Observed.{File, Observed, HoldsOfBytes, files_told, observed}
 use Rattle.cell_walks.specs.Outcomes.{Outcome, done, early}
-use Rattle.cell_walks.specs.Walks.{Journal, Opens, Tests, Walk, end_with}
+use Rattle.cell_walks.specs.Walks.{Journal, Opens, Walk, end_with}
 use Rattle.cell_walks.specs.declared.early_end.Subject.TheVariants.{Command}
 use Rattle.cell_base.specs.declared.requests.Part.{Part}
 use Rattle.carry_commands.specs.Carried.{carried}
 use Rattle.carry_commands.specs.declared.refusals.CarryFault.{CarryFault}
 use Rattle.cell_walks.specs.declared.early_end.EarlyEnd.{EarlyEnd}
-use Rattle.cell_walks.proofs.Steps.{ended_after, ended_at, shown_before}
+use Rattle.cell_walks.proofs.TwoTests.{both_passed, first_ended, second_ended}
 use Rattle.journal_texts.specs.JournalReads.{IsAfterGrants}
 use Rattle.cell_texts.specs.Tests.{KnownCell, cell_file, cell_reads}
 use Rattle.journal_texts.specs.Tests.{to_read}
@@ -91,20 +91,19 @@ module _ (seen : Observed) (held new : KnownCell) where
   from_journal fits only (Err end) has (NotCarried grants opened ends) =
       JournalOpened grants opened (Stopped end (at_carry grants end ends) (refl, only))
 
--- what comes after the first cell
-abbrev second : List ℕ → KnownCell → Walk
-second other held = Tests (cell_file other) λ new. Opens (to_read held) (carried_over held new)
+-- what comes after both cells
+abbrev read_on : KnownCell → KnownCell → Walk
+read_on held new = Opens (to_read held) (carried_over held new)
 
 module _ {F : Type 0} (holds : F → Option Names) (is_sound : F → Type 0) (faults : F → ℕ) (disk : DiskTold) (cell other : List ℕ) where
   -- the first cell was not read
   pub carry_unread : (old new : F) (end : EarlyEnd) → IsUntouched disk
       → IsEndedAt (files_told holds is_sound faults old new) (cell_file cell) end
       → IsAllowed (observed (files_told holds is_sound faults old new) disk) (carry cell other) (early end)
-  carry_unread old new end still ended =
-      ended_at (observed (files_told holds is_sound faults old new) disk) Unasked (cell_file cell) (second other) end ended still
+  carry_unread = first_ended holds is_sound faults disk (cell_file cell) (λ held. cell_file other) read_on
 
   module _ (old mid new : F) (held : KnownCell)
-      (shows : Shows (files_told holds is_sound faults old mid) (File cell) (λ bytes. cell_reads bytes (Ok held)))
+      (shows : HoldsOfBytes (files_told holds is_sound faults old mid) (File cell) (λ bytes. cell_reads bytes (Ok held)))
       (same : holds mid ≡ holds old) where
     abbrev seen : Observed
     seen = observed (files_told holds is_sound faults old new) disk
@@ -113,17 +112,15 @@ module _ {F : Type 0} (holds : F → Option Names) (is_sound : F → Type 0) (fa
     pub carry_without_other : (end : EarlyEnd) → IsUntouched disk → faults mid ≡ faults old → (is_sound old → is_sound mid)
         → IsEndedAt (files_told holds is_sound faults mid new) (cell_file other) end
         → IsAllowed seen (carry cell other) (early end)
-    carry_without_other end still kept stays ended =
-        Passed held shows
-        (ended_at seen Unasked (cell_file other) (λ second. Opens (to_read held) (carried_over held second)) end
-        (ended_after holds is_sound faults old mid new same kept stays (cell_file other) end ended) still)
+    carry_without_other =
+        second_ended holds is_sound faults disk (cell_file cell) (λ known. cell_file other) read_on old mid new held shows same
 
     -- both were; and the parts were carried, or the command ended there
     pub carry_made : (second : KnownCell)
-        → Shows (files_told holds is_sound faults mid new) (File other) (λ bytes. cell_reads bytes (Ok second)) → CellFits second.cell
+        → HoldsOfBytes (files_told holds is_sound faults mid new) (File other) (λ bytes. cell_reads bytes (Ok second))
+        → CellFits second.cell
         → IsOnlyRead disk → (made : Result Carried EarlyEnd) → IfOk made (HasCarriedAfter disk (to_read held) second.cell)
         → IfErr made (EndsAfter disk (to_read held) second.cell) → IsAllowed seen (carry cell other) (carry_outcome made)
     carry_made second read fits only made has ended =
-        Passed held shows
-        (Passed second (shown_before holds is_sound faults old mid new same (File other) (λ bytes. cell_reads bytes (Ok second)) read)
-        (from_journal seen held second fits only made has ended))
+        both_passed holds is_sound faults disk (cell_file cell) (λ known. cell_file other) read_on old mid new held shows same second
+        (carry_outcome made) read (from_journal seen held second fits only made has ended)

@@ -6,7 +6,7 @@ use Rattle.cell_base.specs.declared.requests.Refusal.{Refusal}
 use Rattle.cell_base.specs.declared.requests.Refusal.TheVariants.{JobLoaded, Saturated}
 use Rattle.record_text.specs.Fitting.{RefusalFits}
 use Rattle.record_text.specs.Lines.{line_of, why_words}
-use Rattle.cell_texts.specs.FaultNumbers.{counted}
+use Rattle.cell_texts.specs.FaultNumbers.{with_count}
 use Rattle.cell_texts.specs.Texts.{refusal_text}
 use Rattle.carry_commands.specs.declared.refusals.CarryFault.{CarryFault}
 use Rattle.carry_commands.specs.declared.refusals.StartFault.{StartFault}
@@ -41,4 +41,4 @@ start_refused cell fault = line_of (codes "start" ∷ codes "refused" ∷ decima
 
 -- the line of a journal whose grant at this index is not that of the start: fault number 6 of a journal
 abbrev pub other_start : ℕ → List ℕ
-other_start at = refusal_text (codes "journal") (counted 6 at)
+other_start at = refusal_text (codes "journal") (with_count 6 at)

@@ -20,7 +20,7 @@ use Rattle.durable_cell.specs.declared.fault.AskFault.{AskFault}
 use Rattle.durable_cell.specs.declared.fault.AskFault.TheVariants as fault
 use Rattle.durable_cell.proofs.Grown.{no_halt_yet}
 use Rattle.cell_base.proofs.Histories.{after-push}
-use Rattle.journal_texts.specs.AskedSteps.{HaltsIn, drained_to, step_entry, after_steps, step_grant}
+use Rattle.journal_texts.specs.AskedSteps.{HaltsIn, drained_to, step_entry, after_plan_steps, step_grant}
 use Rattle.journal_texts.specs.Recorded.{IsFresh}
 use Rattle.cell_commands.specs.declared.drain.TheConstants.{MAX_PLAN}
 
@@ -29,7 +29,7 @@ pub record Asking {D : Type 0} (old now : DurableState D) : Type 0 where
   pub steps : List Request
   pub rest : List Request
   pub parted : plan_of old.cell (first_parts old) ≡ steps ++ rest
-  pub is : now ≡ after_steps old now.disk steps
+  pub is : now ≡ after_plan_steps old now.disk steps
   pub left : rest ≡ plan_of now.cell (parts now)
 
 module _ {D : Type 0} (old : DurableState D) where
@@ -58,14 +58,15 @@ module _ {D : Type 0} (old : DurableState D) where
 
   -- no step is left
   pub comes_to_end : (now : DurableState D) → Asking old now → plan_of now.cell (parts now) ≡ []
-      → now ≡ after_steps old now.disk (plan_of old.cell (first_parts old))
+      → now ≡ after_plan_steps old now.disk (plan_of old.cell (first_parts old))
   comes_to_end now so_far none =
-      so_far.is ∙ ap (after_steps old now.disk) (sym (append-nil so_far.steps)
+      so_far.is ∙ ap (after_plan_steps old now.disk) (sym (append-nil so_far.steps)
       ∙ ap (λ (l : List Request). so_far.steps ++ l) (sym (so_far.left ∙ none)) ∙ sym so_far.parted)
 
   -- one more step was granted, and is an entry and a grant more
   one_more : (before after : D) (steps : List Request) (step : Request)
-      → with_entry (after_steps old before steps) after 0 (entry 0 step (Answered Granted)) ≡ after_steps old after (steps ++ step ∷ [])
+      → with_entry (after_plan_steps old before steps) after 0 (entry 0 step (Answered Granted))
+      ≡ after_plan_steps old after (steps ++ step ∷ [])
   one_more before after steps step = λ i. record old {
     disk = after;
     history = sym (map-append (step_entry (Answered Granted)) steps (step ∷ [])) i;

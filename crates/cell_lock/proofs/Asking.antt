@@ -20,7 +20,7 @@ use Rattle.durable_cell.specs.Asked.{Answers, GoesOn, with_entry, entry, halted_
 use Rattle.durable_cell.specs.DurableState.{DurableState, first_parts}
 use Rattle.cell_lock.specs.declared.board.Opening.{Opening}
 use Rattle.cell_lock.specs.Openings.{Fits, opening_of}
-use Rattle.cell_lock.specs.Standing.{Standing, AddsEntry, Asked}
+use Rattle.cell_lock.specs.Passes.{PassState, AddsEntry, Asked}
 use Rattle.cell_lock.proofs.Histories.{prefix_more, entries-own}
 
 -- an entry more keeps what was seen a beginning
@@ -35,13 +35,13 @@ asked_seen {D} seen shift n request (Err (Device at)) a b p h =
     subst (λ (x : DurableState D). IsPrefix seen x.history) (sym h.0) (prefix_more seen a.history (entry n request told.Halted ∷ []) p)
 
 -- a pass that saw a beginning of the history, and whose own entries are those of its number, before and after
-record Sees {D : Type 0} (p q : Standing D) (a b : DurableState D) : Type 0 where
+record Sees {D : Type 0} (p q : PassState D) (a b : DurableState D) : Type 0 where
   began : IsPrefix p.seen a.history
   before : p.mine ≡ entries_of p.number a.history
   seen : q.seen ≡ b.history
   own : q.mine ≡ entries_of p.number b.history
 
-added : {D : Type 0} (p q : Standing D) (shift : ℕ) (a b : DurableState D) (e : Entry) → e.session ≡ p.number → Sees p q a b
+added : {D : Type 0} (p q : PassState D) (shift : ℕ) (a b : DurableState D) (e : Entry) → e.session ≡ p.number → Sees p q a b
     → b ≡ with_entry a b.disk shift e → AddsEntry p q e
 added {D} p q shift a b e by sees is = record {
   before = a.history;
@@ -51,7 +51,7 @@ added {D} p q shift a b e by sees is = record {
       ∙ (entries-own p.number a.history e by ∙ ap (λ (l : List Entry). l ++ e ∷ []) (sym sees.before)));
 }
 
-still : {D : Type 0} (p q : Standing D) (a b : DurableState D) → Sees p q a b → b ≡ a
+still : {D : Type 0} (p q : PassState D) (a b : DurableState D) → Sees p q a b → b ≡ a
     → (halted_at q.seen ≡ halted_at a.history) × (length q.seen ≡ length a.history) × (q.mine ≡ p.mine)
 still {D} p q a b sees same =
     let seen : q.seen ≡ a.history = sees.seen ∙ ap (λ (x : DurableState D). x.history) same in (
@@ -60,7 +60,7 @@ still {D} p q a b sees same =
       sees.own ∙ (ap (λ (x : DurableState D). entries_of p.number x.history) same ∙ sym sees.before),
     )
 
-pub asked : {D : Type 0} (p q : Standing D) (shift : ℕ) (request : Request) (answer : Result Reply AskFault) (a b : DurableState D)
+pub asked : {D : Type 0} (p q : PassState D) (shift : ℕ) (request : Request) (answer : Result Reply AskFault) (a b : DurableState D)
     → IsPrefix p.seen a.history → p.mine ≡ entries_of p.number a.history → q.seen ≡ b.history → q.mine ≡ entries_of p.number b.history
     → a.limit ≡ p.lock.opening.limit → Answers a shift p.number request answer b → Asked p request answer q
 asked p q shift request (Ok reply) a b began before seen own limit h =

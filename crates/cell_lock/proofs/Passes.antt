@@ -1,6 +1,6 @@
 -- For callers: which passes a lock was opened with, and that they stay so.
 use Rattle.std.proofs.Common.{◌≡◌, ℕ, zero, suc, ◌+◌, ◌<◌, List, [], ◌∷◌, length, slice_index_or, refl, ◌∙◌, arith}
-use Rattle.cell_lock.specs.Standing.{LockId, Standing, KeepsName, new_passes, ArePassesNumbered, AreAll}
+use Rattle.cell_lock.specs.Passes.{LockId, PassState, KeepsName, new_passes, ArePassesNumbered, AreAll}
 
 numbered_new : {D : Type 0} (moment : D → ℕ) (lock : LockId D) (first n : ℕ) → ArePassesNumbered lock first (new_passes moment lock first n)
 numbered_new moment lock first zero = tt
@@ -15,8 +15,8 @@ pub all_new : {D : Type 0} (moment : D → ℕ) (lock : LockId D) (n : ℕ) → 
     → AreAll lock (new_passes moment lock 1 n)
 all_new moment lock n same = record { numbered = numbered_new moment lock 1 n; count = length_new moment lock 1 n ∙ same }
 
-numbered_kept : {D : Type 0} (lock : LockId D) (first : ℕ) (old new : List (Standing D)) → length new ≡ length old
-    → ((i : ℕ) (d : Standing D) → i < length old → KeepsName (slice_index_or old i d) (slice_index_or new i d))
+numbered_kept : {D : Type 0} (lock : LockId D) (first : ℕ) (old new : List (PassState D)) → length new ≡ length old
+    → ((i : ℕ) (d : PassState D) → i < length old → KeepsName (slice_index_or old i d) (slice_index_or new i d))
     → ArePassesNumbered lock first old → ArePassesNumbered lock first new
 numbered_kept lock first [] [] len keep h = tt
 numbered_kept lock first [] (q ∷ qs) len keep h = absurd (omega arith)
@@ -26,7 +26,7 @@ numbered_kept lock first (p ∷ ps) (q ∷ qs) len keep h =
     (here.lock ∙ h.0, here.number ∙ h.1, numbered_kept lock (first + 1) ps qs (omega arith) (λ i d lt. keep (suc i) d (omega arith)) h.2)
 
 -- passes that keep their lock and their number, place by place, stay all
-pub all_kept : {D : Type 0} (lock : LockId D) (old new : List (Standing D)) → length new ≡ length old
-    → ((i : ℕ) (d : Standing D) → i < length old → KeepsName (slice_index_or old i d) (slice_index_or new i d))
+pub all_kept : {D : Type 0} (lock : LockId D) (old new : List (PassState D)) → length new ≡ length old
+    → ((i : ℕ) (d : PassState D) → i < length old → KeepsName (slice_index_or old i d) (slice_index_or new i d))
     → AreAll lock old → AreAll lock new
 all_kept lock old new len keep all = record { numbered = numbered_kept lock 1 old new len keep all.numbered; count = len ∙ all.count }

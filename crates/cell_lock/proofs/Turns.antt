@@ -14,7 +14,7 @@ use Rattle.durable_cell.specs.DurableState.{DurableState}
 use Rattle.cell_lock.specs.declared.board.Opening.{Opening}
 use Rattle.cell_lock.specs.declared.board.View.{View}
 use Rattle.cell_lock.specs.Openings.{Fits, Outside}
-use Rattle.cell_lock.specs.Views.{AtSeat, passing, acting, caught_up, Follows}
+use Rattle.cell_lock.specs.Views.{AtSeat, passing, acting, caught_up, MayFind}
 use Rattle.cell_lock.specs.Law.{Has, AllBegin, AllStand, Knows, Free, Taken, Kept, took, grew, gave}
 use Rattle.cell_lock.proofs.Histories.{prefix_all, begin_more, entries-other, mines-other}
 use Rattle.cell_lock.proofs.Acknowledging.{acknowledged_set, stand_on}
@@ -87,7 +87,7 @@ module _ {D : Type 0} (has : DurableState D → ℕ → ℕ → Type 0) (moment 
         };
       } in
       let mine_is : mine ≡ entries_of n k.log = ap (λ (l : List (List Entry)). get_or l 0 []) known.mines in
-      let follows : Follows V f.held = record {
+      let follows : MayFind V f.held = record {
         fits = subst (λ (x : Opening D). Fits x f.held) (sym here) f.fits;
         began = subst (λ (h : List Entry). IsPrefix seen h) (sym f.seen) known.begin.0;
         own = mine_is ∙ ap (entries_of n) (sym f.seen);

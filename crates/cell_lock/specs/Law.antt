@@ -10,7 +10,7 @@ use Rattle.durable_cell.specs.DurableState.{DurableState}
 use Rattle.cell_lock.specs.declared.board.Opening.{Opening}
 use Rattle.cell_lock.specs.declared.board.View.{View}
 use Rattle.cell_lock.specs.Openings.{Fits, Outside, first_moment}
-use Rattle.cell_lock.specs.Views.{AtSeat, mines_of, stock, passing, mine_of, caught_up, Follows}
+use Rattle.cell_lock.specs.Views.{AtSeat, mines_of, stock, passing, mine_of, caught_up, MayFind}
 
 -- the number is one of the view's own
 abbrev pub Has : {D : Type 0} → View D → ℕ → Type 0
@@ -89,7 +89,7 @@ pub record Kept {D : Type 0} (has : DurableState D → ℕ → ℕ → Type 0) (
 abbrev pub took : {D : Type 0} → (DurableState D → ℕ → ℕ → Type 0) → Step (DurableState D) → AtSeat D → ℕ → AtSeat D → Type 0
 took {D} has st m found m' =
     (found ≡ 0 → (durable : DurableState D) × (m' ≡ (caught_up m.0 durable.history (Some durable), (0, durable) ∷ []))
-    × Follows m.0 durable × AllStand has m.0.opening.shift durable m.0.answers)
+    × MayFind m.0 durable × AllStand has m.0.opening.shift durable m.0.answers)
     × (found ≢ 0 → m' ≡ m)
 
 -- the history of the durable cell in hand

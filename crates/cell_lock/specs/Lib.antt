@@ -2,6 +2,6 @@
 pub mod Openings
 pub mod Views
 pub mod Law
-pub mod Standing
+pub mod Passes
 pub mod Steps
 pub mod Clauses

@@ -7,7 +7,7 @@ use Rattle.outside_io.specs.Disk.{Turns}
 use Rattle.durable_cell.specs.DurableState.{DurableState}
 use Rattle.cell_lock.specs.declared.board.Opening.{Opening}
 use Rattle.cell_lock.specs.declared.board.View.{View}
-use Rattle.cell_lock.specs.Standing.{LockId, Standing, all_answers}
+use Rattle.cell_lock.specs.Passes.{LockId, PassState, all_answers}
 
 -- two words and one slot
 abbrev pub IsWide : TableId → Type 0
@@ -34,13 +34,13 @@ abbrev pub lock_of : {D : Type 0} → Seat (DurableState D) (View D) → LockId 
 lock_of seat = record { table = seat.table_id; opening = seat.me.0.opening }
 
 -- the view that has taken in these passes, of which the first has this number
-abbrev pub gathering : {D : Type 0} → Opening D → ℕ → List (Standing D) → View D
+abbrev pub gathering : {D : Type 0} → Opening D → ℕ → List (PassState D) → View D
 gathering {D} opening first passes = record {
   opening = opening;
   first = first;
   count = length passes;
   answers = all_answers passes;
-  mines = map (λ (pass : Standing D). pass.mine) passes;
+  mines = map (λ (pass : PassState D). pass.mine) passes;
   log = [];
   taken = None;
   has_turn = false;

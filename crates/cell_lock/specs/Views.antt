@@ -124,7 +124,7 @@ IsSafe {D} has m durable = (taken : DurableState D) × (m.0.taken ≡ Some taken
 
 -- The durable cell is one that the pass may find: its history begins with what the pass saw, and has the pass's own entries and no others
 -- of its number.
-pub record Follows {D : Type 0} (v : View D) (durable : DurableState D) : Type 0 where
+pub record MayFind {D : Type 0} (v : View D) (durable : DurableState D) : Type 0 where
   pub fits : Fits v.opening durable
   pub began : IsPrefix (seen_of v) durable.history
   pub own : mine_of v ≡ entries_of v.first durable.history

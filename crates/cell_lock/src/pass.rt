@@ -15,11 +15,11 @@ pub struct Pass<D: Disk> {
 
 impl<D: Disk> Model for Pass<D> {
     ghost use Rattle.std.specs.Prelude.{◌≡◌};
-    ghost use Rattle.cell_lock.specs.Standing.{Standing};
+    ghost use Rattle.cell_lock.specs.Passes.{PassState};
     ghost use Rattle.cell_lock.specs.Steps.{lock_of};
     ghost use Rattle.cell_lock.specs.Views.{IsResting, seen_of, moment_of, earlier_of, mine_of};
 
-    ghost Value = { Standing D };
+    ghost Value = { PassState D };
 
     ghost view = { λ p. record {
       lock = lock_of p.seat;

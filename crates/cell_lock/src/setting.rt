@@ -2,7 +2,7 @@
 ghost use Rattle.std.specs.Prelude.{◌≡◌, ◌+◌, ◌-◌, ◌<◌, ◌≤◌, false, [], ◌∷◌, length, IfOk, IfErr};
 ghost use Rattle.cell_lock.specs.Openings.{opening_of};
 ghost use Rattle.cell_lock.specs.Views.{stock, passing, gathered, IsStock};
-ghost use Rattle.cell_lock.specs.Standing.{new_pass, new_passes, ArePassesNumbered};
+ghost use Rattle.cell_lock.specs.Passes.{new_pass, new_passes, ArePassesNumbered};
 ghost use Rattle.cell_lock.specs.Steps.{IsWide, lock_of, gathering};
 
 use crate::board::{Board, Key, Place, Top};

@@ -3,7 +3,7 @@ ghost use Rattle.std.specs.Prelude.{◌≡◌, ℕ, ◌≤◌, [], length, IfOk,
 ghost use mathlib.Core.List.{IsPrefix};
 ghost use Rattle.cell_lock.specs.Clauses.{HasSince, IsLegal, KeepsDisk, RequestFits, after, entries_of, grants, plan_step, unsure_grant};
 ghost use Rattle.cell_lock.specs.Openings.{Outside, WhereTold, first_parts, opening_of};
-ghost use Rattle.cell_lock.specs.Standing.{AreAll, Asked, HasAnswer, KeepsName, answers_of, new_passes};
+ghost use Rattle.cell_lock.specs.Passes.{AreAll, Asked, HasAnswer, KeepsName, answers_of, new_passes};
 
 use crate::board::Board;
 use crate::pass::Pass;
@@ -27,7 +27,7 @@ pub struct SharedCell<D: Disk> {
 impl<D: Disk> Model for SharedCell<D> {
     ghost use Rattle.std.specs.Prelude.{◌≡◌};
     ghost use Rattle.cell_lock.specs.Openings.{opening_of};
-    ghost use Rattle.cell_lock.specs.Standing.{LockId};
+    ghost use Rattle.cell_lock.specs.Passes.{LockId};
     ghost use Rattle.cell_lock.specs.Steps.{IsWide};
 
     ghost Value = { LockId D };

@@ -2,7 +2,7 @@
 ghost use Rattle.std.specs.Prelude.{◌≡◌, ◌∷◌, [], length};
 ghost use Rattle.cell_lock.specs.Clauses.{Answers, HasSince, MovesSafely, RequestFits, after, entries_of, grants, plan_step};
 ghost use Rattle.cell_lock.specs.Openings.{Fits, first_parts};
-ghost use Rattle.cell_lock.specs.Views.{IsResting, IsActing, IsHolding, IsSafe, Follows, held_of, seen_of, moment_of, earlier_of, mine_of};
+ghost use Rattle.cell_lock.specs.Views.{IsResting, IsActing, IsHolding, IsSafe, MayFind, held_of, seen_of, moment_of, earlier_of, mine_of};
 ghost use Rattle.cell_lock.specs.Steps.{IsWide, IsSame, GrewBy, StillTells};
 
 use crate::board::{Place, Top};
@@ -21,7 +21,7 @@ pub(crate) fn take_turn<D: Disk, R: Wait>(rt: &R, top: &Top<D>, seat: &mut Place
     ensures same { IsSame seat.old seat.new }
     ensures holds { IsHolding seat.new.me (held_of top.now.key.durable.value seat.new.me) }
     ensures safe { IsSafe (HasSince D.reads_as D.moment D.left_since) seat.new.me (held_of top.now.key.durable.value seat.new.me) }
-    ensures follows { Follows seat.old.me.0 (held_of top.now.key.durable.value seat.new.me) }
+    ensures follows { MayFind seat.old.me.0 (held_of top.now.key.durable.value seat.new.me) }
     ensures answers { seat.new.me.0.answers ≡ seat.old.me.0.answers }
     ensures stands { HasSince D.reads_as D.moment D.left_since (held_of top.now.key.durable.value seat.new.me) (moment_of seat.old.me.0)
         (length (grants seat.old.me.0.opening.shift (seen_of seat.old.me.0))) }

@@ -18,6 +18,7 @@ use Rattle.cell_walks.specs.declared.early_end.Subject.{Subject}
 use Rattle.cell_walks.specs.declared.early_end.Subject.TheVariants.{Words, Cell, Input, Journal, Command}
 use Rattle.cell_walks.specs.declared.status.Status.{Status}
 use Rattle.cell_walks.specs.declared.status.Status.TheVariants.{CommandRefused, Done, Denied, DeviceFault, NoMemory, ReadFault, SinkFault}
+use Rattle.cell_walks.proofs.Promising.{no_sink_fault}
 use Rattle.cell_commands.specs.Check.{verdict_status}
 use Rattle.standby_commands.specs.Follow.{EndsFollowing, Followed, HaltedAt, RefusedAt}
 use Rattle.cell_base.specs.declared.cells.Cell.{Cell as OfCell}
@@ -115,19 +116,12 @@ module _ (seen : Observed) (sink : SinkTold) (task : Task) (status : Status) (p 
   none_refused Journal none answers = answers
   none_refused Command none answers = none answers
 
-  taken_refused : (subject : Subject) → subject_status subject ≡ SinkFault → ⊥
-  taken_refused Words is = cc
-  taken_refused Cell is = cc
-  taken_refused Input is = cc
-  taken_refused Journal is = cc
-  taken_refused Command is = cc
-
   -- a status of refusals that no answer tells comes only where a test on the way is refused so, and its line was taken
   pub refused_only : (subject : Subject) → (MayAnswer task subject → ⊥) → status ≡ subject_status subject
       → (refusal : Refusal) × (refusal.subject ≡ subject) × Refuses (shown seen) (walk_of task) refusal × TookAll sink (refusal.line ∷ [])
   refused_only subject none is = elim (p.refused subject is) [
     | inl refused ↦ refused
-    | inr answers ↦ absurd (not_answered (λ eight. taken_refused subject (sym is ∙ eight))
+    | inr answers ↦ absurd (not_answered (λ eight. no_sink_fault subject (sym is ∙ eight))
         (λ answer. none_refused subject none (subst (IsAnswers task) is answer)) answers)
   ]
 

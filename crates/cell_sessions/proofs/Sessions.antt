@@ -16,7 +16,7 @@ use Rattle.cell_base.specs.Scripts.{Progress, progress_after, progress_through, 
 use Rattle.durable_cell.specs.declared.fault.AskFault.{AskFault}
 use Rattle.durable_cell.specs.declared.fault.AskFault.TheVariants.{Halted, Full, Device}
 use Rattle.durable_cell.specs.Asked.{entry, is_halt}
-use Rattle.cell_lock.specs.Standing.{LockId, Standing, KeepsName, AddsEntry, ArePassesNumbered, Asked}
+use Rattle.cell_lock.specs.Passes.{LockId, PassState, KeepsName, AddsEntry, ArePassesNumbered, Asked}
 use Rattle.cell_sessions.specs.Sessions.{HasAsked, HasRun}
 use Rattle.solo_rounds.specs.Underway.{script_asks_left}
 use Rattle.cell_base.proofs.Histories.{progress_through-push}
@@ -47,7 +47,7 @@ halts_last (e ∷ es) session request = go (is_halt e) (halts_last es session re
 
 module _ {D : Type 0} (script : List Request) (patience : ℕ) (start : Progress) where
   -- before the first ask
-  pub unasked : (p : Standing D) → HasAsked script patience start start p p
+  pub unasked : (p : PassState D) → HasAsked script patience start start p p
   unasked p = record {
     name = record { lock = refl; number = refl };
     seen = ([], append-nil p.seen);
@@ -59,7 +59,7 @@ module _ {D : Type 0} (script : List Request) (patience : ℕ) (start : Progress
   }
 
   -- a session that has ended has run
-  pub ended : (at : Progress) (p q : Standing D) → HasAsked script patience start at p q → HasEnded script patience at
+  pub ended : (at : Progress) (p q : PassState D) → HasAsked script patience start at p q → HasEnded script patience at
       → HasRun script patience start p q
   ended at p q asked ends = record {
     name = asked.name;
@@ -75,14 +75,14 @@ module _ {D : Type 0} (script : List Request) (patience : ℕ) (start : Progress
   }
 
   -- a pass of a session that goes on, and what it asks next
-  pub record Asks (at : Progress) (p q r : Standing D) (request : Request) : Type 0 where
+  pub record Asks (at : Progress) (p q r : PassState D) (request : Request) : Type 0 where
     pub asked : HasAsked script patience start at p q
     pub patient : at.refusals < patience
     pub step : slice_get script at.step ≡ Some request
     pub name : KeepsName q r
     pub seen : IsPrefix q.seen r.seen
 
-  module _ {at : Progress} {p q r : Standing D} {request : Request} (asks : Asks at p q r request) where
+  module _ {at : Progress} {p q r : PassState D} {request : Request} (asks : Asks at p q r request) where
     now_name : KeepsName p r
     now_name = record { lock = asks.name.lock ∙ asks.asked.name.lock; number = asks.name.number ∙ asks.asked.name.number }
 
@@ -176,8 +176,8 @@ asks-le steps all patience few =
     omega (arith, whole)
 
 -- passes that are numbered are of the lock
-pub of_lock : {D : Type 0} (lock : LockId D) (first : ℕ) (passes : List (Standing D)) → ArePassesNumbered lock first passes
-    → All (λ (p : Standing D). p.lock ≡ lock) passes
-of_lock {D} lock first [] numbered = All-nil (λ (p : Standing D). p.lock ≡ lock)
+pub of_lock : {D : Type 0} (lock : LockId D) (first : ℕ) (passes : List (PassState D)) → ArePassesNumbered lock first passes
+    → All (λ (p : PassState D). p.lock ≡ lock) passes
+of_lock {D} lock first [] numbered = All-nil (λ (p : PassState D). p.lock ≡ lock)
 of_lock {D} lock first (p ∷ ps) numbered =
-    All-cons (λ (q : Standing D). q.lock ≡ lock) p ps numbered.0 (of_lock lock (first + 1) ps numbered.2)
+    All-cons (λ (q : PassState D). q.lock ≡ lock) p ps numbered.0 (of_lock lock (first + 1) ps numbered.2)

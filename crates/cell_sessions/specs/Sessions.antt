@@ -4,10 +4,10 @@ use Rattle.std.specs.Prelude.{◌≡◌, ◌⊎◌, ℕ, true, false, List, ◌+
 use Rattle.cell_base.specs.declared.requests.Request.{Request}
 use Rattle.cell_base.specs.declared.shifts.Entry.{Entry}
 use Rattle.cell_base.specs.Scripts.{Progress, progress_through, IsTrace, IsWholeTrace, HasEnded, holds_halt}
-use Rattle.cell_lock.specs.Standing.{Standing, KeepsName}
+use Rattle.cell_lock.specs.Passes.{PassState, KeepsName}
 
 -- the pass has come to a later one by asks of its session, each of which was answered with a reply
-pub record HasAsked {D : Type 0} (script : List Request) (patience : ℕ) (start at : Progress) (old new : Standing D) : Type 0 where
+pub record HasAsked {D : Type 0} (script : List Request) (patience : ℕ) (start at : Progress) (old new : PassState D) : Type 0 where
   pub name : KeepsName old new
   pub seen : IsPrefix old.seen new.seen
   pub entries : List Entry
@@ -23,7 +23,7 @@ pub record IsCutShort (script : List Request) (patience : ℕ) (start : Progress
 
 -- The pass keeps its lock and its number, and its own entries grew by asks of its session, from where the session stood until it has
 -- ended or is cut short.
-pub record HasRun {D : Type 0} (script : List Request) (patience : ℕ) (start : Progress) (old new : Standing D) : Type 0 where
+pub record HasRun {D : Type 0} (script : List Request) (patience : ℕ) (start : Progress) (old new : PassState D) : Type 0 where
   pub name : KeepsName old new
   pub seen : IsPrefix old.seen new.seen
   pub entries : List Entry

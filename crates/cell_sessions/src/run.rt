@@ -2,7 +2,7 @@
 ghost use Rattle.std.specs.Prelude.{◌≡◌, ℕ, ◌+◌, ◌<◌, length, slice_index_or, All};
 ghost use Rattle.cell_base.specs.Fits.{ShiftFits};
 ghost use Rattle.cell_base.specs.Scripts.{script_of};
-ghost use Rattle.cell_lock.specs.Standing.{AreAll};
+ghost use Rattle.cell_lock.specs.Passes.{AreAll};
 ghost use Rattle.cell_sessions.specs.Sessions.{HasRun};
 ghost use Rattle.solo_rounds.specs.Underway.{IsWithinScript, progress_at};
 

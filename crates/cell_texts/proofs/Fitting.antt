@@ -15,12 +15,12 @@ use Rattle.cell_base.specs.Fits.{CellFits, RequestFits}
 use Rattle.cell_base.specs.Histories.{IsLegal, IsToldRightly, after, state_after_entry}
 use Rattle.cell_base.specs.Outcomes.{reply_to}
 use Rattle.cell_base.specs.Policy.{IsAdmitted}
-use Rattle.policy_laws.proofs.Admission.{admission_law, saturation_law}
+use Rattle.policy_laws.proofs.Admission.{admission_law, after_entry_admitted, saturation_law}
 use Rattle.record_text.specs.Fitting.{EntryFits, ToldFits, RefusalFits}
 
 module _ (cell : Cell) (fits : CellFits cell) where
-  -- what a request is told fits
-  refusal_fits : (parts : List Part) (request : Request) (why : Refusal) → IsAdmitted cell parts → RequestFits cell request
+  -- why a request is refused fits
+  pub refusal_fits : (parts : List Part) (request : Request) (why : Refusal) → IsAdmitted cell parts → RequestFits cell request
       → reply_to cell parts request ≡ Refused why → RefusalFits cell why
   refusal_fits parts request (Saturated at held units) admitted fit is =
       (saturation_law cell fits parts admitted request fit at held units is).resource
@@ -39,11 +39,6 @@ module _ (cell : Cell) (fits : CellFits cell) where
   told_fits parts request (Answered (Refused why)) later admitted fit is = refusal_fits parts request why admitted fit is
   told_fits parts request Halted later admitted fit is = tt
 
-  stays : (parts : List Part) (request : Request) (told : Told) → IsAdmitted cell parts → RequestFits cell request
-      → IsAdmitted cell (state_after_entry cell parts request told)
-  stays parts request (Answered reply) admitted fit = (admission_law cell fits parts admitted).request request fit
-  stays parts request Halted admitted fit = admitted
-
   -- so the entries fit
   pub entries_fit : (parts : List Part) (entries : List Entry) → IsAdmitted cell parts → IsLegal cell parts entries
       → All (λ (entry : Entry). RequestFits cell entry.request) entries → All (EntryFits cell) entries
@@ -54,14 +49,10 @@ module _ (cell : Cell) (fits : CellFits cell) where
       All-cons (EntryFits cell) entry entries
       (record { request = here; told = told_fits parts entry.request entry.told entries admitted here legal.0 })
       (entries_fit (state_after_entry cell parts entry.request entry.told) entries
-      (stays parts entry.request entry.told admitted here) legal.1 (All-tail Fits entry entries fit))
+      (after_entry_admitted cell fits parts entry.request entry.told admitted here) legal.1 (All-tail Fits entry entries fit))
 
   -- and the state after them is admitted
   pub admitted_after : (parts : List Part) (entries : List Entry) → IsAdmitted cell parts
       → All (λ (entry : Entry). RequestFits cell entry.request) entries
       → IsAdmitted cell (after cell parts entries)
-  admitted_after parts [] admitted fit = admitted
-  admitted_after parts (entry ∷ entries) admitted fit =
-      let Fits : Entry → Type 0 = λ e. RequestFits cell e.request in
-      admitted_after (state_after_entry cell parts entry.request entry.told) entries
-      (stays parts entry.request entry.told admitted (All-head Fits entry entries fit)) (All-tail Fits entry entries fit)
+  admitted_after parts entries admitted fit = (admission_law cell fits parts admitted).history entries fit

@@ -29,12 +29,12 @@ abbrev pub at : ℕ → Place → Finding
 at number place = record { number = number; place = Some place; count = None }
 
 -- a fault with a count, or with one offset
-abbrev pub counted : ℕ → ℕ → Finding
-counted number count = record { number = number; place = None; count = Some count }
+abbrev pub with_count : ℕ → ℕ → Finding
+with_count number count = record { number = number; place = None; count = Some count }
 
 -- a fault at a place, with a count
-abbrev pub counted_at : ℕ → Place → ℕ → Finding
-counted_at number place count = record { number = number; place = Some place; count = Some count }
+abbrev pub with_count_at : ℕ → Place → ℕ → Finding
+with_count_at number place count = record { number = number; place = Some place; count = Some count }
 
 -- the fault of a cell file
 abbrev pub cell_finding : CellFault → Option Finding
@@ -45,10 +45,10 @@ cell_finding (cell.BadName place) = Some (at 4 place)
 cell_finding (cell.BadNumber place) = Some (at 5 place)
 cell_finding (cell.Repeated place) = Some (at 6 place)
 cell_finding (cell.UnknownName place) = Some (at 7 place)
-cell_finding (cell.TooMany place count) = Some (counted_at 8 place count)
+cell_finding (cell.TooMany place count) = Some (with_count_at 8 place count)
 cell_finding (cell.Empty place) = Some (at 9 place)
 cell_finding cell.MixedOrders = Some (plain 10)
-cell_finding (cell.TooManyUnits count) = Some (counted 11 count)
+cell_finding (cell.TooManyUnits count) = Some (with_count 11 count)
 cell_finding cell.Memory = None
 
 -- the fault of a shift file
@@ -60,7 +60,7 @@ shift_finding (shift.BadStep place) = Some (at 4 place)
 shift_finding (shift.BadNumber place) = Some (at 5 place)
 shift_finding (shift.UnknownName place) = Some (at 6 place)
 shift_finding (shift.Empty place) = Some (at 7 place)
-shift_finding (shift.TooMany place count) = Some (counted_at 8 place count)
-shift_finding (shift.TooLong count) = Some (counted 9 count)
-shift_finding (shift.TooManyAsks count) = Some (counted 10 count)
+shift_finding (shift.TooMany place count) = Some (with_count_at 8 place count)
+shift_finding (shift.TooLong count) = Some (with_count 9 count)
+shift_finding (shift.TooManyAsks count) = Some (with_count 10 count)
 shift_finding shift.Memory = None

@@ -1,6 +1,6 @@
 //! What a refusal tells: a number for the fault, and its place and its count where it has them.
 ghost use Rattle.std.specs.Prelude.{◌≡◌};
-ghost use Rattle.cell_texts.specs.FaultNumbers.{at, cell_finding, counted, counted_at, plain, shift_finding};
+ghost use Rattle.cell_texts.specs.FaultNumbers.{at, cell_finding, with_count, with_count_at, plain, shift_finding};
 
 use cell_base::Place;
 use cell_file::CellFault;
@@ -38,8 +38,8 @@ impl Finding {
     }
 
     /// A fault with a count, or with one offset.
-    pub fn counted(number: u8, count: u64) -> Finding
-        ensures { result ≡ counted number count }
+    pub fn with_count(number: u8, count: u64) -> Finding
+        ensures { result ≡ with_count number count }
     {
         Finding {
             number,
@@ -49,8 +49,8 @@ impl Finding {
     }
 
     // A fault at a place, with a count.
-    fn counted_at(number: u8, place: Place, count: u64) -> Finding
-        ensures { result ≡ counted_at number place count }
+    fn with_count_at(number: u8, place: Place, count: u64) -> Finding
+        ensures { result ≡ with_count_at number place count }
     {
         Finding {
             number,
@@ -71,10 +71,14 @@ impl Finding {
             CellFault::BadNumber { place } => Finding::at(5, place),
             CellFault::Repeated { place } => Finding::at(6, place),
             CellFault::UnknownName { place } => Finding::at(7, place),
-            CellFault::TooMany { place, count } => Finding::counted_at(8, place, u64::from(count)),
+            CellFault::TooMany { place, count } => Finding::with_count_at(
+                8,
+                place,
+                u64::from(count),
+            ),
             CellFault::Empty { place } => Finding::at(9, place),
             CellFault::MixedOrders => Finding::plain(10),
-            CellFault::TooManyUnits { count } => Finding::counted(11, u64::from(count)),
+            CellFault::TooManyUnits { count } => Finding::with_count(11, u64::from(count)),
             CellFault::Memory => return None,
         })
     }
@@ -91,9 +95,13 @@ impl Finding {
             ShiftFault::BadNumber { place } => Finding::at(5, place),
             ShiftFault::UnknownName { place } => Finding::at(6, place),
             ShiftFault::Empty { place } => Finding::at(7, place),
-            ShiftFault::TooMany { place, count } => Finding::counted_at(8, place, u64::from(count)),
-            ShiftFault::TooLong { count } => Finding::counted(9, u64::from(count)),
-            ShiftFault::TooManyAsks { count } => Finding::counted(10, count),
+            ShiftFault::TooMany { place, count } => Finding::with_count_at(
+                8,
+                place,
+                u64::from(count),
+            ),
+            ShiftFault::TooLong { count } => Finding::with_count(9, u64::from(count)),
+            ShiftFault::TooManyAsks { count } => Finding::with_count(10, count),
             ShiftFault::Memory => return None,
         })
     }

@@ -6,7 +6,7 @@ use Rattle.shift_recovery.specs.Replayed.{opened_as}
 use Rattle.shift_recovery.specs.declared.faults.JournalFault.{JournalFault}
 use Rattle.cell_walks.specs.Allowed.{AllowsFrom, IsOpenedAs, Reached, reached_by, IsUnread, ByFault, ByMemory, ByRefusal, Stopped}
 use Rattle.cell_walks.specs.Allowed.{Passed, NotOpened, OpeningFailed, OpeningRefused, OpeningStarved, JournalOpened}
-use Rattle.cell_walks.specs.Observed.{Observed, Shows, Tells, certain}
+use Rattle.cell_walks.specs.Observed.{Observed, HoldsOfBytes, Tells, certain}
 use Rattle.cell_walks.specs.Outcomes.{Outcome, early}
 use Rattle.cell_walks.specs.Promises.{Accepts, AnswersFrom, IsRefused, Refuses, UnlessOutside}
 use Rattle.cell_walks.specs.Promises.{ReadFailed, DiskFailed, MemoryFailed, Decided}
@@ -21,7 +21,7 @@ module _ (seen : Observed) (outcome : Outcome) where
   -- ---- one step of a walk
 
   after_test : (test : Test) (next : test.Value → Walk) (value : test.Value)
-      → Shows seen.files test.source (λ bytes. test.reads bytes (Ok value)) → (P Q : Type 0) → (P → Q)
+      → HoldsOfBytes seen.files test.source (λ bytes. test.reads bytes (Ok value)) → (P Q : Type 0) → (P → Q)
       → UnlessOutside seen (next value) outcome P → UnlessOutside seen (Tests test next) outcome Q
   after_test test next value shows P Q so (ReadFailed is rose not) = ReadFailed is rose (λ sound there. not sound (there.1 value shows))
   after_test test next value shows P Q so (DiskFailed is rose not) = DiskFailed is rose (λ none. not (none value))
@@ -76,7 +76,7 @@ module _ (seen : Observed) (outcome : Outcome) where
 
   -- a test that reads in one way
   pub one_of : (test : Test) (a b : Result test.Value test.Fault) → Tells seen.files test.source (λ bytes. test.reads bytes a)
-      → Shows seen.files test.source (λ bytes. test.reads bytes b) → a ≡ b
+      → HoldsOfBytes seen.files test.source (λ bytes. test.reads bytes b) → a ≡ b
   one_of test a b tells shows =
       let same = both seen.files test.source (λ bytes. test.reads bytes a) (λ bytes. test.reads bytes b) tells shows in
       test.one_way same.0 a b same.1 same.2

@@ -5,4 +5,5 @@ pub mod OpenedOnce
 pub mod Promising
 pub mod Standing
 pub mod Steps
+pub mod TwoTests
 pub mod Walked

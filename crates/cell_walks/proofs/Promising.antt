@@ -68,7 +68,7 @@ no_read_fault subject is = subst (λ (s : Status). IsOf s subject) is (is_of sub
 no_device_fault : (subject : Subject) → subject_status subject ≡ DeviceFault → ⊥
 no_device_fault subject is = subst (λ (s : Status). IsOf s subject) is (is_of subject)
 
-no_sink_fault : (subject : Subject) → subject_status subject ≡ SinkFault → ⊥
+pub no_sink_fault : (subject : Subject) → subject_status subject ≡ SinkFault → ⊥
 no_sink_fault subject is = subst (λ (s : Status). IsOf s subject) is (is_of subject)
 
 no_memory : (subject : Subject) → subject_status subject ≡ NoMemory → ⊥

@@ -7,7 +7,7 @@ use Rattle.outside_io.specs.Files.{IsThere, Names}
 use Rattle.cell_walks.specs.Allowed.{AllowsFrom, ByFault, ByMemory, ByRefusal, IsAllowed, IsEndedAt, IsLeft}
 use Rattle.cell_walks.specs.Allowed.{IsNotOpened, IsUnread, NotOpened, Passed, Reached, Stopped}
 use Rattle.cell_walks.specs.DiskTold.{DiskTold, IsUntouched, no_disk}
-use Rattle.cell_walks.specs.Observed.{FilesTold, Known, Observed, Shows, Source, Word, File, files_told, observed}
+use Rattle.cell_walks.specs.Observed.{FilesTold, Known, Observed, HoldsOfBytes, Source, Word, File, files_told, observed}
 use Rattle.cell_walks.specs.Outcomes.{Outcome, early}
 use Rattle.cell_walks.specs.Promises.{OpensNone}
 use Rattle.cell_walks.specs.Walks.{Answers, Journal, Opens, Test, Tests, Walk, end_with}
@@ -15,7 +15,7 @@ use Rattle.cell_walks.specs.declared.early_end.EarlyEnd.{EarlyEnd}
 
 -- the bytes have a fault
 pub ended_by_fault : (files : FilesTold) (test : Test) (fault : test.Fault)
-    → Shows files test.source (λ bytes. test.reads bytes (Err fault))
+    → HoldsOfBytes files test.source (λ bytes. test.reads bytes (Err fault))
     → IsEndedAt files test (end_with test.subject (test.line fault))
 ended_by_fault files test fault shows = by_line (test.line fault) refl
   where
@@ -59,8 +59,8 @@ module _ (files : FilesTold) (disk : DiskTold) (still : IsUntouched disk) (outco
 module _ {F : Type 0} (holds : F → Option Names) (is_sound : F → Type 0) (faults : F
     → ℕ) (old mid new : F) (same : holds mid ≡ holds old) where
   -- what later files show, the earlier ones show
-  pub shown_before : (source : Source) (P : List ℕ → Type 0) → Shows (files_told holds is_sound faults mid new) source P
-      → Shows (files_told holds is_sound faults old new) source P
+  pub shown_before : (source : Source) (P : List ℕ → Type 0) → HoldsOfBytes (files_told holds is_sound faults mid new) source P
+      → HoldsOfBytes (files_told holds is_sound faults old new) source P
   shown_before (Word word) P shows = shows
   shown_before (File name) P shows = subst (λ (names : Option Names). IfSome names (λ held. IsSomeAnd (held name) P)) same shows
   shown_before Known P shows = shows

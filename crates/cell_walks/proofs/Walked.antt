@@ -9,7 +9,7 @@ use Rattle.cell_base.specs.declared.shifts.Grant.{Grant}
 use Rattle.move_journal.specs.Journals.{StandsForPrefix, StandsFor}
 use Rattle.cell_walks.specs.Allowed.{IsUnread, StandsForAdded}
 use Rattle.cell_walks.specs.DiskTold.{DiskTold, IsAlways, IsNow, IsOnlyRead, IsUntouched, StillStandsFor, StoodFor}
-use Rattle.cell_walks.specs.Observed.{FilesTold, Source, Word, File, Known, IsThereAt, Shows, Tells}
+use Rattle.cell_walks.specs.Observed.{FilesTold, Source, Word, File, Known, IsThereAt, HoldsOfBytes, Tells}
 use Rattle.cell_walks.specs.Promises.{StandsWith}
 use Rattle.cell_walks.specs.declared.early_end.EarlyEnd.{EarlyEnd}
 use Rattle.cell_walks.specs.declared.early_end.EarlyEnd.TheVariants.{NotRead}
@@ -31,7 +31,7 @@ file_both None name P Q tells shows = absurd tells
 file_both (Some held) name P Q tells shows = some_both (held name) P Q tells shows
 
 -- what is told of some bytes, and what is shown, is so of the same bytes
-pub both : (files : FilesTold) (source : Source) (P Q : List ℕ → Type 0) → Tells files source P → Shows files source Q
+pub both : (files : FilesTold) (source : Source) (P Q : List ℕ → Type 0) → Tells files source P → HoldsOfBytes files source Q
     → (bytes : List ℕ) × P bytes × Q bytes
 both files (Word word) P Q tells shows = (word, tells, shows)
 both files (File name) P Q tells shows = file_both files.names name P Q tells shows

@@ -1,5 +1,5 @@
 -- Which outcomes a walk allows, by what is observed.
-use Rattle.std.specs.Prelude.{◌≡◌, ◌⊎◌, ℕ, List, [], ◌∷◌, ◌++◌, Some, IfSome, Ok, Err}
+use Rattle.std.specs.Prelude.{◌≡◌, ◌⊎◌, ℕ, List, ◌++◌, Some, IfSome, Ok, Err}
 use Rattle.std.specs.List.{All}
 use Rattle.outside_io.specs.Causes.{Rose}
 use Rattle.cell_base.specs.declared.shifts.Grant.{Grant}
@@ -8,7 +8,7 @@ use Rattle.shift_recovery.specs.Replayed.{AreDue, opened_as}
 use Rattle.shift_recovery.specs.declared.faults.JournalFault.{JournalFault}
 use Rattle.cell_walks.specs.DiskTold.{DiskTold, IsAlways, IsNow, IsOnlyRead, IsUntouched, AddsNothing}
 use Rattle.outside_io.specs.Files.{IsThere}
-use Rattle.cell_walks.specs.Observed.{FilesTold, Observed, Source, Word, File, Known, Shows}
+use Rattle.cell_walks.specs.Observed.{FilesTold, Observed, Source, Word, File, Known, HoldsOfBytes}
 use Rattle.cell_walks.specs.Outcomes.{Outcome, early}
 use Rattle.cell_walks.specs.Walks.{Test, Journal, refusal_of, refusal_by, Purpose, ToRead, ToAdd, Walk, Tests, Opens, Answers}
 use Rattle.cell_walks.specs.declared.early_end.EarlyEnd.{EarlyEnd}
@@ -58,14 +58,14 @@ IsUnread files Known end = ⊥
 -- a test ends the command so: its file can't be read, the bytes are refused, or memory is wanting
 pub data IsEndedAt (files : FilesTold) (test : Test) (end : EarlyEnd) : Type 0 where
   ByFault : IsUnread files test.source end → IsEndedAt files test end
-  ByRefusal : (fault : test.Fault) → Shows files test.source (λ bytes. test.reads bytes (Err fault)) → (line : List ℕ)
+  ByRefusal : (fault : test.Fault) → HoldsOfBytes files test.source (λ bytes. test.reads bytes (Err fault)) → (line : List ℕ)
       → test.line fault ≡ Some line → end ≡ Refused (refusal_of test line) → IsEndedAt files test end
   ByMemory : end ≡ WantOfMemory → IsEndedAt files test end
 
 -- a test is made: the command ends there, or the bytes read as a value, of which this follows
 pub data AtTest (files : FilesTold) (test : Test) (ends : EarlyEnd → Type 0) (follows : test.Value → Type 0) : Type 0 where
   Stopped : (end : EarlyEnd) → IsEndedAt files test end → ends end → AtTest files test ends follows
-  Passed : (value : test.Value) → Shows files test.source (λ bytes. test.reads bytes (Ok value)) → follows value
+  Passed : (value : test.Value) → HoldsOfBytes files test.source (λ bytes. test.reads bytes (Ok value)) → follows value
       → AtTest files test ends follows
 
 -- ---- the journal

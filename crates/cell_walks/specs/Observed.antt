@@ -43,10 +43,10 @@ abbrev pub ShowsFile : FilesTold → List ℕ → (List ℕ → Type 0) → Type
 ShowsFile files name P = IfSome files.names (λ names. IsSomeAnd (names name) P)
 
 -- this holds of the bytes there, as far as the files tell
-abbrev pub Shows : FilesTold → Source → (List ℕ → Type 0) → Type 0
-Shows files (Word word) P = P word
-Shows files (File name) P = ShowsFile files name P
-Shows files Known P = P []
+abbrev pub HoldsOfBytes : FilesTold → Source → (List ℕ → Type 0) → Type 0
+HoldsOfBytes files (Word word) P = P word
+HoldsOfBytes files (File name) P = ShowsFile files name P
+HoldsOfBytes files Known P = P []
 
 -- the files tell the bytes there, and this holds of them
 abbrev pub Tells : FilesTold → Source → (List ℕ → Type 0) → Type 0
@@ -61,7 +61,7 @@ pub record Evidence : Type 1 where
 
 -- as far as the outside tells
 abbrev pub shown : Observed → Evidence
-shown seen = record { at = Shows seen.files; on_disk = IfSome seen.disk.reads }
+shown seen = record { at = HoldsOfBytes seen.files; on_disk = IfSome seen.disk.reads }
 
 -- for certain, since it tells
 abbrev pub certain : Observed → Evidence

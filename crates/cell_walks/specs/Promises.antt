@@ -10,7 +10,7 @@ use Rattle.shift_recovery.specs.Replayed.{AreDue, opened_as}
 use Rattle.shift_recovery.specs.declared.faults.JournalFault.{JournalFault}
 use Rattle.cell_walks.specs.Allowed.{StandsForAdded, IsAllowed, IsLeft, IsOpenedAs, Reached, Unasked, reached_by}
 use Rattle.cell_walks.specs.DiskTold.{AddsNothing, DiskTold, IsAlways, IsNow, IsOnlyRead, IsUntouched, StoodFor}
-use Rattle.cell_walks.specs.Observed.{Observed, Evidence, IsThereAt, Shows, Tells, certain, shown}
+use Rattle.cell_walks.specs.Observed.{Observed, Evidence, IsThereAt, HoldsOfBytes, Tells, certain, shown}
 use Rattle.cell_walks.specs.Outcomes.{IsDelivered, Outcome, early}
 use Rattle.cell_walks.specs.Statuses.{early_line, early_status, subject_status}
 use Rattle.cell_walks.specs.Walks.{refusal_by, refusal_of, ToAdd, ToRead, Walk, Tests, Opens, Answers}
@@ -40,7 +40,7 @@ Refuses evidence (Answers allows) refusal = ⊥
 -- its tests pass, and it answers so
 abbrev pub AnswersFrom : Observed → Outcome → Reached → Walk → Type 0
 AnswersFrom seen outcome reached (Tests test next) =
-    (value : test.Value) × Shows seen.files test.source
+    (value : test.Value) × HoldsOfBytes seen.files test.source
     (λ bytes. test.reads bytes (Ok value)) × AnswersFrom seen outcome reached (next value)
 AnswersFrom seen outcome reached (Opens journal next) =
     (grants : List Grant) × IsOpenedAs seen.disk journal grants
@@ -55,8 +55,8 @@ IsAnswered seen walk outcome = AnswersFrom seen outcome Unasked walk
 -- for which there is room, and each of which is granted in its turn.
 abbrev pub Accepts : Observed → Walk → Type 0
 Accepts seen (Tests test next) =
-    ((fault : test.Fault) → Shows seen.files test.source (λ bytes. test.reads bytes (Err fault)) → ⊥)
-    × ((value : test.Value) → Shows seen.files test.source (λ bytes. test.reads bytes (Ok value)) → Accepts seen (next value))
+    ((fault : test.Fault) → HoldsOfBytes seen.files test.source (λ bytes. test.reads bytes (Err fault)) → ⊥)
+    × ((value : test.Value) → HoldsOfBytes seen.files test.source (λ bytes. test.reads bytes (Ok value)) → Accepts seen (next value))
 Accepts seen (Opens journal next) =
     (grants : List Grant) × StoodFor seen.disk journal.text grants × (length grants ≤ journal.room) × AreDue journal.cell grants
     × Accepts seen (next grants)
@@ -66,7 +66,7 @@ Accepts seen (Answers allows) = ⊤
 abbrev pub AreThere : Observed → Walk → Type 0
 AreThere seen (Tests test next) =
     IsThereAt seen.files test.source
-    × ((value : test.Value) → Shows seen.files test.source (λ bytes. test.reads bytes (Ok value)) → AreThere seen (next value))
+    × ((value : test.Value) → HoldsOfBytes seen.files test.source (λ bytes. test.reads bytes (Ok value)) → AreThere seen (next value))
 AreThere seen (Opens journal next) = (grants : List Grant) → IsOpenedAs seen.disk journal grants → AreThere seen (next grants)
 AreThere seen (Answers allows) = ⊤
 
@@ -127,7 +127,8 @@ HoldsRefused seen (Answers allows) = ⊥
 -- for; or it was opened, and the disk stands for its grants and those of the outcome.
 abbrev pub ReachesJournal : Observed → Outcome → Walk → Type 0
 ReachesJournal seen outcome (Tests test next) =
-    (value : test.Value) × Shows seen.files test.source (λ bytes. test.reads bytes (Ok value)) × ReachesJournal seen outcome (next value)
+    (value : test.Value) × HoldsOfBytes seen.files test.source (λ bytes. test.reads bytes (Ok value))
+    × ReachesJournal seen outcome (next value)
 ReachesJournal seen outcome (Opens journal next) =
     (journal.purpose ≡ ToAdd)
     × (AddsNothing journal.text seen.disk

@@ -1,9 +1,10 @@
 -- What is acknowledged is on each image, and stays there.
 use Rattle.std.specs.Prelude.{Option, None, IfSome}
 use Rattle.std.specs.Option.{option_to_list}
-use Rattle.std.proofs.Common.{◌≡◌, ◌⊎◌, inl, inr, ⊎_elim, ℕ, zero, suc, ◌≤◌, List, []}
+use Rattle.std.proofs.Common.{◌≡◌, ◌<◌, ◌⊎◌, inl, inr, ⊎_elim, ℕ, ◌≤◌, List, []}
 use Rattle.std.proofs.Common.{◌∷◌, ◌++◌, length, take, refl, sym, ◌∙◌, ap, subst, arith}
 use Rattle.std.proofs.lemmas.List.{length-append, take_all, take_at, take-append-le}
+use Rattle.std.proofs.lemmas.Bool.{cases_lt}
 use Rattle.cell_base.specs.declared.shifts.Entry.{Entry}
 use Rattle.cell_base.specs.declared.shifts.Grant.{Grant}
 use Rattle.outside_io.specs.Disk.{LeavesOnly}
@@ -15,18 +16,13 @@ use Rattle.durable_cell.specs.DurableState.{DurableState}
 use Rattle.durable_cell.specs.Kept.{KeepsDisk, StandsNow, StandsThen, grants_since}
 use Rattle.durable_cell.proofs.Moving.{Appends, disk_stays, stands_for_added, told_before, since_is, with_grant}
 
-le_or : (a b : ℕ) → (a ≤ b) ⊎ (b ≤ a)
-le_or zero b = inl (omega arith)
-le_or (suc a) zero = inr (omega arith)
-le_or (suc a) (suc b) = ⊎_elim (λ le. inl (omega (arith, le))) (λ le. inr (omega (arith, le))) (le_or a b)
-
 -- a prefix with at least so many elements, where the list has so many, is one of a longer list
 takes_more : (added : List Grant) (grant : Grant) (n count : ℕ) → count ≤ n → count ≤ length added
     → (k : ℕ) × (count ≤ k) × (take k (added ++ grant ∷ []) ≡ take n added)
-takes_more added grant n count enough few = by_order (le_or n (length added))
+takes_more added grant n count enough few = by_order (cases_lt n (length added))
   where
-    by_order : (n ≤ length added) ⊎ (length added ≤ n) → (k : ℕ) × (count ≤ k) × (take k (added ++ grant ∷ []) ≡ take n added)
-    by_order (inl le) = (n, enough, take-append-le n added (grant ∷ []) le)
+    by_order : (n < length added) ⊎ (length added ≤ n) → (k : ℕ) × (count ≤ k) × (take k (added ++ grant ∷ []) ≡ take n added)
+    by_order (inl lt) = (n, enough, take-append-le n added (grant ∷ []) (omega (arith, lt)))
     by_order (inr le) = (length added, few, take_at added (grant ∷ []) (length added) refl ∙ sym (take_all n added le))
 
 module _ {D : Type 0} (reads_as : D → Option (List ℕ)) (may_leave : D → List ℕ → Type 0) (moment : D → ℕ)

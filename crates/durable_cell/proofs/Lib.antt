@@ -6,3 +6,4 @@ pub mod Making
 pub mod Moving
 pub mod Opened
 pub mod Replaying
+pub mod Unasked

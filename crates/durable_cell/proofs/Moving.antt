@@ -1,9 +1,10 @@
 -- A disk on which one grant more was written, or whose writing failed.
 use Rattle.std.specs.Prelude.{Option, Some, None, IfSome, MatchOption}
 use Rattle.std.specs.Option.{option_to_list}
-use Rattle.std.proofs.Common.{◌≡◌, ◌⊎◌, inl, inr, ⊎_elim, ℕ, zero, suc, ◌≤◌, List, [], ◌∷◌, ◌++◌}
+use Rattle.std.proofs.Common.{◌≡◌, ◌<◌, ◌⊎◌, inl, inr, ℕ, ◌≤◌, List, [], ◌∷◌, ◌++◌}
 use Rattle.std.proofs.Common.{length, take, refl, sym, ◌∙◌, ap, subst, arith, append_assoc}
 use Rattle.std.proofs.lemmas.List.{append-nil, take_all, take_at, take-append-le}
+use Rattle.std.proofs.lemmas.Bool.{cases_lt}
 use Rattle.cell_base.specs.declared.shifts.Entry.{Entry}
 use Rattle.cell_base.specs.declared.shifts.Grant.{Grant}
 use Rattle.outside_io.specs.Causes.{Rose}
@@ -26,15 +27,10 @@ turns_on (Some x) (Some y) (Some z) first second = tt
 
 -- a prefix of a list is one of a longer list
 takes_short : (added : List Grant) (grant : Grant) (n : ℕ) → (k : ℕ) × (take k (added ++ grant ∷ []) ≡ take n added)
-takes_short added grant n = by_order (le_or n (length added))
+takes_short added grant n = by_order (cases_lt n (length added))
   where
-    le_or : (a b : ℕ) → (a ≤ b) ⊎ (b ≤ a)
-    le_or zero b = inl (omega arith)
-    le_or (suc a) zero = inr (omega arith)
-    le_or (suc a) (suc b) = ⊎_elim (λ le. inl (omega (arith, le))) (λ le. inr (omega (arith, le))) (le_or a b)
-
-    by_order : (n ≤ length added) ⊎ (length added ≤ n) → (k : ℕ) × (take k (added ++ grant ∷ []) ≡ take n added)
-    by_order (inl le) = (n, take-append-le n added (grant ∷ []) le)
+    by_order : (n < length added) ⊎ (length added ≤ n) → (k : ℕ) × (take k (added ++ grant ∷ []) ≡ take n added)
+    by_order (inl lt) = (n, take-append-le n added (grant ∷ []) (omega (arith, lt)))
     by_order (inr le) = (length added, take_at added (grant ∷ []) (length added) refl ∙ sym (take_all n added le))
 
 first_of_more : (text : List ℕ) (opening added : List Grant) (grant : Grant) (file : List ℕ) → StandsForPrefix text opening added file

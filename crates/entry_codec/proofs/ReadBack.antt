@@ -1,8 +1,9 @@
 -- The record of a grant is read as that grant.
 use Rattle.std.specs.Prelude.{Some, None, if◌then◌else◌}
-use Rattle.std.proofs.Common.{◌≡◌, ℕ, ◌<◌, ◌^◌, Bool, true, false, ◌&&◌, ◌++◌, sym, ap, subst}
+use Rattle.std.proofs.Common.{◌≡◌, ℕ, ◌<◌, ◌^◌, Bool, true, ◌++◌, sym, ap, subst}
 use Rattle.std.specs.Int.{to_be_bytes, w16, w32}
 use Rattle.std.proofs.lemmas.Cmp.{nat_list_eq_equiv}
+use Rattle.std.proofs.lemmas.Bool.{and_from}
 use Rattle.cell_base.specs.declared.requests.Request.{Request}
 use Rattle.cell_base.specs.declared.requests.Request.TheVariants.{Load, Process, Move, Unload, Place}
 use Rattle.cell_base.specs.declared.shifts.Grant.{Grant}
@@ -10,14 +11,10 @@ use Rattle.entry_codec.specs.Decoding.{grant_of, where_record, is_record_of}
 use Rattle.entry_codec.specs.Records.{flag_of, record_of, HasRecord, RequestIsInRange, IsInRange}
 use Rattle.entry_codec.proofs.Fields.{session_in, shift_in, job_in, number_in, high_in, low_in, done-flag_of}
 
-both : (a b : Bool) → a ≡ true → b ≡ true → (a && b) ≡ true
-both true b p q = q
-both false b p q = absurd (cc)
-
 -- a grant whose numbers are those in the record is read from it
 read : (grant found : Grant) → HasRecord grant → found ≡ grant → where_record (record_of grant) found ≡ Some grant
 read grant found has is =
-    let test : is_record_of grant (record_of grant) ≡ true = both _ _ has (nat_list_eq_equiv.refl (record_of grant)) in
+    let test : is_record_of grant (record_of grant) ≡ true = and_from _ _ has (nat_list_eq_equiv.refl (record_of grant)) in
     let same : where_record (record_of grant) grant ≡ Some grant = ap (λ (b : Bool). if b then Some grant else None) test in
     subst (λ (other : Grant). where_record (record_of grant) other ≡ Some grant) (sym is) same
 

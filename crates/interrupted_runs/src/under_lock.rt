@@ -1,7 +1,7 @@
 //! A lock of one pass, under which the plan is looked at and a request is asked.
 ghost use Rattle.std.specs.Prelude.{◌≡◌, [], IfOk};
 ghost use Rattle.cell_base.specs.Fits.{RequestFits};
-ghost use Rattle.cell_lock.specs.Standing.{KeepsName, new_passes};
+ghost use Rattle.cell_lock.specs.Passes.{KeepsName, new_passes};
 
 use anyhow::{Context, Result, bail};
 use cell_base::{Entry, List, Reply, Request, Told, request_fits};

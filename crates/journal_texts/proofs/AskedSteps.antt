@@ -17,7 +17,7 @@ use Rattle.cell_base.specs.Scripts.{holds_halt}
 use Rattle.durable_cell.specs.Asked.{grant_of, halted_in}
 use Rattle.durable_cell.specs.DurableState.{DurableState}
 use Rattle.cell_walks.specs.Outcomes.{Outcome}
-use Rattle.journal_texts.specs.AskedSteps.{AllGranted, AreAsked, HaltsAt, HaltsIn, IsAskedIn, after_steps}
+use Rattle.journal_texts.specs.AskedSteps.{AllGranted, AreAsked, HaltsAt, HaltsIn, IsAskedIn, after_plan_steps}
 use Rattle.journal_texts.specs.AskedSteps.{drained, drained_to, step_entry, step_grant}
 use Rattle.journal_texts.specs.Recorded.{IsAskedUnder, IsHaltedIn, IsUnhaltedIn}
 use Rattle.journal_texts.specs.Records.{IsRecordedOrHalted}
@@ -108,7 +108,7 @@ module _ {D : Type 0} (steps : List Request) (old new : DurableState D) where
 
   -- ---- the record
 
-  part_none : (history : List Entry) → IsHaltedIn (after_steps old new.disk steps) history → HaltsAt steps history
+  part_none : (history : List Entry) → IsHaltedIn (after_plan_steps old new.disk steps) history → HaltsAt steps history
   part_none history is = absurd (true≢false (sym is.1 ∙ ap holds_halt is.0 ∙ drained_unhalted steps))
 
   module _ (halts : HaltsIn steps old new) where
@@ -125,8 +125,8 @@ module _ {D : Type 0} (steps : List Request) (old new : DurableState D) where
   asked_so (inl is) outcome =
       subst (λ (d : DurableState D). IsRecordedOrHalted d.cell 0 d.opening (IsUnhaltedIn d) (IsHaltedIn d) outcome
       → AreAsked old.cell old.opening steps outcome) (sym is)
-      (recorded_so old.cell 0 old.opening (IsUnhaltedIn (after_steps old new.disk steps)) (AllGranted steps)
-      (IsHaltedIn (after_steps old new.disk steps)) (HaltsAt steps) (λ history is. is.0) part_none outcome)
+      (recorded_so old.cell 0 old.opening (IsUnhaltedIn (after_plan_steps old new.disk steps)) (AllGranted steps)
+      (IsHaltedIn (after_plan_steps old new.disk steps)) (HaltsAt steps) (λ history is. is.0) part_none outcome)
   asked_so (inr halts) outcome =
       subst (λ (d : DurableState D). IsRecordedOrHalted d.cell 0 d.opening (IsUnhaltedIn d) (IsHaltedIn d) outcome
       → AreAsked old.cell old.opening steps outcome) (sym halts.is)

@@ -43,8 +43,8 @@ abbrev pub step_grant : Request → Grant
 step_grant step = record { shift = 0; session = 0; request = step }
 
 -- these steps were granted, which left this disk
-abbrev pub after_steps : {D : Type 0} → DurableState D → D → List Request → DurableState D
-after_steps durable disk steps =
+abbrev pub after_plan_steps : {D : Type 0} → DurableState D → D → List Request → DurableState D
+after_plan_steps durable disk steps =
     record durable { disk = disk; history = drained steps; added = map step_grant steps; unsure = None }
 
 -- the step after a prefix of them halted
@@ -62,4 +62,4 @@ pub record HaltsIn {D : Type 0} (steps : List Request) (old new : DurableState D
 
 -- each step was granted, or one halted
 abbrev pub IsAskedIn : {D : Type 0} → List Request → DurableState D → DurableState D → Type 0
-IsAskedIn steps old new = (new ≡ after_steps old new.disk steps) ⊎ HaltsIn steps old new
+IsAskedIn steps old new = (new ≡ after_plan_steps old new.disk steps) ⊎ HaltsIn steps old new

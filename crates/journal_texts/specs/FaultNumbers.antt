@@ -2,7 +2,7 @@
 use Rattle.std.specs.Prelude.{ℕ}
 use Rattle.shift_recovery.specs.declared.faults.JournalFault.{JournalFault}
 use Rattle.shift_recovery.specs.declared.faults.JournalFault.TheVariants as journal
-use Rattle.cell_texts.specs.FaultNumbers.{counted, plain}
+use Rattle.cell_texts.specs.FaultNumbers.{with_count, plain}
 use Rattle.cell_texts.specs.declared.findings.Finding.{Finding}
 
 -- | Number | journal     |
@@ -15,10 +15,10 @@ use Rattle.cell_texts.specs.declared.findings.Finding.{Finding}
 -- the fault of a journal
 abbrev pub journal_finding : JournalFault → Finding
 journal_finding journal.NotAJournal = plain 1
-journal_finding (journal.OtherCell offset) = counted 2 offset
-journal_finding (journal.Damaged offset) = counted 3 offset
-journal_finding (journal.Long length) = counted 4 length
+journal_finding (journal.OtherCell offset) = with_count 2 offset
+journal_finding (journal.Damaged offset) = with_count 3 offset
+journal_finding (journal.Long length) = with_count 4 length
 
 -- a grant in it is another shift's, of a session
 abbrev pub other_shift_finding : ℕ → Finding
-other_shift_finding session = counted 5 session
+other_shift_finding session = with_count 5 session

@@ -16,9 +16,9 @@ fn finding_of(fault: JournalFault) -> Finding
 {
     match fault {
         JournalFault::NotAJournal => Finding::plain(1),
-        JournalFault::OtherCell { at } => Finding::counted(2, at),
-        JournalFault::Damaged { at } => Finding::counted(3, at),
-        JournalFault::Long { len } => Finding::counted(4, len),
+        JournalFault::OtherCell { at } => Finding::with_count(2, at),
+        JournalFault::Damaged { at } => Finding::with_count(3, at),
+        JournalFault::Long { len } => Finding::with_count(4, len),
     }
 }
 
@@ -36,6 +36,6 @@ pub fn at_other_shift(session: u16) -> EarlyEnd
     at_finding(
         Subject::Journal,
         b"journal",
-        Some(Finding::counted(5, u64::from(session))),
+        Some(Finding::with_count(5, u64::from(session))),
     )
 }

@@ -4,8 +4,6 @@ use Rattle.std.proofs.lemmas.Bool.{and_parts}
 use Rattle.std.proofs.lemmas.List.Elements.{All-map}
 use Rattle.cell_base.specs.declared.cells.Cell.{Cell}
 use Rattle.cell_base.specs.declared.requests.Part.{Part}
-use Rattle.cell_base.specs.declared.requests.Reply.{Reply}
-use Rattle.cell_base.specs.declared.requests.Reply.TheVariants.{Granted, Refused}
 use Rattle.cell_base.specs.declared.shifts.Entry.{Entry}
 use Rattle.cell_base.specs.declared.shifts.Grant.{Grant}
 use Rattle.cell_base.specs.Fits.{CellFits, RequestFits}
@@ -13,6 +11,7 @@ use Rattle.cell_base.specs.Histories.{IsLegal, after, after_requests, all_grante
 use Rattle.cell_base.specs.Outcomes.{reply_to, state_after}
 use Rattle.cell_base.specs.Plans.{plan_of}
 use Rattle.cell_base.specs.Scripts.{holds_halt}
+use Rattle.policy_laws.proofs.Granting.{granted_alone}
 use Rattle.shift_recovery.specs.Replayed.{AreDue}
 use Rattle.record_text.specs.Lines.{head_words, line_of}
 use Rattle.record_text.specs.Records.{block_of}
@@ -21,10 +20,6 @@ use Rattle.shift_checker.specs.Judging.{judge}
 use Rattle.shift_checker.specs.declared.verdict.Verdict.TheVariants.{Yes}
 use Rattle.shift_checker.proofs.Legal.{record_right}
 use Rattle.look_commands.specs.Grants.{block_of_grants, entry_of, grant_line, history_of}
-
-granted_alone : (reply : Reply) → is_granted reply ≡ true → reply ≡ Granted
-granted_alone Granted is = refl
-granted_alone (Refused why) is = absurd (cc)
 
 -- no entry halted
 pub none_halts : (grants : List Grant) → holds_halt (history_of grants) ≡ false

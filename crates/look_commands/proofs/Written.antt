@@ -1,5 +1,5 @@
 -- The record of grants has a text of its own, and the check finds right whatever that text is read as.
-use Rattle.std.proofs.Common.{◌≡◌, ◌∙◌, ℕ, ◌^◌, ◌<◌, ◌≤◌, Bool, true, false, cond, List, []}
+use Rattle.std.proofs.Common.{◌≡◌, ◌∙◌, ℕ, ◌^◌, ◌<◌, ◌≤◌, Bool, cond, List, []}
 use Rattle.std.proofs.Common.{◌∷◌, length, All, Ok, refl, sym, ap, subst, arith, append-nil}
 use Rattle.std.proofs.lemmas.List.Elements.{All-nil, All-cons, All-head, All-tail, All-weaker}
 use Rattle.std.proofs.lemmas.List.Sums.{sum_by-le}
@@ -9,13 +9,13 @@ use Rattle.cell_base.specs.declared.shifts.Grant.{Grant}
 use Rattle.cell_base.specs.Fits.{CellFits, RequestFits}
 use Rattle.cell_base.specs.Histories.{after, after_requests, replay, requests_of}
 use Rattle.cell_base.specs.Outcomes.{state_after}
-use Rattle.cell_base.specs.Plans.{plan_of, work_from, work_of}
+use Rattle.cell_base.specs.Plans.{plan_of, work_of}
 use Rattle.cell_base.specs.Policy.{IsAdmitted}
 use Rattle.cell_base.specs.Stages.{IsStage, stage_of}
 use Rattle.shift_recovery.specs.Replayed.{AreDue}
 use Rattle.policy_laws.proofs.Plans.{length-plan_of}
 use Rattle.policy_laws.proofs.Units.{units_law}
-use Rattle.policy_laws.proofs.Walks.{work_from-few}
+use Rattle.admission_core.proofs.Tallying.{work_of-le}
 use Rattle.record_text.specs.Blocks.{AreBlocks, BlockFits, HaltsRightly, TailIsWritten}
 use Rattle.record_text.specs.Ranges.{EntryIsWritten}
 use Rattle.record_text.specs.Records.{tail_of, text_of_block}
@@ -57,21 +57,14 @@ module _ (cell : Cell) (fits : CellFits cell) where
       (after_in_range cell parts grant.request all (All-head GrantInRange grant grants range).job)
       (All-tail GrantInRange grant grants range)
 
-  -- no part needs many steps
-  work_few : (part : Part) → IsStage cell (stage_of part) → work_of cell part ≤ 129
-  work_few part standing = by part.done (work_from-few cell fits (stage_of part) standing)
-    where
-      by : (done : Bool) → work_from cell (stage_of part) true ≤ 128 → work_from cell (stage_of part) done ≤ 129
-      by true few = omega (arith, few)
-      by false few = omega (arith, few)
-
   steps_few : (parts : List Part) → IsAdmitted cell parts → length (plan_of cell parts) < 2 ^ 64
   steps_few parts admitted =
       omega (
         arith,
         length-plan_of cell fits parts admitted,
         sum_by-le (work_of cell) 129 parts
-            (All-weaker (λ part. IsStage cell (stage_of part)) (λ part. work_of cell part ≤ 129) work_few parts admitted.state.standing),
+            (All-weaker (λ part. IsStage cell (stage_of part)) (λ part. work_of cell part ≤ 129)
+            (work_of-le cell fits parts) parts admitted.state.standing),
         units_law cell fits parts admitted,
         fits.units,
       )

@@ -6,7 +6,7 @@ use Rattle.cell_base.specs.declared.shifts.Grant.{Grant}
 use Rattle.entry_codec.specs.declared.encoder.TheConstants.{ENTRY_SIZE}
 use Rattle.entry_codec.specs.Records.{record_of}
 use Rattle.entry_codec.specs.RecordLaws.{length-record_of}
-use Rattle.move_journal.specs.Journals.{head, entries, front, gate_of, group_bytes, IsRead}
+use Rattle.move_journal.specs.Journals.{head, entries, front, gate_of, group_bytes, IsReadAgain}
 
 pub length-entries : (grants : List Grant) → length (entries grants) ≡ ENTRY_SIZE * length grants
 length-entries [] = refl
@@ -43,7 +43,7 @@ group-push grants grant bytes one piece new is piece_is one_is made =
     ∙ sym (append_assoc (entries grants) (entries (grant ∷ [])) (0 ∷ []))
     ∙ ap (λ (l : List ℕ). l ++ 0 ∷ []) (sym (entries-append grants (grant ∷ [])))
 
-pub each-append : (grants more : List Grant) → AllByRecursion IsRead grants → AllByRecursion IsRead more
-    → AllByRecursion IsRead (grants ++ more)
+pub each-append : (grants more : List Grant) → AllByRecursion IsReadAgain grants → AllByRecursion IsReadAgain more
+    → AllByRecursion IsReadAgain (grants ++ more)
 each-append [] more each are = are
 each-append (g ∷ grants) more each are = (each.0, each-append grants more each.1 are)

@@ -6,7 +6,7 @@ use Rattle.cell_base.specs.declared.shifts.Grant.{Grant}
 use Rattle.outside_io.specs.Disk.{overwritten, Torn, Only}
 use Rattle.move_journal.specs.Disks.{ComesOf}
 use Rattle.std.specs.List.{AllByRecursion}
-use Rattle.move_journal.specs.Journals.{entries, front, gate_of, group_bytes, IsRead, IsJournal, HoldsRecords, Staged, WithOrWithout}
+use Rattle.move_journal.specs.Journals.{entries, front, gate_of, group_bytes, IsReadAgain, IsJournal, HoldsRecords, Staged, WithOrWithout}
 use Rattle.move_journal.proofs.Fronts.{length-front, front-append, each-append}
 use Rattle.move_journal.proofs.Splits.{torn_after, torn_byte, written_after, written_byte, regroup}
 use Rattle.move_journal.proofs.Turning.{of_only}
@@ -41,7 +41,7 @@ module _ (file text : List ℕ) (grants : List Grant) (journal : IsJournal file 
             ∙ append_assoc (front text grants) (journal.gate ∷ []) (drop at c);
       }
 
-  written_after_gate : (more : List Grant) → 0 < length more → AllByRecursion IsRead more → (new : List ℕ)
+  written_after_gate : (more : List Grant) → 0 < length more → AllByRecursion IsReadAgain more → (new : List ℕ)
       → new ≡ overwritten file (gate_of text grants + 1) (drop 1 (group_bytes more)) → Staged text grants more new
   unfolding closed_front
   written_after_gate more some are new written =

@@ -19,7 +19,8 @@ use Rattle.order_advisor.specs.declared.advice.Advice.{Advice}
 use Rattle.order_advisor.specs.Advices.{IsBest}
 use Rattle.order_advisor.specs.Orders.{weight, own_weight, members_under, IsOrderList, ComesBefore}
 use Rattle.order_advisor.specs.Sets.{first_orders, added, hex, order_in, KnowsLeast}
-use Rattle.order_advisor.proofs.Sums.{total, total-same, total-le, total-add, total-times, total-at}
+use Rattle.policy_laws.proofs.Totals.{total, total-le}
+use Rattle.order_advisor.proofs.Sums.{total-same, total-add, total-times, total-at}
 use Rattle.order_advisor.proofs.Digits.{numeral, numeral-total, numeral-less, numeral-same, numeral_digit, numeral_cut}
 use Rattle.order_advisor.proofs.Ties.{members_no_more, weight-total}
 use Rattle.order_advisor.proofs.Rankings.{below, below-bit, below-all, IsRanking, size-le, size-lt, cost_in}

@@ -5,7 +5,7 @@ use Rattle.std.proofs.Math.Nat.{div-div-eq-div-mul}
 use Rattle.std.proofs.lemmas.Nat.{div-mul-add, mod-mul-add, pow-add}
 use Rattle.std.proofs.lemmas.Bool.{cases_eq}
 use Rattle.order_advisor.specs.Sets.{hex}
-use Rattle.order_advisor.proofs.Sums.{total}
+use Rattle.policy_laws.proofs.Totals.{total}
 
 -- the number with these digits after a number
 abbrev pub numeral : ℕ → (ℕ → ℕ) → ℕ → ℕ

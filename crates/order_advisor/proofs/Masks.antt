@@ -9,7 +9,8 @@ use Rattle.cell_base.specs.Masks.{has_bit}
 use Rattle.cell_base.proofs.Bits.{bit_at-number}
 use Rattle.policy_laws.proofs.Masks.{AreBits, with_bit}
 use Rattle.order_advisor.specs.Sets.{members_of}
-use Rattle.order_advisor.proofs.Sums.{total, total-sum_by, total_changed}
+use Rattle.policy_laws.proofs.Totals.{total}
+use Rattle.order_advisor.proofs.Sums.{total-sum_by, total_changed}
 
 -- the mask of the numbers below n that pass a test
 abbrev pub mask_by : (ℕ → Bool) → ℕ → ℕ

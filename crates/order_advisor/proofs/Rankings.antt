@@ -12,7 +12,8 @@ use Rattle.std.proofs.lemmas.Nat.Bits.{bit_at_ones}
 use Rattle.cell_base.specs.declared.cells.Cell.{Cell}
 use Rattle.cell_base.specs.Masks.{has_bit}
 use Rattle.order_advisor.specs.Sets.{added, members_of, hex, cost, last_cost, KnowsLeast}
-use Rattle.order_advisor.proofs.Sums.{total, total-same, total-le, total_changed}
+use Rattle.policy_laws.proofs.Totals.{total, total-le}
+use Rattle.order_advisor.proofs.Sums.{total-same, total_changed}
 use Rattle.order_advisor.proofs.Masks.{mask_by, are_bits, mask_by-same, without, members_of-total}
 
 module _ (n : ℕ) where

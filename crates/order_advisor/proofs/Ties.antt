@@ -9,7 +9,8 @@ use Rattle.cell_base.specs.declared.cells.Resource.{Resource}
 use Rattle.cell_base.specs.Stages.{Stage, stages, successors, resource_at, order_of, places_left}
 use Rattle.cell_base.specs.Neighborhoods.{leads_within, leads}
 use Rattle.order_advisor.specs.Orders.{reordered, with_orders, own_orders, members_under, weight, TieLaw}
-use Rattle.order_advisor.proofs.Sums.{total, total-sum_by}
+use Rattle.policy_laws.proofs.Totals.{total}
+use Rattle.order_advisor.proofs.Sums.{total-sum_by}
 
 -- the resources stay as many
 pub length-reordered : (xs : List Resource) (orders : List ℕ) → length (reordered xs orders) ≡ length xs

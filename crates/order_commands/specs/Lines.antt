@@ -7,7 +7,7 @@ use Rattle.cell_base.specs.Stages.{resource_numbers}
 use Rattle.order_advisor.specs.declared.advice.Advice.{Advice}
 use Rattle.record_text.specs.Lines.{line_of}
 use Rattle.cell_texts.specs.Blocks.{Lines}
-use Rattle.cell_texts.specs.FaultNumbers.{counted}
+use Rattle.cell_texts.specs.FaultNumbers.{with_count}
 use Rattle.cell_texts.specs.Texts.{refusal_text}
 
 -- what the advised orders weigh, and what the given ones do
@@ -29,4 +29,4 @@ advice_lines cell advice = weight_line advice ∷ order_lines cell advice.orders
 -- | Number | cell file                               |
 -- |     12 | TooManyResources, with how many it has |
 abbrev pub too_many_line : ℕ → List ℕ
-too_many_line count = refusal_text (codes "cell") (counted 12 count)
+too_many_line count = refusal_text (codes "cell") (with_count 12 count)

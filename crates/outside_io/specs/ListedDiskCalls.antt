@@ -48,8 +48,8 @@ abbrev pub one_made_more : ListedCalls → ListedCalls
 one_made_more listed = record { fails = listed.fails; made = one_more listed.made }
 
 -- the calls after one of this kind
-abbrev pub counted : ListedDiskCalls → CallKind → ListedDiskCalls
-counted calls Len = record calls { len = one_made_more calls.len; left = one_left_fewer calls.left }
-counted calls Read = record calls { read = one_made_more calls.read; left = one_left_fewer calls.left }
-counted calls Write = record calls { write = one_made_more calls.write; left = one_left_fewer calls.left }
-counted calls Sync = record calls { sync = one_made_more calls.sync; left = one_left_fewer calls.left }
+abbrev pub after_call : ListedDiskCalls → CallKind → ListedDiskCalls
+after_call calls Len = record calls { len = one_made_more calls.len; left = one_left_fewer calls.left }
+after_call calls Read = record calls { read = one_made_more calls.read; left = one_left_fewer calls.left }
+after_call calls Write = record calls { write = one_made_more calls.write; left = one_left_fewer calls.left }
+after_call calls Sync = record calls { sync = one_made_more calls.sync; left = one_left_fewer calls.left }

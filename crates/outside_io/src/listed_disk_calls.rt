@@ -1,6 +1,6 @@
 //! The calls of a disk in memory that are to fail.
 ghost use Rattle.std.specs.Prelude.{◌≡◌, None, IfOk};
-ghost use Rattle.outside_io.specs.ListedDiskCalls.{numbers_of, listed_of, is_stopped, one_left_fewer, next_fails, counted};
+ghost use Rattle.outside_io.specs.ListedDiskCalls.{numbers_of, listed_of, is_stopped, one_left_fewer, next_fails, after_call};
 
 use crate::listed::ListedCalls;
 use crate::{CallKind, DiskCall};
@@ -40,7 +40,7 @@ impl ListedDiskCalls {
     /// Counts a call, and answers whether it is to fail.
     pub(crate) fn fails_now(&mut self, kind: CallKind) -> bool
         ensures answer { result ≡ next_fails self.old kind }
-        ensures counted { self.new ≡ counted self.old kind }
+        ensures counted { self.new ≡ after_call self.old kind }
     {
         let stopped = stops_now(&mut self.left);
         let listed = match kind {

@@ -1,14 +1,11 @@
 -- Rows that are filled from their ends: a stage leads to a resource by its own step, or by a stage that may follow.
-use Rattle.std.proofs.Common.{◌≡◌, ℕ, ◌+◌, ◌<◌, ◌≤◌, ◌==◌, nat_le, ◌||◌, ◌&&◌, List, []}
-use Rattle.std.proofs.Common.{length, map, All, Contains, Option, Some, None, slice_get, get_or, set}
-use Rattle.std.proofs.Common.{get_or-set_same, get_or-set_other, ◌≢◌, ⊎_elim, refl, ap, ◌∙◌, sym, arith}
+use Rattle.std.proofs.Common.{◌≡◌, ℕ, ◌+◌, ◌<◌, ◌==◌, nat_le, ◌||◌, ◌&&◌, List}
+use Rattle.std.proofs.Common.{length, map, All, Contains, get_or, set}
+use Rattle.std.proofs.Common.{get_or-set_same, get_or-set_other, ◌≢◌, ⊎_elim, ap, ◌∙◌, sym, arith}
 use Rattle.std.specs.List.{list_any}
-use Rattle.std.specs.Option.{option_map_or}
 use Rattle.std.proofs.lemmas.Bool.{cases_eq}
 use Rattle.std.proofs.lemmas.List.Elements.{All-contains}
-use Rattle.cell_base.specs.declared.limits.TheConstants.{MAX_PLACES}
 use Rattle.cell_base.specs.declared.cells.Cell.{Cell}
-use Rattle.cell_base.specs.declared.cells.JobType.{JobType}
 use Rattle.cell_base.specs.Stages.{stage, IsStage, route_of, successors, resource_at, order_at, order_of}
 use Rattle.cell_base.specs.Masks.{has_bit}
 use Rattle.cell_base.specs.Neighborhoods.{leads, mask_of}
@@ -16,16 +13,7 @@ use Rattle.cell_base.specs.Fits.{CellFits}
 use Rattle.plain_recount.specs.Leading.{KnowsAfter}
 use Rattle.policy_laws.proofs.Lists.{list_any_agree, list_any-map}
 use Rattle.policy_laws.proofs.Masks.{mask_law}
-use Rattle.policy_laws.proofs.Stages.{type_fits}
 use Rattle.policy_laws.proofs.Leading.{leads_sweep}
-
--- the route of a type is no longer than the limit
-pub length-route_of : (cell : Cell) → CellFits cell → (kind : ℕ) → length (route_of cell kind) ≤ MAX_PLACES
-length-route_of cell fits kind = of (slice_get cell.types kind) refl
-  where
-    of : (o : Option JobType) → slice_get cell.types kind ≡ o → length (option_map_or (λ (t : JobType). t.route) o []) ≤ MAX_PLACES
-    of None e = omega arith
-    of (Some t) e = (type_fits cell fits kind t e).places.1
 
 module _ (cell : Cell) (fits : CellFits cell) (r kind place : ℕ) where
   -- a later place of the route

@@ -2,4 +2,4 @@ pub mod Asking
 pub mod Clauses
 pub mod Entering
 pub mod Leading
-pub mod Standing
+pub mod RecountState

@@ -4,7 +4,7 @@ ghost use Rattle.std.specs.Vec.{vec_capacity};
 ghost use Rattle.plain_recount.specs.Clauses.{Granted, IsStage, RequestFits, is_of_job, outcome_of_entry, outcome_of_move, part_of};
 ghost use Rattle.plain_recount.specs.Clauses.{reply_to, stage_of, state_after, units_of};
 ghost use Rattle.plain_recount.specs.Asking.{place_asked};
-ghost use Rattle.plain_recount.specs.Standing.{IsSound};
+ghost use Rattle.plain_recount.specs.RecountState.{IsSound};
 
 use crate::lead_table::LeadTable;
 use crate::parts::{finish, part_at, take_out};

@@ -13,7 +13,7 @@ use std::alloc::Global;
 use std::marker::Model;
 
 /// A cell and the parts that stand in it, in the order of their arrival at their present stages; and parts that are kept
-/// aside. Contracts see it as a `Standing`.
+/// aside. Contracts see it as a `RecountState`.
 #[derive(Drop)]
 pub struct Recount<'a> {
     table: LeadTable<'a>,
@@ -22,10 +22,10 @@ pub struct Recount<'a> {
 }
 
 impl<'a> Model for Recount<'a> {
-    ghost use Rattle.plain_recount.specs.Standing.{Standing, IsSound};
+    ghost use Rattle.plain_recount.specs.RecountState.{RecountState, IsSound};
     ghost use Rattle.std.specs.Vec.{vec_capacity};
 
-    ghost Value = { Standing };
+    ghost Value = { RecountState };
 
     ghost view = { λ s. record { cell = s.table; parts = s.parts.items; kept = s.kept.items } };
 

@@ -1,9 +1,9 @@
 -- Units: an admitted state has no more parts than the cell has units, since each part is counted at its own resource.
-use Rattle.std.proofs.Common.{◌≡◌, ℕ, zero, suc, ◌+◌, ◌<◌, ◌≤◌, Option, Some, List, [], ◌∷◌, length}
-use Rattle.std.proofs.Common.{take, All, slice_get, get_or, add-one, refl, ap, ⊎_elim, arith}
+use Rattle.std.proofs.Common.{◌≡◌, ℕ, zero, suc, ◌+◌, ◌≤◌, Option, Some, List, [], ◌∷◌, length}
+use Rattle.std.proofs.Common.{take, All, slice_get, get_or, add-one, refl, ap, arith}
 use Rattle.std.specs.List.{filter}
 use Rattle.std.specs.Option.{option_map_or}
-use Rattle.std.proofs.lemmas.Bool.{cond_both, cases_order}
+use Rattle.std.proofs.lemmas.Bool.{cond_both}
 use Rattle.std.proofs.lemmas.List.{take_all}
 use Rattle.std.proofs.lemmas.List.Elements.{All-head, All-tail}
 use Rattle.std.proofs.lemmas.List.Sums.{sum_by_more}
@@ -17,25 +17,7 @@ use Rattle.cell_base.specs.Fits.{CellFits, units_of}
 use Rattle.policy_laws.specs.Laws.{UnitsLaw}
 use Rattle.cell_base.proofs.Stages.{resource_within}
 use Rattle.policy_laws.proofs.Leading.{leads_here}
-
--- the sum of f over the numbers below n
-abbrev pub total : (ℕ → ℕ) → ℕ → ℕ
-total f zero = 0
-total f (suc n) = total f n + f n
-
-total-le : (f g : ℕ → ℕ) (n : ℕ) → ((k : ℕ) → k < n → f k ≤ g k) → total f n ≤ total g n
-total-le f g zero le = omega arith
-total-le f g (suc n) le = omega (arith, total-le f g n (λ k h. le k (omega arith)), le n (omega arith))
-
--- one more at a number below n
-total-lt : (f g : ℕ → ℕ) (n k : ℕ) → ((j : ℕ) → j < n → f j ≤ g j) → k < n → f k + 1 ≤ g k → total f n + 1 ≤ total g n
-total-lt f g zero k le within more = absurd (omega arith)
-total-lt f g (suc n) k le within more =
-    ⊎_elim
-    (λ (here : k ≡ n).
-    let at : f n + 1 ≤ g n = rw (← here) more in omega (arith, total-le f g n (λ j h. le j (omega arith)), at))
-    (λ other. omega (arith, total-lt f g n k (λ j h. le j (omega arith)) (omega arith) more, le n (omega arith)))
-    (cases_order k n)
+use Rattle.policy_laws.proofs.Totals.{total, total-le, total-lt}
 
 module _ (cell : Cell) where
   count-cons : (part : Part) (parts : List Part) (r : ℕ) → count cell parts r ≤ count cell (part ∷ parts) r
@@ -56,6 +38,11 @@ module _ (cell : Cell) where
       let more : units_of (take (suc n) cell.resources) ≡ units_of (take n cell.resources) + last.capacity =
       rw add-one at (sum_by_more (λ (r : Resource). r.capacity) cell.resources n none (omega arith)) in
       omega (arith, total-capacity_of n (omega arith), here, more)
+
+  -- the capacities of all
+  pub capacities_total : total (capacity_of cell) (length cell.resources) ≡ units_of cell.resources
+  capacities_total =
+      let n = length cell.resources in rw (take_all n cell.resources (omega arith)) at (total-capacity_of n (omega arith))
 
   module _ (fits : CellFits cell) where
     -- a part is counted at its own resource
@@ -80,11 +67,9 @@ module _ (cell : Cell) where
     pub units_law : UnitsLaw cell
     units_law parts admitted =
         let n = length cell.resources in
-        let whole : total (capacity_of cell) n ≡ units_of cell.resources =
-        rw (take_all n cell.resources (omega arith)) at (total-capacity_of n (omega arith)) in
         omega (
           arith,
           length-le-counts parts admitted.state.standing,
           total-le (count cell parts) (capacity_of cell) n admitted.within,
-          whole,
+          capacities_total,
         )

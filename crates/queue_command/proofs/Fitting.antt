@@ -3,15 +3,13 @@ use Rattle.std.proofs.Common.{◌≡◌, ℕ, zero, suc, ◌-◌, ◌*◌, ◌&&
 use Rattle.std.proofs.Common.{Some, None, List, [], ◌∷◌, ◌++◌, length, slice_get, All, find, refl}
 use Rattle.std.specs.Prelude.{unwrap_or}
 use Rattle.std.specs.Option.{is_none, option_map_or}
-use Rattle.std.proofs.lemmas.List.Elements.{All-append, All-cons, All-head, All-map, All-nil, All-weaker}
+use Rattle.std.proofs.lemmas.List.Elements.{All-append, All-cons, All-map, All-nil, All-weaker}
 use Rattle.cell_base.specs.declared.cells.Cell.{Cell}
 use Rattle.cell_base.specs.declared.requests.Part.{Part}
 use Rattle.cell_base.specs.declared.requests.Refusal.{Refusal}
 use Rattle.cell_base.specs.declared.requests.Reply.{Reply}
 use Rattle.cell_base.specs.declared.requests.Reply.TheVariants.{Granted, Refused}
 use Rattle.cell_base.specs.declared.requests.Request.{Request}
-use Rattle.cell_base.specs.declared.requests.Told.TheVariants.{Answered}
-use Rattle.cell_base.specs.declared.shifts.Entry.{Entry}
 use Rattle.cell_base.specs.declared.shifts.Shift.{Shift}
 use Rattle.cell_base.specs.Fits.{CellFits, RequestFits, ShiftFits, steps_of}
 use Rattle.cell_base.specs.Outcomes.{reply_to, state_after}
@@ -19,38 +17,29 @@ use Rattle.cell_base.specs.Plans.{Drains, plan_of}
 use Rattle.cell_base.specs.Policy.{IsAdmitted}
 use Rattle.cell_base.specs.Scripts.{script_of}
 use Rattle.policy_laws.specs.Decisions.{is_saturation}
-use Rattle.policy_laws.proofs.Admission.{admission_law}
+use Rattle.policy_laws.proofs.Admission.{state_after_admitted}
 use Rattle.policy_laws.proofs.Lists.{All-found, All-slice_get}
 use Rattle.policy_laws.proofs.Plans.{plan_law}
 use Rattle.policy_laws.proofs.States.{IsAdmitted-empty}
-use Rattle.record_text.specs.Fitting.{EntryFits as AskedFits, RefusalFits}
-use Rattle.cell_texts.proofs.Fitting.{entries_fit}
+use Rattle.cell_texts.proofs.Fitting.{refusal_fits}
 use Rattle.wait_board.specs.declared.entries.BoardEntry.{BoardEntry}
 use Rattle.wait_board.specs.declared.entries.BoardTold.TheVariants as told
 use Rattle.wait_board.specs.declared.waiter.Waiter.{Waiter}
-use Rattle.wait_board.specs.Boards.{OnBoard, board, decided, end_of_wait, entry, is_ready, joined, noted}
-use Rattle.wait_board.specs.Boards.{opened, renewed, scan_within, settled, told_on, waiter_of}
+use Rattle.wait_board.specs.Boards.{OnBoard, board, after_wait, end_of_wait, entry, is_ready, with_waiter, noted}
+use Rattle.wait_board.specs.Boards.{opened, renewed, scan_within, all_renewed, told_on, waiter_of}
 use Rattle.wait_board.specs.BoardState.{IsWaiting}
 use Rattle.wait_board.proofs.Firsts.{All-without}
 use Rattle.board_rounds.specs.Rounds.{present_step, progress_in, queue_run, rounds, turn, turns}
 use Rattle.queue_command.specs.Lines.{BoardFits, BoardEntryFits, BoardToldFits, WaiterFits}
 
 module _ (cell : Cell) (fits : CellFits cell) where
-  refusal_fits : (parts : List Part) (request : Request) (why : Refusal) → IsAdmitted cell parts → RequestFits cell request
-      → reply_to cell parts request ≡ Refused why → RefusalFits cell why
-  refusal_fits parts request why admitted fit is =
-      let e : Entry = record { session = 0; request = request; told = Answered (Refused why) } in
-      let one = entries_fit cell fits parts (e ∷ []) admitted (is, tt)
-      (All-cons (λ (e : Entry). RequestFits cell e.request) e [] fit (All-nil (λ (e : Entry). RequestFits cell e.request))) in
-      (All-head (AskedFits cell) e [] one).told
-
   end_fits : (parts : List Part) (request : Request) → IsAdmitted cell parts → RequestFits cell request
       → BoardToldFits cell (end_of_wait (reply_to cell parts request))
   end_fits parts request admitted fit = by_reply (reply_to cell parts request) refl
     where
       by_reply : (r : Reply) → reply_to cell parts request ≡ r → BoardToldFits cell (end_of_wait r)
       by_reply Granted is = tt
-      by_reply (Refused why) is = refusal_fits parts request why admitted fit is
+      by_reply (Refused why) is = refusal_fits cell fits parts request why admitted fit is
 
   -- what every ask and every step of a scan keeps
   record Fit (on : OnBoard) : Type 0 where
@@ -63,23 +52,19 @@ module _ (cell : Cell) (fits : CellFits cell) where
   push_fits history e all one =
       All-append (BoardEntryFits cell) history (e ∷ []) all (All-cons (BoardEntryFits cell) e [] one (All-nil (BoardEntryFits cell)))
 
-  after_admitted : (parts : List Part) (request : Request) → IsAdmitted cell parts → RequestFits cell request
-      → IsAdmitted cell (state_after cell parts request)
-  after_admitted parts request admitted fit = (admission_law cell fits parts admitted).request request fit
-
-  decided_fit : (on : OnBoard) (w : Waiter) → find (is_ready cell on.parts) on.waiters ≡ Some w → Fit on → Fit (decided cell on w)
+  decided_fit : (on : OnBoard) (w : Waiter) → find (is_ready cell on.parts) on.waiters ≡ Some w → Fit on → Fit (after_wait cell on w)
   decided_fit on w some fit =
       let Asks : Waiter → Type 0 = λ w. RequestFits cell w.request in
       let test = is_ready cell on.parts in
       let request : RequestFits cell w.request = All-found Asks test on.waiters w fit.requests some in
       record {
-        admitted = after_admitted on.parts w.request fit.admitted request;
+        admitted = state_after_admitted cell fits on.parts w.request fit.admitted request;
         entries = push_fits on.history (entry w.session w.request (end_of_wait (reply_to cell on.parts w.request))) fit.entries
             (record { request = request; told = end_fits on.parts w.request fit.admitted request });
         requests = All-without test Asks on.waiters fit.requests;
       }
 
-  settled_fit : (on : OnBoard) → Fit on → Fit (settled cell on)
+  settled_fit : (on : OnBoard) → Fit on → Fit (all_renewed cell on)
   settled_fit on fit = record {
     admitted = fit.admitted;
     entries = fit.entries;
@@ -91,20 +76,20 @@ module _ (cell : Cell) (fits : CellFits cell) where
   scan_fit zero on fit = settled_fit on fit
   scan_fit (suc n) on fit =
       elim (find (is_ready cell on.parts) on.waiters) as (λ o. find (is_ready cell on.parts) on.waiters ≡ o
-      → Fit (option_map_or (λ waiter. scan_within n cell (decided cell on waiter)) o (settled cell on))) [
+      → Fit (option_map_or (λ waiter. scan_within n cell (after_wait cell on waiter)) o (all_renewed cell on))) [
         | None ↦ λ none. settled_fit on fit
-        | Some w ↦ λ some. scan_fit n (decided cell on w) (decided_fit on w some fit)
+        | Some w ↦ λ some. scan_fit n (after_wait cell on w) (decided_fit on w some fit)
       ] refl
 
   board_fit : (on : OnBoard) (session : ℕ) (request : Request) → RequestFits cell request → Fit on → Fit (board cell on session request)
   board_fit on session request asks fit = by_reply (reply_to cell on.parts request) refl
     where
       by_saturation : (why : Refusal) → reply_to cell on.parts request ≡ Refused why → (b : Bool)
-          → Fit (cond b (joined on session request why) (noted on session request (told.Refused why)))
+          → Fit (cond b (with_waiter on session request why) (noted on session request (told.Refused why)))
       by_saturation why is true = record {
         admitted = fit.admitted;
         entries = push_fits on.history (entry session request (told.Waits why)) fit.entries
-            (record { request = asks; told = refusal_fits on.parts request why fit.admitted asks is });
+            (record { request = asks; told = refusal_fits cell fits on.parts request why fit.admitted asks is });
         requests =
             let new : Waiter = record { session = session; request = request; refusal = why } in
             let Asks : Waiter → Type 0 = λ w. RequestFits cell w.request in
@@ -113,7 +98,7 @@ module _ (cell : Cell) (fits : CellFits cell) where
       by_saturation why is false = record {
         admitted = fit.admitted;
         entries = push_fits on.history (entry session request (told.Refused why)) fit.entries
-            (record { request = asks; told = refusal_fits on.parts request why fit.admitted asks is });
+            (record { request = asks; told = refusal_fits cell fits on.parts request why fit.admitted asks is });
         requests = fit.requests;
       }
 
@@ -121,7 +106,7 @@ module _ (cell : Cell) (fits : CellFits cell) where
       by_reply Granted is =
           let noted_on : OnBoard = record (noted on session request told.Granted) { parts = state_after cell on.parts request } in
           scan_fit (length on.waiters) noted_on (record {
-            admitted = after_admitted on.parts request fit.admitted asks;
+            admitted = state_after_admitted cell fits on.parts request fit.admitted asks;
             entries = push_fits on.history (entry session request told.Granted) fit.entries (record { request = asks; told = tt });
             requests = fit.requests;
           })
@@ -184,6 +169,6 @@ module _ (cell : Cell) (fits : CellFits cell) where
       waiters = All-weaker (IsWaiting cell (queue_run cell [] shift).parts n) (WaiterFits cell)
           (λ w is. record {
             request = is.request;
-            refusal = refusal_fits (queue_run cell [] shift).parts w.request w.refusal run_fit.admitted is.request is.outcome;
+            refusal = refusal_fits cell fits (queue_run cell [] shift).parts w.request w.refusal run_fit.admitted is.request is.outcome;
           }) (queue_run cell [] shift).waiters waiting;
     }

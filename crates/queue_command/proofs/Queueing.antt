@@ -1,24 +1,16 @@
 -- How the outcomes of `queue` come about.
-use Rattle.std.proofs.Common.{◌≡◌, ℕ, List, [], length, All, Option, Ok, ap, refl, sym, subst, ◌∙◌}
-use Rattle.outside_io.specs.Files.{Names}
+use Rattle.std.proofs.Common.{◌≡◌, ℕ, [], length, All, ap, sym, subst, ◌∙◌}
 use Rattle.cell_base.specs.declared.cells.Cell.{Cell}
 use Rattle.cell_base.specs.declared.shifts.Shift.{Shift}
 use Rattle.cell_base.specs.Fits.{CellFits, ShiftFits}
 use Rattle.admission_core.specs.CoreState.{CoreState}
-use Rattle.shift_file.specs.Walk.{shift_of}
 use Rattle.wait_board.specs.Boards.{OnBoard}
 use Rattle.wait_board.specs.BoardState.{BoardState, IsNewBoard, IsWaiting, KeepsBoard}
 use Rattle.board_rounds.specs.Rounds.{NobodyAsks, queue_run}
 use Rattle.board_rounds.specs.Underway.{HasBecome}
-use Rattle.cell_walks.specs.Allowed.{ByMemory, IsAllowed, IsEndedAt, Passed, Stopped, Unasked}
-use Rattle.cell_walks.specs.DiskTold.{no_disk}
-use Rattle.cell_walks.specs.Observed.{File, Shows, files_told, observed}
-use Rattle.cell_walks.specs.Outcomes.{done, early}
-use Rattle.cell_walks.specs.Walks.{Answers, Tests, Walk}
-use Rattle.cell_walks.specs.declared.early_end.EarlyEnd.{EarlyEnd}
-use Rattle.cell_walks.specs.declared.early_end.EarlyEnd.TheVariants.{WantOfMemory}
-use Rattle.cell_walks.proofs.Steps.{ended_at, ended_after, none_done, shown_before}
-use Rattle.cell_texts.specs.Tests.{KnownCell, cell_file, cell_reads, shift_file}
+use Rattle.cell_walks.specs.Outcomes.{done}
+use Rattle.cell_walks.specs.Walks.{Answers, Walk}
+use Rattle.cell_texts.specs.Tests.{KnownCell}
 use Rattle.queue_command.specs.Lines.{BoardFits, board_lines}
 use Rattle.queue_command.specs.Queue.{IsQueued, queue}
 use Rattle.queue_command.specs.QueueRuns.{IsQueueRun}
@@ -66,44 +58,15 @@ module _ (cell : Cell) (fits : CellFits cell) (shift : Shift) (shift_fits : Shif
 
 -- ---- the command
 
-module _ {F : Type 0} (holds : F → Option Names) (is_sound : F → Type 0) (faults : F → ℕ) (cell shift_name : List ℕ) where
-  abbrev pub ran : KnownCell → Shift → Walk
-  ran held shift = Answers λ input outcome. IsQueued held.cell shift outcome
+-- what is answered after the cell and the shift
+abbrev pub ran : KnownCell → Shift → Walk
+ran held shift = Answers λ input outcome. IsQueued held.cell shift outcome
 
-  -- the cell was not read
-  pub queue_unread : (old new : F) (end : EarlyEnd) → IsEndedAt (files_told holds is_sound faults old new) (cell_file cell) end
-      → IsAllowed (observed (files_told holds is_sound faults old new) no_disk) (queue cell shift_name) (early end)
-  queue_unread old new end ended =
-      ended_at (observed (files_told holds is_sound faults old new) no_disk) Unasked (cell_file cell)
-      (λ held. Tests (shift_file held.cell shift_name) (ran held)) end ended none_done
-
-  module _ (old mid new : F) (held : KnownCell)
-      (shows : Shows (files_told holds is_sound faults old mid) (File cell) (λ bytes. cell_reads bytes (Ok held)))
-      (same : holds mid ≡ holds old) where
-    -- the shift was not
-    pub queue_without_shift : (end : EarlyEnd) → faults mid ≡ faults old → (is_sound old → is_sound mid)
-        → IsEndedAt (files_told holds is_sound faults mid new) (shift_file held.cell shift_name) end
-        → IsAllowed (observed (files_told holds is_sound faults old new) no_disk) (queue cell shift_name) (early end)
-    queue_without_shift end kept stays ended =
-        Passed held shows
-        (ended_at (observed (files_told holds is_sound faults old new) no_disk) Unasked (shift_file held.cell shift_name) (ran held) end
-        (ended_after holds is_sound faults old mid new same kept stays (shift_file held.cell shift_name) end ended) none_done)
-
-    -- memory is wanting before it runs
-    pub queue_starved : IsAllowed (observed (files_told holds is_sound faults old new) no_disk) (queue cell shift_name)
-        (early WantOfMemory)
-    queue_starved = Passed held shows (Stopped WantOfMemory (ByMemory refl) (refl, none_done))
-
-    -- both were, and the shift ran
-    pub queue_ran : (shift : Shift) (board : BoardState)
-        → Shows (files_told holds is_sound faults mid new) (File shift_name) (λ bytes. shift_of held.cell bytes ≡ Ok shift)
-        → IsQueueRun held.cell shift board
-        → IsAllowed (observed (files_told holds is_sound faults old new) no_disk) (queue cell shift_name)
-        (done (board_lines board.cell board.on))
-    queue_ran shift board read is =
-        let lines = ap (λ (c : Cell). done (board_lines c board.on)) is.on_cell
-        ∙ ap (λ (on : OnBoard). done (board_lines held.cell on)) is.run in
-        Passed held shows
-        (Passed shift
-        (shown_before holds is_sound faults old mid new same (File shift_name) (λ bytes. shift_of held.cell bytes ≡ Ok shift) read)
-        (record { printed = lines; rest = is.rest }, none_done))
+-- the lines of the board are an answer
+pub queue_ran : (cell : Cell) (shift : Shift) (board : BoardState) → IsQueueRun cell shift board
+    → IsQueued cell shift (done (board_lines board.cell board.on))
+queue_ran cell shift board is = record {
+  printed =
+      ap (λ (c : Cell). done (board_lines c board.on)) is.on_cell ∙ ap (λ (on : OnBoard). done (board_lines cell on)) is.run;
+  rest = is.rest;
+}

@@ -14,21 +14,8 @@ use Rattle.cell_base.specs.declared.requests.Told.TheVariants.{Answered}
 use Rattle.step_text.specs.Steps.{request_words}
 use Rattle.step_text.specs.Words.{joined}
 use Rattle.record_text.specs.Lines.{line_of, told_words, why_words}
-use Rattle.record_text.specs.Spaced.{spaced}
-use Rattle.record_text.proofs.Appending.{joined-append}
+use Rattle.record_text.proofs.Appending.{line_parted}
 use Rattle.queue_command.specs.Lines.{asked_line, reason_words}
-
--- words after a space
-spaced-joined : (word : List ℕ) (words : List (List ℕ)) → spaced (word ∷ words) ≡ 32 ∷ joined (word ∷ words)
-spaced-joined word words = ap (λ bytes. 32 ∷ bytes) (sym (joined-append word [] words))
-
--- a line is its first words, a space, and the line of the others
-line_parted : (word : List ℕ) (words : List (List ℕ)) (next : List ℕ) (more : List (List ℕ))
-    → line_of (word ∷ (words ++ next ∷ more)) ≡ joined (word ∷ words) ++ 32 ∷ line_of (next ∷ more)
-line_parted word words next more =
-    ap (λ bytes. bytes ++ 10 ∷ [])
-    (joined-append word words (next ∷ more) ∙ ap (λ bytes. joined (word ∷ words) ++ bytes) (spaced-joined next more))
-    ∙ append_assoc (joined (word ∷ words)) (32 ∷ joined (next ∷ more)) (10 ∷ [])
 
 -- the first words
 first_part : (whole first behind : List ℕ) (n : ℕ) → whole ≡ first ++ 32 ∷ behind → n ≡ length whole - length behind - 1

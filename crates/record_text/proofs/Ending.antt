@@ -14,7 +14,7 @@ use Rattle.record_text.specs.Reading.{◌>>=◌}
 use Rattle.record_text.proofs.Finishing.{front_reached}
 use Rattle.record_text.proofs.Advancing.{on_line-sound}
 use Rattle.record_text.proofs.Reached.{IsReached}
-use Rattle.record_text.proofs.Running.{run, run_one, run_nothing, run-append}
+use Rattle.record_text.proofs.Running.{lines_read, run_one, run_nothing, run-append}
 
 pub same_Ok : {A E : Type 0} (x y : A) → ◌≡◌ {A = Result A E} (Ok x) (Ok y) → x ≡ y
 same_Ok x y is = cc
@@ -31,11 +31,11 @@ module _ (cell : Cell) where
     pub split : lines ≡ before ++ line ∷ later
     pub number : k ≡ length before + 1
     pub front : IsFront cell before
-    pub stuck : 1 ≤ length later → run cell 1 [] Between (before ++ line ∷ []) ≡ None
+    pub stuck : 1 ≤ length later → lines_read cell 1 [] Between (before ++ line ∷ []) ≡ None
 
   pub read_stops : (n : ℕ) (blocks : List Block) (at : Stage) (lines : List (List ℕ)) (p : List ℕ) (ps : List (List ℕ)) (k : ℕ)
       → n ≡ length lines + 1 → IsReached cell blocks at lines
-      → run cell 1 [] Between lines ≡ Some (blocks, at) → read_from cell n blocks at (p ∷ ps) ≡ Err k → Stops (lines ++ p ∷ ps) k
+      → lines_read cell 1 [] Between lines ≡ Some (blocks, at) → read_from cell n blocks at (p ∷ ps) ≡ Err k → Stops (lines ++ p ∷ ps) k
   read_stops n blocks at lines p [] k count reached ran is = by (is_whole blocks at p) is where
     by : (whole : Bool) → ◌≡◌ {A = Result (List Block) ℕ} (cond whole (Ok blocks) (Err n)) (Err k) → Stops (lines ++ p ∷ []) k
     by true is = absurd cc
@@ -56,15 +56,17 @@ module _ (cell : Cell) where
         place : 1 + length lines ≡ n
         place = omega (arith, count)
 
-        ran_more : run cell 1 [] Between (lines ++ p ∷ []) ≡ (on_line cell n blocks at (words p) >>= λ r. run cell (n + 1) r.0 r.1 [])
+        ran_more : lines_read cell 1 [] Between (lines ++ p ∷ [])
+            ≡ (on_line cell n blocks at (words p) >>= λ r. lines_read cell (n + 1) r.0 r.1 [])
         ran_more =
-            run-append cell 1 [] Between lines (p ∷ []) ∙ ap (λ o. o >>= λ (r : Reading). run cell (1 + length lines) r.0 r.1 (p ∷ [])) ran
-            ∙ ap (λ m. run cell m blocks at (p ∷ [])) place ∙ run_one cell n blocks at p
+            run-append cell 1 [] Between lines (p ∷ [])
+            ∙ ap (λ o. o >>= λ (r : Reading). lines_read cell (1 + length lines) r.0 r.1 (p ∷ [])) ran
+            ∙ ap (λ m. lines_read cell m blocks at (p ∷ [])) place ∙ run_one cell n blocks at p
 
         by : (o : Option Reading) → on_line cell n blocks at (words p) ≡ o
             → option_map_or (λ (r : Reading). read_from cell (n + 1) r.0 r.1 (next ∷ more)) o (Err n) ≡ Err k
             → ((r : Reading) → n + 1 ≡ length (lines ++ p ∷ []) + 1 → IsReached cell r.0 r.1 (lines ++ p ∷ [])
-            → run cell 1 [] Between (lines ++ p ∷ []) ≡ Some (r.0, r.1)
+            → lines_read cell 1 [] Between (lines ++ p ∷ []) ≡ Some (r.0, r.1)
             → read_from cell (n + 1) r.0 r.1 (next ∷ more) ≡ Err k → Stops ((lines ++ p ∷ []) ++ next ∷ more) k)
             → Stops (lines ++ p ∷ next ∷ more) k
         by None on is later =
@@ -76,9 +78,9 @@ module _ (cell : Cell) where
               split = refl;
               number = sym number ∙ count;
               front = front_reached cell lines blocks at reached;
-              stuck = λ some. ran_more ∙ ap (λ o. o >>= λ r. run cell (n + 1) r.0 r.1 []) on;
+              stuck = λ some. ran_more ∙ ap (λ o. o >>= λ r. lines_read cell (n + 1) r.0 r.1 []) on;
             }
         by (Some r) on is later =
             subst (λ (xs : List (List ℕ)). Stops xs k) (append_assoc lines (p ∷ []) (next ∷ more))
             (later r (omega (arith, count, length-append lines (p ∷ []))) (on_line-sound cell blocks lines p r n at count reached on)
-            (ran_more ∙ ap (λ o. o >>= λ r. run cell (n + 1) r.0 r.1 []) on ∙ run_nothing cell (n + 1) r.0 r.1) is)
+            (ran_more ∙ ap (λ o. o >>= λ r. lines_read cell (n + 1) r.0 r.1 []) on ∙ run_nothing cell (n + 1) r.0 r.1) is)

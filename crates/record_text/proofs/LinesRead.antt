@@ -16,7 +16,7 @@ use Rattle.record_text.specs.declared.stages.Stage.{Stage}
 use Rattle.record_text.specs.declared.stages.Stage.TheVariants.{Between}
 use Rattle.record_text.specs.BadLines.{pieces, text_of_lines, IsRecordOf, RefusedAt}
 use Rattle.record_text.specs.Blocks.{AreWellFormed}
-use Rattle.record_text.specs.Progress.{Reading, is_whole, on_line, read_from, run}
+use Rattle.record_text.specs.Progress.{Reading, is_whole, on_line, read_from, lines_read}
 use Rattle.record_text.specs.Reading.{◌>>=◌}
 use Rattle.record_text.specs.Remains.{LinesLeft, AreRead}
 use Rattle.record_text.specs.Turns.{IsTurn, Suits, line_at, turn_after, turn_of, with_line}
@@ -68,10 +68,10 @@ module _ (left : LinesLeft) (bytes : List ℕ) (so_far : Reading) (is : AreRead 
         number = omega (arith, is.number, length-append is.lines (line ∷ []));
         said =
             run-append cell 1 [] Between is.lines (line ∷ [])
-            ∙ ap (λ o. o >>= λ (r : Reading). run cell (1 + length is.lines) r.0 r.1 (line ∷ [])) is.said
-            ∙ ap (λ k. run cell k given so_far.1 (line ∷ [])) (sym is.number)
+            ∙ ap (λ o. o >>= λ (r : Reading). lines_read cell (1 + length is.lines) r.0 r.1 (line ∷ [])) is.said
+            ∙ ap (λ k. lines_read cell k given so_far.1 (line ∷ [])) (sym is.number)
             ∙ run_one cell n given so_far.1 line
-            ∙ ap (λ o. o >>= λ (r : Reading). run cell (n + 1) r.0 r.1 []) on
+            ∙ ap (λ o. o >>= λ (r : Reading). lines_read cell (n + 1) r.0 r.1 []) on
             ∙ run_nothing cell (n + 1) next.0 next.1;
         turn =
             ap (λ turn. turn_after turn said) is.turn
@@ -110,7 +110,7 @@ module _ (left : LinesLeft) (bytes : List ℕ) (so_far : Reading) (is : AreRead 
       ap (λ (r : Reading). r.0)
       (sym
       (same_Some ([], Between) so_far
-      (sym (run_nothing cell 1 [] Between) ∙ ap (run cell 1 [] Between) (sym none) ∙ is.said)))
+      (sym (run_nothing cell 1 [] Between) ∙ ap (lines_read cell 1 [] Between) (sym none) ∙ is.said)))
 
   both_false : (b : Bool) → (b && false) ≡ false
   both_false true = refl

@@ -10,7 +10,7 @@ use Rattle.record_text.specs.declared.stages.Stage.{Stage}
 use Rattle.record_text.specs.declared.stages.Stage.TheVariants.{Between, Entries, Left, Steps}
 use Rattle.record_text.specs.Progress.{Reading, on_head, on_entry, on_entries, on_left, on_steps, on_line}
 use Rattle.record_text.specs.Reading.{Words, ◌>>=◌, entry_at, head_at, left_at, plan_at, step_at}
-use Rattle.record_text.proofs.Running.{run, run_cons, run_nothing}
+use Rattle.record_text.proofs.Running.{lines_read, run_cons, run_nothing}
 
 module _ (given : List Block) where
   -- the same with these blocks before
@@ -50,17 +50,17 @@ module _ (given : List Block) where
         onto_bind (step_at cell ws) _ _ (λ step. ap Some (onto_cond (missing == 1) _ _ _ _ (closes blocks _) refl))
 
     pub run_onto : (n : ℕ) (blocks : List Block) (stage : Stage) (lines : List (List ℕ))
-        → run cell n (given ++ blocks) stage lines ≡ option_map onto (run cell n blocks stage lines)
+        → lines_read cell n (given ++ blocks) stage lines ≡ option_map onto (lines_read cell n blocks stage lines)
     run_onto n blocks stage [] =
         run_nothing cell n (given ++ blocks) stage ∙ ap (option_map onto) (sym (run_nothing cell n blocks stage))
     run_onto n blocks stage (line ∷ lines) =
         run_cons cell n (given ++ blocks) stage line lines
-        ∙ ap (λ o. o >>= λ (r : Reading). run cell (n + 1) r.0 r.1 lines) (on_line_onto n blocks stage (words line))
+        ∙ ap (λ o. o >>= λ (r : Reading). lines_read cell (n + 1) r.0 r.1 lines) (on_line_onto n blocks stage (words line))
         ∙ by (on_line cell n blocks stage (words line)) (λ r. run_onto (n + 1) r.0 r.1 lines)
         ∙ ap (option_map onto) (sym (run_cons cell n blocks stage line lines)) where
           by : (o : Option Reading)
-              → ((r : Reading) → run cell (n + 1) (given ++ r.0) r.1 lines ≡ option_map onto (run cell (n + 1) r.0 r.1 lines))
-              → (option_map onto o >>= λ (r : Reading). run cell (n + 1) r.0 r.1 lines)
-              ≡ option_map onto (o >>= λ (r : Reading). run cell (n + 1) r.0 r.1 lines)
+              → ((r : Reading) → lines_read cell (n + 1) (given ++ r.0) r.1 lines ≡ option_map onto (lines_read cell (n + 1) r.0 r.1 lines))
+              → (option_map onto o >>= λ (r : Reading). lines_read cell (n + 1) r.0 r.1 lines)
+              ≡ option_map onto (o >>= λ (r : Reading). lines_read cell (n + 1) r.0 r.1 lines)
           by None later = refl
           by (Some r) later = later r

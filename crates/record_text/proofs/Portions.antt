@@ -26,19 +26,19 @@ use Rattle.record_text.proofs.LineTexts.{lines_of, text_is, text-append, few_lin
 use Rattle.record_text.proofs.Onto.{onto, on_line_onto, run_onto}
 use Rattle.record_text.proofs.Pieces.{pieces_some, read_bad, read_last}
 use Rattle.record_text.proofs.Reached.{IsReached}
-use Rattle.record_text.proofs.Running.{run, run_cons, run_one, run_nothing, run-append, run_blocks}
+use Rattle.record_text.proofs.Running.{lines_read, run_cons, run_one, run_nothing, run-append, run_blocks}
 use Rattle.record_text.proofs.Splitting.{joined-pieces, pieces-behind}
 
 -- lines that are read lead on
 pub run_reached : (cell : Cell) (n : ℕ) (blocks : List Block) (at : Stage) (before lines : List (List ℕ)) (r : Reading)
-    → n ≡ length before + 1 → IsReached cell blocks at before → run cell n blocks at lines ≡ Some r
+    → n ≡ length before + 1 → IsReached cell blocks at before → lines_read cell n blocks at lines ≡ Some r
     → IsReached cell r.0 r.1 (before ++ lines)
 run_reached cell n blocks at before [] r count reached ran =
     let same : (blocks, at) ≡ r = same_Some (blocks, at) r (sym (run_nothing cell n blocks at) ∙ ran) in
     subst (λ (r : Reading). IsReached cell r.0 r.1 (before ++ [])) same
     (subst (IsReached cell blocks at) (sym (append-nil before)) reached)
 run_reached cell n blocks at before (line ∷ lines) r count reached ran =
-    let on = bind_some (λ (r : Reading). run cell (n + 1) r.0 r.1 lines) (on_line cell n blocks at (words line)) r
+    let on = bind_some (λ (r : Reading). lines_read cell (n + 1) r.0 r.1 lines) (on_line cell n blocks at (words line)) r
     (sym (run_cons cell n blocks at line lines) ∙ ran) in
     subst (IsReached cell r.0 r.1) (append_assoc before (line ∷ []) lines)
     (run_reached cell (n + 1) on.0.0 on.0.1 (before ++ line ∷ []) lines r (omega (arith, count, length-append before (line ∷ [])))
@@ -52,7 +52,7 @@ module _ (cell : Cell) (n : ℕ) (bytes : List ℕ) where
     pub lines : List (List ℕ)
     pub split : pieces bytes ≡ lines ++ pieces rest
     pub number : m ≡ n + length lines
-    pub ran : run cell n [] Between lines ≡ Some r
+    pub ran : lines_read cell n [] Between lines ≡ Some r
 
   pub none_read : IsReadOn n ([], Between) bytes
   none_read = record { lines = []; split = refl; number = sym (add-zero n); ran = run_nothing cell n [] Between }
@@ -65,10 +65,10 @@ module _ (cell : Cell) (n : ℕ) (bytes : List ℕ) where
     number = omega (arith, is.number, length-append is.lines (line ∷ []));
     ran =
         run-append cell n [] Between is.lines (line ∷ [])
-        ∙ ap (λ o. o >>= λ (r : Reading). run cell (n + length is.lines) r.0 r.1 (line ∷ [])) is.ran
-        ∙ ap (λ k. run cell k [] stage (line ∷ [])) (sym is.number)
+        ∙ ap (λ o. o >>= λ (r : Reading). lines_read cell (n + length is.lines) r.0 r.1 (line ∷ [])) is.ran
+        ∙ ap (λ k. lines_read cell k [] stage (line ∷ [])) (sym is.number)
         ∙ run_one cell m [] stage line
-        ∙ ap (λ o. o >>= λ (r : Reading). run cell (m + 1) r.0 r.1 []) (sym on)
+        ∙ ap (λ o. o >>= λ (r : Reading). lines_read cell (m + 1) r.0 r.1 []) (sym on)
         ∙ run_nothing cell (m + 1) r.0 r.1;
   }
 
@@ -131,8 +131,8 @@ module _ (left : Remains) (bytes : List ℕ) (given : List Block) (is : IsReadTo
       → IsReadTo (record { cell = cell; number = m; bytes = more }) bytes (given ++ block ∷ [])
   block_read m block more read =
       let all : List Block = given ++ block ∷ [] in
-      let ran : run cell left.number given Between read.lines ≡ Some (all, Between) =
-      ap (λ bs. run cell left.number bs Between read.lines) (sym (append-nil given))
+      let ran : lines_read cell left.number given Between read.lines ≡ Some (all, Between) =
+      ap (λ bs. lines_read cell left.number bs Between read.lines) (sym (append-nil given))
       ∙ run_onto given cell left.number [] Between read.lines ∙ ap (option_map (onto given)) read.ran in
       let reached : IsReached cell given Between before =
       record { are = sym (append-nil before); fit = is.fit; numbered = is.numbered; stage = tt } in
@@ -166,8 +166,8 @@ module _ (left : Remains) (bytes : List ℕ) (given : List Block) (is : IsReadTo
     read_on =
         let here = pieces_some left.bytes in
         let there = pieces_some rest in
-        let ran : run cell left.number given Between read.lines ≡ Some (given, stage) =
-        ap (λ bs. run cell left.number bs Between read.lines) (sym (append-nil given))
+        let ran : lines_read cell left.number given Between read.lines ≡ Some (given, stage) =
+        ap (λ bs. lines_read cell left.number bs Between read.lines) (sym (append-nil given))
         ∙ run_onto given cell left.number [] Between read.lines ∙ ap (option_map (onto given)) read.ran
         ∙ ap (λ (bs : List Block). Some (bs, stage)) (append-nil given) in
         ap (λ (b : List ℕ). read_from cell 1 [] Between (pieces b)) (is.text ∙ ap (λ xs. xs ++ left.bytes) (sym (text_is cell given)))

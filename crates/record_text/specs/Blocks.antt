@@ -26,9 +26,9 @@ HaltsRightly entries (Planned left steps) = holds_halt entries ≡ false
 HaltsRightly entries Halted = EndsInHalt entries
 
 -- the steps of the plan
-abbrev pub steps_of : Tail → List Request
-steps_of (Planned left steps) = steps
-steps_of Halted = []
+abbrev pub plan_steps : Tail → List Request
+plan_steps (Planned left steps) = steps
+plan_steps Halted = []
 
 -- ---- lines
 
@@ -72,7 +72,7 @@ pub record AreBlocks (cell : Cell) (blocks : List Block) : Type 0 where
 -- requests that fit the cell, and halts where they may stand
 pub record BlockIsWellFormed (cell : Cell) (block : Block) : Type 0 where
   pub entries : All (λ (entry : Entry). RequestFits cell entry.request) block.entries
-  pub steps : All (RequestFits cell) (steps_of block.tail)
+  pub steps : All (RequestFits cell) (plan_steps block.tail)
   pub halts : HaltsRightly block.entries block.tail
 
 -- such blocks with their line numbers, of which each fits a `u32`

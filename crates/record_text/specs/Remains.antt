@@ -8,7 +8,7 @@ use Rattle.record_text.specs.declared.record_lines.Turn.{Turn}
 use Rattle.record_text.specs.declared.stages.Stage.TheVariants.{Between}
 use Rattle.record_text.specs.BadLines.{pieces}
 use Rattle.record_text.specs.Blocks.{BlockFits, AreNumbered, line_count}
-use Rattle.record_text.specs.Progress.{Reading, run}
+use Rattle.record_text.specs.Progress.{Reading, lines_read}
 use Rattle.record_text.specs.Records.{text_of_blocks}
 use Rattle.record_text.specs.Turns.{turn_of}
 
@@ -39,5 +39,5 @@ pub record AreRead (left : LinesLeft) (bytes : List ℕ) (so_far : Reading) : Ty
   pub lines : List (List ℕ)
   pub split : pieces bytes ≡ lines ++ pieces left.bytes
   pub number : left.number ≡ 1 + length lines
-  pub said : run left.cell 1 [] Between lines ≡ Some so_far
+  pub said : lines_read left.cell 1 [] Between lines ≡ Some so_far
   pub turn : left.turn ≡ turn_of so_far.1

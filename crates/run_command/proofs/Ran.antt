@@ -14,11 +14,11 @@ use Rattle.shift_file.specs.Walk.{shift_of}
 use Rattle.cell_walks.specs.Allowed.{ByMemory, ByRefusal, IsAllowed, IsEndedAt, JournalOpened}
 use Rattle.cell_walks.specs.Allowed.{NotOpened, Opened, Passed, Stopped, Unasked, AllowsFrom}
 use Rattle.cell_walks.specs.DiskTold.{DiskTold, IsUntouched, disk_told}
-use Rattle.cell_walks.specs.Observed.{File, FilesTold, Observed, Shows, files_told, observed}
+use Rattle.cell_walks.specs.Observed.{File, FilesTold, Observed, HoldsOfBytes, files_told, observed}
 use Rattle.cell_walks.specs.Outcomes.{Outcome, early}
 use Rattle.cell_walks.specs.Walks.{Answers, Opens, Tests, Walk}
 use Rattle.cell_walks.specs.declared.early_end.EarlyEnd.{EarlyEnd}
-use Rattle.cell_walks.proofs.Steps.{ended_after, ended_at, shown_before}
+use Rattle.cell_walks.proofs.TwoTests.{both_passed, first_ended, second_ended}
 use Rattle.cell_texts.specs.Tests.{KnownCell, cell_file, cell_reads, shift_file}
 use Rattle.journal_texts.specs.Tests.{to_add}
 use Rattle.journal_texts.specs.Recorded.{IsAskedUnder, IsHaltedIn, IsUnhaltedIn, recorded_or_early}
@@ -104,39 +104,35 @@ module _ (seen : Observed) (held : KnownCell) (shift : Shift) where
   abbrev journal : Walk
   journal = Opens (to_add held (run_room shift)) sessions
 
-abbrev shift_walk : Observed → List ℕ → KnownCell → Walk
-shift_walk seen shift_name held = Tests (shift_file held.cell shift_name) (journal seen held)
-
 module _ {F : Type 0} (holds : F → Option Names) (is_sound : F → Type 0) (faults : F → ℕ) (disk : DiskTold) (cell shift_name : List ℕ) where
   -- the cell was not read
   pub run_unread : (old new : F) (end : EarlyEnd) → IsUntouched disk
       → IsEndedAt (files_told holds is_sound faults old new) (cell_file cell) end
       → IsAllowed (observed (files_told holds is_sound faults old new) disk) (run cell shift_name) (early end)
-  run_unread old new end still ended =
-      let seen : Observed = observed (files_told holds is_sound faults old new) disk in
-      ended_at seen Unasked (cell_file cell) (shift_walk seen shift_name) end ended still
+  run_unread old new =
+      first_ended holds is_sound faults disk (cell_file cell) (λ held. shift_file held.cell shift_name)
+      (journal (observed (files_told holds is_sound faults old new) disk)) old new
 
   module _ (old mid new : F) (held : KnownCell)
-      (shows : Shows (files_told holds is_sound faults old mid) (File cell) (λ bytes. cell_reads bytes (Ok held)))
+      (shows : HoldsOfBytes (files_told holds is_sound faults old mid) (File cell) (λ bytes. cell_reads bytes (Ok held)))
       (same : holds mid ≡ holds old) where
+    abbrev seen : Observed
+    seen = observed (files_told holds is_sound faults old new) disk
+
     -- the shift was not
     pub run_without_shift : (end : EarlyEnd) → IsUntouched disk → faults mid ≡ faults old → (is_sound old → is_sound mid)
         → IsEndedAt (files_told holds is_sound faults mid new) (shift_file held.cell shift_name) end
-        → IsAllowed (observed (files_told holds is_sound faults old new) disk) (run cell shift_name) (early end)
-    run_without_shift end still kept stays ended =
-        let seen : Observed = observed (files_told holds is_sound faults old new) disk in
-        Passed held shows
-        (ended_at seen Unasked (shift_file held.cell shift_name) (journal seen held) end
-        (ended_after holds is_sound faults old mid new same kept stays (shift_file held.cell shift_name) end ended) still)
+        → IsAllowed seen (run cell shift_name) (early end)
+    run_without_shift =
+        second_ended holds is_sound faults disk (cell_file cell) (λ known. shift_file known.cell shift_name) (journal seen)
+        old mid new held shows same
 
     -- both were, and the shift ran on the journal, or the command ended there
     pub run_on_disk : (shift : Shift) (made : Result Recorded EarlyEnd)
-        → Shows (files_told holds is_sound faults mid new) (File shift_name) (λ bytes. shift_of held.cell bytes ≡ Ok shift)
+        → HoldsOfBytes (files_told holds is_sound faults mid new) (File shift_name) (λ bytes. shift_of held.cell bytes ≡ Ok shift)
         → IsRunOnJournal disk held shift made
-        → IsAllowed (observed (files_told holds is_sound faults old new) disk) (run cell shift_name) (recorded_or_early made)
+        → IsAllowed seen (run cell shift_name) (recorded_or_early made)
     run_on_disk shift made read ran =
-        let seen : Observed = observed (files_told holds is_sound faults old new) disk in
-        Passed held shows
-        (Passed shift
-        (shown_before holds is_sound faults old mid new same (File shift_name) (λ bytes. shift_of held.cell bytes ≡ Ok shift) read)
-        (from_journal seen held shift made ran))
+        both_passed holds is_sound faults disk (cell_file cell) (λ known. shift_file known.cell shift_name) (journal seen)
+        old mid new held shows same shift (recorded_or_early made) read
+        (from_journal seen held shift made ran)

@@ -15,7 +15,7 @@ use Rattle.durable_cell.specs.Asked.{unsure_grant}
 use Rattle.durable_cell.specs.DurableState.{DurableState}
 use Rattle.cell_lock.specs.declared.board.Opening.{Opening}
 use Rattle.cell_lock.specs.Openings.{Outside, opening_of}
-use Rattle.cell_lock.specs.Standing.{AreAll, ArePassesNumbered, LockId, Standing, new_pass, new_passes}
+use Rattle.cell_lock.specs.Passes.{AreAll, ArePassesNumbered, LockId, PassState, new_pass, new_passes}
 use Rattle.solo_rounds.specs.Underway.{IsWithinScript, progress_at}
 use Rattle.cell_base.specs.Starts.{AreFirstSteps}
 use Rattle.run_command.specs.JournalRuns.{HasGone, IsAfterSessions}
@@ -35,17 +35,17 @@ module _ {D : Type 0} (moment : D → ℕ) (lock : LockId D) where
   count_is first (suc count) = omega (arith, count_is (first + 1) count)
 
   -- new passes are all of a lock
-  pub all_new : (passes : List (Standing D)) → passes ≡ new_passes moment lock 1 lock.opening.passes → AreAll lock passes
+  pub all_new : (passes : List (PassState D)) → passes ≡ new_passes moment lock 1 lock.opening.passes → AreAll lock passes
   all_new passes is = subst (AreAll lock) (sym is)
       (record { numbered = numbered 1 lock.opening.passes; count = count_is 1 lock.opening.passes })
 
   -- none of which has an entry of its own
-  mine_none : (first count k : ℕ) (d : Standing D) → k < count → (get_or (new_passes moment lock first count) k d).mine ≡ []
+  mine_none : (first count k : ℕ) (d : PassState D) → k < count → (get_or (new_passes moment lock first count) k d).mine ≡ []
   mine_none first zero k d within = absurd (omega (arith, within))
   mine_none first (suc count) zero d within = refl
   mine_none first (suc count) (suc k) d within = mine_none (first + 1) count k d (omega (arith, within))
 
-  number_at : (first k : ℕ) (passes : List (Standing D)) (d : Standing D) → k < length passes → ArePassesNumbered lock first passes
+  number_at : (first k : ℕ) (passes : List (PassState D)) (d : PassState D) → k < length passes → ArePassesNumbered lock first passes
       → (get_or passes k d).number ≡ first + k
   number_at first k [] d within are = absurd (omega (arith, within))
   number_at first zero (pass ∷ passes) d within are = are.1 ∙ omega arith
@@ -68,23 +68,23 @@ module _ (shift : Shift) (opening : List Grant) (progress : List Progress) (begu
 -- ---- after the sessions
 
 -- what closing a lock tells of the durable cell
-pub record IsClosed {D : Type 0} (lock : LockId D) (passes : List (Standing D)) (durable : DurableState D) : Type 0 where
+pub record IsClosed {D : Type 0} (lock : LockId D) (passes : List (PassState D)) (durable : DurableState D) : Type 0 where
   pub opening : opening_of durable lock.opening.shift lock.opening.passes ≡ lock.opening
   pub added : durable.added ≡ grants lock.opening.shift durable.history
   pub unsure : durable.unsure ≡ unsure_grant lock.opening.shift durable.history
-  pub seen : All (λ (pass : Standing D). IsPrefix pass.seen durable.history) passes
-  pub mine : All (λ (pass : Standing D). entries_of pass.number durable.history ≡ pass.mine) passes
+  pub seen : All (λ (pass : PassState D). IsPrefix pass.seen durable.history) passes
+  pub mine : All (λ (pass : PassState D). entries_of pass.number durable.history ≡ pass.mine) passes
   pub others : (number : ℕ) → Outside lock.opening number → entries_of number durable.history ≡ []
 
-module _ {D : Type 0} (moment : D → ℕ) (shift : Shift) (lock : LockId D) (progress : List Progress) (old new : List (Standing D))
+module _ {D : Type 0} (moment : D → ℕ) (shift : Shift) (lock : LockId D) (progress : List Progress) (old new : List (PassState D))
     (durable : DurableState D)
     (limit : lock.opening.limit ≡ steps_of shift * shift.patience) (number : lock.opening.shift ≡ shift.number)
     (old_are : old ≡ new_passes moment lock 1 lock.opening.passes) (sessions : lock.opening.passes ≡ length shift.scripts)
     (begun : AreBegun shift lock.opening.grants progress) (new_are : AreAll lock new)
-    (run : (k : ℕ) (d : Standing D) → k < length old
+    (run : (k : ℕ) (d : PassState D) → k < length old
     → HasRun (script_of shift (k + 1)) shift.patience (progress_at progress k) (get_or old k d) (get_or new k d))
     (closed : IsClosed lock new durable) where
-  abbrev other : Standing D
+  abbrev other : PassState D
   other = new_pass moment lock 0
 
   old_count : length old ≡ length shift.scripts
@@ -92,7 +92,7 @@ module _ {D : Type 0} (moment : D → ℕ) (shift : Shift) (lock : LockId D) (pr
 
   old_mine : (k : ℕ) → k < length shift.scripts → (get_or old k other).mine ≡ []
   old_mine k within =
-      ap (λ (passes : List (Standing D)). (get_or passes k other).mine) old_are
+      ap (λ (passes : List (PassState D)). (get_or passes k other).mine) old_are
       ∙ mine_none moment lock 1 lock.opening.passes k other (omega (arith, within, sessions))
 
   old_lock : (first count k : ℕ) → k < count → (get_or (new_passes moment lock first count) k other).lock ≡ lock
@@ -101,7 +101,7 @@ module _ {D : Type 0} (moment : D → ℕ) (shift : Shift) (lock : LockId D) (pr
   old_lock first (suc count) (suc k) within = old_lock (first + 1) count k (omega (arith, within))
 
   module _ (k : ℕ) (within : k < length shift.scripts) where
-    abbrev pass : Standing D
+    abbrev pass : PassState D
     pass = get_or new k other
 
     ran : HasRun (script_of shift (k + 1)) shift.patience (progress_at progress k) (get_or old k other) pass
@@ -113,7 +113,7 @@ module _ {D : Type 0} (moment : D → ℕ) (shift : Shift) (lock : LockId D) (pr
     own : entries_of (k + 1) durable.history ≡ ran.entries
     own =
         ap (λ (n : ℕ). entries_of n durable.history) (omega (arith, number_at moment lock 1 k new other inside new_are.numbered))
-        ∙ All-get_or (λ (p : Standing D). entries_of p.number durable.history ≡ p.mine) new k other inside closed.mine
+        ∙ All-get_or (λ (p : PassState D). entries_of p.number durable.history ≡ p.mine) new k other inside closed.mine
         ∙ ran.mine ∙ ap (λ (es : List Entry). es ++ ran.entries) (old_mine k within)
 
     from : progress_at progress k ≡ begin_at (first_step shift (k + 1) lock.opening.grants)
@@ -121,7 +121,7 @@ module _ {D : Type 0} (moment : D → ℕ) (shift : Shift) (lock : LockId D) (pr
 
     pass_limit : (get_or old k other).lock.opening.limit ≡ steps_of shift * shift.patience
     pass_limit =
-        ap (λ (passes : List (Standing D)). (get_or passes k other).lock.opening.limit) old_are
+        ap (λ (passes : List (PassState D)). (get_or passes k other).lock.opening.limit) old_are
         ∙ ap (λ (l : LockId D). l.opening.limit) (old_lock 1 lock.opening.passes k (omega (arith, within, sessions))) ∙ limit
 
     abbrev Goes : (Progress → List Entry → Type 0) → Type 0
@@ -135,7 +135,7 @@ module _ {D : Type 0} (moment : D → ℕ) (shift : Shift) (lock : LockId D) (pr
     gone = record {
       trace = goes (IsTrace (script_of shift (k + 1)) shift.patience) ran.trace;
       seen = pass.seen;
-      begins = All-get_or (λ (p : Standing D). IsPrefix p.seen durable.history) new k other inside closed.seen;
+      begins = All-get_or (λ (p : PassState D). IsPrefix p.seen durable.history) new k other inside closed.seen;
       ended = by_end ran.ends;
     }
       where

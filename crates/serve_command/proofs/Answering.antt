@@ -14,7 +14,7 @@ use Rattle.cell_base.specs.declared.requests.Told.TheVariants.{Answered}
 use Rattle.cell_base.specs.declared.shifts.Entry.{Entry}
 use Rattle.cell_base.specs.declared.shifts.Grant.{Grant}
 use Rattle.cell_base.specs.Fits.{CellFits, RequestFits}
-use Rattle.cell_base.specs.Histories.{after_requests, is_granted, replay, requests_of}
+use Rattle.cell_base.specs.Histories.{is_granted, replay}
 use Rattle.cell_base.specs.Outcomes.{reply_to, state_after}
 use Rattle.cell_base.specs.Policy.{IsAdmitted}
 use Rattle.cell_texts.proofs.Fitting.{entries_fit}
@@ -28,6 +28,7 @@ use Rattle.serve_command.specs.declared.asks.Ask.TheVariants.{Step}
 use Rattle.serve_command.specs.declared.command.TheConstants.{MAX_SERVED}
 use Rattle.serve_command.specs.declared.server.FirstGrant.{FirstGrant}
 use Rattle.serve_command.specs.declared.server.Server.{Server}
+use Rattle.durable_cell.proofs.Replaying.{after_more}
 
 -- ---- entries that fit
 
@@ -39,14 +40,6 @@ answered_fits cell fits parts admitted session request fit reply is =
     let Fits : Entry → Type 0 = λ e. RequestFits cell e.request in
     All-head (EntryFits cell) entry []
     (entries_fit cell fits parts (entry ∷ []) admitted (sym is, tt) (All-cons Fits entry [] fit (All-nil Fits)))
-
--- ---- replayed grants
-
-pub replayed-push : (cell : Cell) (parts : List Part) (grants : List Grant) (grant : Grant)
-    → after_requests cell parts (requests_of (grants ++ grant ∷ []))
-    ≡ state_after cell (after_requests cell parts (requests_of grants)) grant.request
-replayed-push cell parts [] grant = refl
-replayed-push cell parts (first ∷ grants) grant = replayed-push cell (state_after cell parts first.request) grants grant
 
 first_same : (first : Option FirstGrant) (at : ℕ) (line : List ℕ) → first_after first at line [] ≡ first
 first_same None at line = refl
@@ -146,7 +139,7 @@ module _ {D : Type 0} (old new : Server D) (session : ℕ) (request : Request) (
         ap (λ (b : Bool). cond b (grant ∷ []) []) (ap (λ (ps : List Part). is_granted (reply_to cell ps request)) (sym at.parts) ∙ here) in
         let stands : StandsAt (grants ++ grant ∷ []) new = record {
           parts = ap (λ (l : LiveState D). l.parts) all ∙ ap (λ (ps : List Part). state_after cell ps request) at.parts
-              ∙ sym (replayed-push cell [] grants grant)
+              ∙ sym (after_more cell [] grants grant)
               ∙ ap (λ (c : Cell). replay c (grants ++ grant ∷ [])) (sym (ap (λ (l : LiveState D). l.cell) all));
           counts = subst (HasCounts (grants ++ grant ∷ [])) (sym (ap (λ (s : Server D). s.counts) is))
               (counted.counts grants few at.counts);

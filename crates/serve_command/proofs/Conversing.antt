@@ -29,7 +29,7 @@ use Rattle.cell_walks.specs.declared.early_end.EarlyEnd.TheVariants.{NotRead}
 use Rattle.cell_walks.specs.declared.status.Status.{Status}
 use Rattle.cell_walks.specs.declared.status.Status.TheVariants.{Done, DeviceFault, JournalRefused, ReadFault, SinkFault}
 use Rattle.serve_command.specs.Answers.{added_by, answers, halted_line, since}
-use Rattle.serve_command.specs.Asks.{ask_of, asks_of}
+use Rattle.serve_command.specs.Asks.{ask_of, asks_in}
 use Rattle.serve_command.specs.Conversing.{IsConversing, IsLeftWith, IsServedAfter, fresh_lines}
 use Rattle.serve_command.specs.Rounds.{StandsAfter, IsLastRound, IsRound, Moves}
 use Rattle.serve_command.specs.Serve.{FailedDevice, FailedSink, FullJournal, InputEnded, InputLost}
@@ -109,14 +109,14 @@ module _ (cell : Cell) (opening : List Grant) (asked group : List Ask) where
 
 -- lines that were given, and those that are ahead
 given_asks : (cell : Cell) (text : List ℕ) (given : List (List ℕ)) (lines : LinesState) (reads : AreLinesSoFar text given lines)
-    → asks_of cell text ≡ map (ask_of cell) given ++ map (ask_of cell) (lines_after reads.begun (lines.ahead ++ []))
+    → asks_in cell text ≡ map (ask_of cell) given ++ map (ask_of cell) (lines_after reads.begun (lines.ahead ++ []))
 given_asks cell text given lines reads =
-    ap (asks_of cell) (sym (append-nil text)) ∙ ap (map (ask_of cell)) (reads.goes_on [])
+    ap (asks_in cell) (sym (append-nil text)) ∙ ap (map (ask_of cell)) (reads.goes_on [])
     ∙ map-append (ask_of cell) given (lines_after reads.begun (lines.ahead ++ []))
 
 -- none is ahead
 none_ahead : (cell : Cell) (text : List ℕ) (given : List (List ℕ)) (lines : LinesState) → AreLinesSoFar text given lines → lines.ahead ≡ []
-    → asks_of cell text ≡ map (ask_of cell) given
+    → asks_in cell text ≡ map (ask_of cell) given
 none_ahead cell text given lines reads spent =
     given_asks cell text given lines reads
     ∙ ap (λ (ahead : List ℕ). map (ask_of cell) given ++ map (ask_of cell) (lines_after reads.begun (ahead ++ []))) spent

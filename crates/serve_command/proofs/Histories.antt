@@ -20,7 +20,7 @@ use Rattle.serve_command.specs.Laws.{EachOnce, IsAskedStep, IsBlock, IsServedHis
 use Rattle.serve_command.specs.declared.asks.Ask.{Ask}
 use Rattle.serve_command.specs.declared.asks.Ask.TheVariants.{Step, Count, Why, Left, Nothing}
 use Rattle.cell_texts.specs.Blocks.{entry_line}
-use Rattle.serve_command.proofs.Answering.{replayed-push}
+use Rattle.durable_cell.proofs.Replaying.{after_more}
 use Rattle.serve_command.proofs.Counting.{count-push}
 
 module _ (cell : Cell) where
@@ -65,7 +65,7 @@ module _ (cell : Cell) where
     after_step : (behind : List Grant) (session : ℕ) (request : Request) (reply : Reply) → reply_after cell behind request ≡ reply
         → state_after cell (replay cell behind) request
         ≡ replay cell (behind ++ cond (is_granted reply) (session_grant session request ∷ []) [])
-    after_step behind session request Granted is = sym (replayed-push cell [] behind (session_grant session request))
+    after_step behind session request Granted is = sym (after_more cell [] behind (session_grant session request))
     after_step behind session request (Refused why) is =
         law (replay cell behind) request why is ∙ ap (replay cell) (sym (append-nil behind))
 

@@ -62,8 +62,8 @@ ask_of cell line =
     else Nothing
 
 -- what the whole lines of a text ask, in turn
-abbrev pub asks_of : Cell → List ℕ → List Ask
-asks_of cell text = map (ask_of cell) (whole_lines text)
+abbrev pub asks_in : Cell → List ℕ → List Ask
+asks_in cell text = map (ask_of cell) (whole_lines text)
 
 -- a step that is asked fits the cell
 abbrev pub AskFits : Cell → Ask → Type 0

@@ -19,7 +19,7 @@ use Rattle.cell_texts.specs.Tests.{cell_file}
 use Rattle.journal_texts.specs.Tests.{journal_line, to_add}
 use Rattle.serve_command.specs.Answers.{added_by, answers, halted_line, since}
 use Rattle.serve_command.specs.Serving.{IsJournalFull}
-use Rattle.serve_command.specs.Asks.{asks_of}
+use Rattle.serve_command.specs.Asks.{asks_in}
 use Rattle.serve_command.specs.declared.asks.Ask.{Ask}
 use Rattle.serve_command.specs.declared.command.TheConstants.{MAX_SERVED}
 
@@ -76,7 +76,7 @@ pub record IsServed (cell : Cell) (opening : List Grant) (input : SourceTold) (o
   pub came : Appends input.given input.given_after text
   pub asked : List Ask
   pub others : List Ask
-  pub split : asks_of cell text ≡ asked ++ others
+  pub split : asks_in cell text ≡ asked ++ others
   pub ends : EndsServing cell (opening ++ since cell opening asked) input (answered_lines cell opening asked) (since cell opening asked)
       others outcome
 

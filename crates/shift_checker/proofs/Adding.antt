@@ -18,7 +18,7 @@ use Rattle.record_text.specs.declared.stages.Stage.TheVariants.{Between, Entries
 use Rattle.record_text.specs.Progress.{closed}
 use Rattle.shift_checker.specs.declared.verdict.Why.{Why}
 use Rattle.shift_checker.specs.declared.verdict.Why.TheVariants as whys
-use Rattle.shift_checker.specs.Carrying.{Carried, unbegun, settled, carried_over, carried_lines}
+use Rattle.shift_checker.specs.Carrying.{Carried, unbegun, settled, after_blocks, carried_lines}
 use Rattle.shift_checker.specs.Judging.{fails_unless, indices, is_told_rightly, judge_entry, judge_entries}
 use Rattle.shift_checker.specs.Judging.{judge_left, judge_plan, judge_step, judge_tail}
 use Rattle.shift_checker.specs.Lines.{carried_in, judge_front, judged}
@@ -93,7 +93,7 @@ module _ (cell : Cell) (given : List Block) where
   before = carried_lines cell unbegun given
 
   abbrev pub at : Carried
-  at = carried_over cell unbegun given
+  at = after_blocks cell unbegun given
 
   -- the lines up to a block that is whole now
   pub judged_closed : (head : Head) (entries : List Entry) (tail : Tail)

@@ -23,16 +23,16 @@ use Rattle.shift_checker.specs.declared.verdict.Why.{Why}
 use Rattle.shift_checker.specs.declared.verdict.Why.TheVariants as whys
 use Rattle.shift_checker.specs.declared.verdict.Verdict.{Verdict}
 use Rattle.shift_checker.specs.declared.verdict.Verdict.TheVariants.{Yes}
-use Rattle.shift_checker.specs.Carrying.{Carried, unbegun, halted_in, settled, carried_over}
+use Rattle.shift_checker.specs.Carrying.{Carried, unbegun, halted_in, settled, after_blocks}
 use Rattle.shift_checker.specs.Judging.{granted_requests, fails_unless, is_told_rightly, judge_left, verdict_from}
-use Rattle.shift_checker.specs.Lines.{IsAt, IsWalked, Walked, carried_by, carried_in, halted_by, judged}
+use Rattle.shift_checker.specs.Lines.{IsAtLine, IsWalked, Walked, carried_by, carried_in, halted_by, judged}
 use Rattle.shift_checker.proofs.Adding.{at, entry_line, judged_entry, judged_halt, judged_head, judged_left}
 use Rattle.shift_checker.proofs.Carrying.{last_of}
 use Rattle.shift_checker.proofs.Going.{verdict_more, number_more}
 use Rattle.shift_checker.proofs.BlockLines.{over_more}
 use Rattle.shift_checker.proofs.Joined.{after-append, granted-append}
 
--- the walk behind one line more
+-- the walk after one line more
 pub record Goes (n : ℕ) (cell : Cell) (next : Reading) (result : Verdict) (new : Walked) : Type 0 where
   pub verdict : result ≡ verdict_from 1 (judged cell next)
   pub walked : result ≡ Yes → IsWalked (n + 1) next new
@@ -41,7 +41,7 @@ module _ (w : Walked) (n : ℕ) (so_far : Reading) (is : IsWalked n so_far w) wh
   -- a line that adds its own to those before it
   pub goes : (next : Reading) (o : Option Why) (result : Verdict) (new : Walked) → new.cell ≡ w.cell
       → judged w.cell next ≡ judged w.cell so_far ++ o ∷ [] → result ≡ verdict_from n (o ∷ [])
-      → (result ≡ Yes → IsAt new.cell (n + 1) (carried_over new.cell unbegun next.0) next.1 new)
+      → (result ≡ Yes → IsAtLine new.cell (n + 1) (after_blocks new.cell unbegun next.0) next.1 new)
       → (result ≡ Yes → new.count + length (option_to_list new.halted) < n + 1)
       → (result ≡ Yes → IfSome new.halted (RequestFits new.cell))
       → Goes n w.cell next result new

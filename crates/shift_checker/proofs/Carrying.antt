@@ -24,7 +24,8 @@ use Rattle.shift_checker.specs.declared.verdict.Why.{Why}
 use Rattle.shift_checker.specs.declared.verdict.Why.TheVariants as whys
 use Rattle.shift_checker.specs.declared.verdict.Verdict.TheVariants.{Yes}
 use Rattle.shift_checker.specs.Carrying.{Carried, unbegun, halted_in, settled, carried_on, carried_lines}
-use Rattle.shift_checker.specs.Judging.{granted_requests, halted_requests, with_halted, counted, fails_unless, is_told_rightly, judge_head}
+use Rattle.shift_checker.specs.Judging.{granted_requests, halted_requests, with_halted, requests_before_next}
+use Rattle.shift_checker.specs.Judging.{fails_unless, is_told_rightly, judge_head}
 use Rattle.shift_checker.specs.Judging.{judge_entry, judge_entries, judge_tail, judge_block, judge_lines, verdict_from, judge}
 use Rattle.shift_checker.proofs.Replying.{same_when}
 use Rattle.shift_checker.proofs.Verdicts.{same_after, right_after, right_front, each_right}
@@ -157,9 +158,10 @@ module _ (cell : Cell) where
       let this : BlockIsWellFormed cell block = All-head (BlockIsWellFormed cell) block blocks formed in
       let last : Option Request = halted_in block.entries block.tail in
       let next : List Request = before ++ granted_requests block.entries in
-      let later : counted before block blocks ≡ with_halted next (option_to_list last) blocks =
+      let later : requests_before_next before block blocks ≡ with_halted next (option_to_list last) blocks =
       ap (λ more. with_halted next more blocks) (halted_is block.entries block.tail this.halts) in
-      same_after (judge_lines cell (counted before block blocks) blocks) (carried_lines cell (carried_on cell begun block) blocks) n lines
+      same_after (judge_lines cell (requests_before_next before block blocks) blocks)
+      (carried_lines cell (carried_on cell begun block) blocks) n lines
       (λ right.
       ap (λ requests. verdict_from (n + length lines) (judge_lines cell requests blocks)) later
       ∙ same_lines (n + length lines) blocks next last (All-tail (BlockIsWellFormed cell) block blocks formed)

@@ -19,7 +19,7 @@ use Rattle.record_text.specs.declared.record_lines.RecordLine.{RecordLine}
 use Rattle.record_text.specs.declared.record_lines.RecordLine.TheVariants as lines
 use Rattle.record_text.specs.declared.stages.Head.{Head}
 use Rattle.record_text.specs.declared.stages.Stage.TheVariants.{Between, Entries, Left, Steps}
-use Rattle.record_text.specs.Blocks.{HaltsRightly, BlockIsWellFormed, line_count, steps_of}
+use Rattle.record_text.specs.Blocks.{HaltsRightly, BlockIsWellFormed, line_count, plan_steps}
 use Rattle.record_text.specs.Progress.{Reading, closed}
 use Rattle.record_text.specs.Turns.{LineFits, Suits, turn_of, with_line}
 use Rattle.shift_checker.specs.declared.verdict.Why.{Why}
@@ -233,7 +233,7 @@ line_there_fits cell block at line formed is =
     (All-map (LineFits cell) lines.Entry block.entries formed.entries) (tail_fits block.tail formed.steps)))
     (sym is)
   where
-    tail_fits : (tail : Tail) → All (RequestFits cell) (steps_of tail) → All (LineFits cell) (tail_says tail)
+    tail_fits : (tail : Tail) → All (RequestFits cell) (plan_steps tail) → All (LineFits cell) (tail_says tail)
     tail_fits (tails.Planned left steps) fit =
         All-cons (LineFits cell) (lines.Left left) (lines.Plan (length steps) ∷ map lines.Step steps) tt
         (All-cons (LineFits cell) (lines.Plan (length steps)) (map lines.Step steps) tt (All-map (LineFits cell) lines.Step steps fit))

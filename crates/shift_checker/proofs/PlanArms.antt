@@ -25,7 +25,7 @@ use Rattle.shift_checker.specs.declared.verdict.Why.{Why}
 use Rattle.shift_checker.specs.declared.verdict.Why.TheVariants as whys
 use Rattle.shift_checker.specs.declared.verdict.Verdict.{Verdict}
 use Rattle.shift_checker.specs.declared.verdict.Verdict.TheVariants.{Yes, No}
-use Rattle.shift_checker.specs.Carrying.{Carried, unbegun, carried_over}
+use Rattle.shift_checker.specs.Carrying.{Carried, unbegun, after_blocks}
 use Rattle.shift_checker.specs.Judging.{fails_unless, judge_plan, verdict_from}
 use Rattle.shift_checker.specs.Lines.{IsWalked, Walked, carried_by, carried_in, judged}
 use Rattle.shift_checker.proofs.Adding.{at, judged_planned}
@@ -48,7 +48,7 @@ module _ (w : Walked) (n : ℕ) (given : List Block) where
 
   planned_at : (head : Head) (entries : List Entry) (left : ℕ) (steps : List Request)
       → carried_in cell here_at head entries
-      ≡ carried_over cell unbegun (closed given head entries (tails.Planned left steps)).0
+      ≡ after_blocks cell unbegun (closed given head entries (tails.Planned left steps)).0
   planned_at head entries left steps =
       sym
       (over_more cell unbegun given
@@ -71,7 +71,7 @@ module _ (w : Walked) (n : ℕ) (given : List Block) where
       (judged_planned cell given head entries left [])
       (says ∙ ap (λ (at : Carried). verdict_from n (fails_unless (length at.parts == 0) whys.Parts ∷ [])) is.here)
       (λ yes.
-      back yes ∙ is.here ∙ planned_at head entries left [] ∙ ap (λ (cell : Cell). carried_over cell unbegun next.0) (sym same))
+      back yes ∙ is.here ∙ planned_at head entries left [] ∙ ap (λ (cell : Cell). after_blocks cell unbegun next.0) (sym same))
       (λ yes.
       subst (λ (at : Carried). at.count + length (option_to_list at.halted) < n + 1) (sym (back yes)) (omega (arith, is.few)))
       (λ yes.
@@ -220,7 +220,7 @@ module _ (w : Walked) (n : ℕ) (given : List Block) where
             );
             here =
                 back yes ∙ is.here.before ∙ planned_at head entries left all
-                ∙ ap (λ (cell : Cell). carried_over cell unbegun next.0) (sym same);
+                ∙ ap (λ (cell : Cell). after_blocks cell unbegun next.0) (sym same);
             few =
                 subst (λ (at : Carried). at.count + length (option_to_list at.halted) < n + 1) (sym (back yes)) (omega (arith, is.few));
             fits =

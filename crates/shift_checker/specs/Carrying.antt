@@ -39,9 +39,9 @@ carried_on cell at block = record {
 }
 
 -- after blocks, the first of which begins there
-abbrev pub carried_over : Cell → Carried → List Block → Carried
-carried_over cell at [] = at
-carried_over cell at (block ∷ blocks) = carried_over cell (carried_on cell (settled cell at block.after) block) blocks
+abbrev pub after_blocks : Cell → Carried → List Block → Carried
+after_blocks cell at [] = at
+after_blocks cell at (block ∷ blocks) = after_blocks cell (carried_on cell (settled cell at block.after) block) blocks
 
 -- the lines of the blocks that are left
 abbrev pub carried_lines : Cell → Carried → List Block → List (Option Why)

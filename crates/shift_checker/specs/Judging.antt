@@ -45,8 +45,8 @@ abbrev pub with_halted : List Request → List Request → List Block → List R
 with_halted granted halted later = if names_one_more (length granted) later then granted ++ halted else granted
 
 -- the requests that count before the blocks after this one: those before it, its own that were granted, and the halted one where it counts
-abbrev pub counted : List Request → Block → List Block → List Request
-counted before block later = with_halted (before ++ granted_requests block.entries) (halted_requests block.entries) later
+abbrev pub requests_before_next : List Request → Block → List Block → List Request
+requests_before_next before block later = with_halted (before ++ granted_requests block.entries) (halted_requests block.entries) later
 
 -- ---- lines, each by itself: why it fails, if it does
 
@@ -113,7 +113,8 @@ judge_block cell parts n block =
 abbrev pub judge_lines : Cell → List Request → List Block → List (Option Why)
 judge_lines cell before [] = []
 judge_lines cell before (block ∷ blocks) =
-    judge_block cell (after_requests cell [] before) (length before) block ++ judge_lines cell (counted before block blocks) blocks
+    judge_block cell (after_requests cell [] before) (length before) block
+    ++ judge_lines cell (requests_before_next before block blocks) blocks
 
 -- ---- the verdict
 

@@ -14,7 +14,7 @@ use Rattle.record_text.specs.Progress.{Reading}
 use Rattle.shift_checker.specs.declared.verdict.Why.{Why}
 use Rattle.shift_checker.specs.declared.verdict.Why.TheVariants as whys
 use Rattle.shift_checker.specs.declared.verdict.Verdict.TheVariants.{Yes}
-use Rattle.shift_checker.specs.Carrying.{Carried, unbegun, settled, carried_over, carried_lines}
+use Rattle.shift_checker.specs.Carrying.{Carried, unbegun, settled, after_blocks, carried_lines}
 use Rattle.shift_checker.specs.Judging.{granted_requests, fails_unless, indices, judge_entries, judge_left, judge_step, verdict_from}
 
 -- ---- lines that were read
@@ -46,7 +46,7 @@ judge_open cell at (Steps head entries left missing steps) =
 -- all lines so far
 abbrev pub judged : Cell → Reading → List (Option Why)
 judged cell so_far =
-    carried_lines cell unbegun so_far.0 ++ judge_open cell (carried_over cell unbegun so_far.0) so_far.1
+    carried_lines cell unbegun so_far.0 ++ judge_open cell (after_blocks cell unbegun so_far.0) so_far.1
 
 -- ---- a walk over lines
 
@@ -83,16 +83,16 @@ pub record IsInPlan (cell : Cell) (at : Carried) (n more : ℕ) (steps : List Re
   pub plan : walk.plan + length steps + 1 ≡ n
 
 -- it is where the n-th line is the next one
-abbrev pub IsAt : Cell → ℕ → Carried → Stage → Walked → Type 0
-IsAt cell n at Between walk = carried_by walk ≡ at
-IsAt cell n at (Entries head entries) walk = carried_by walk ≡ carried_in cell at head entries
-IsAt cell n at (Left head entries left) walk = carried_by walk ≡ carried_in cell at head entries
-IsAt cell n at (Steps head entries left missing steps) walk = IsInPlan cell (carried_in cell at head entries) n missing steps walk
+abbrev pub IsAtLine : Cell → ℕ → Carried → Stage → Walked → Type 0
+IsAtLine cell n at Between walk = carried_by walk ≡ at
+IsAtLine cell n at (Entries head entries) walk = carried_by walk ≡ carried_in cell at head entries
+IsAtLine cell n at (Left head entries left) walk = carried_by walk ≡ carried_in cell at head entries
+IsAtLine cell n at (Steps head entries left missing steps) walk = IsInPlan cell (carried_in cell at head entries) n missing steps walk
 
 -- the lines before the n-th are right, and it stands after them
 pub record IsWalked (n : ℕ) (so_far : Reading) (walk : Walked) : Type 0 where
   pub right : verdict_from 1 (judged walk.cell so_far) ≡ Yes
   pub number : n ≡ 1 + length (judged walk.cell so_far)
-  pub here : IsAt walk.cell n (carried_over walk.cell unbegun so_far.0) so_far.1 walk
+  pub here : IsAtLine walk.cell n (after_blocks walk.cell unbegun so_far.0) so_far.1 walk
   pub few : walk.count + length (option_to_list walk.halted) < n
   pub fits : IfSome walk.halted (RequestFits walk.cell)

@@ -11,7 +11,7 @@ use Rattle.entry_codec.specs.declared.encoder.TheConstants.{ENTRY_SIZE}
 use Rattle.entry_codec.specs.Decoding.{grant_of}
 use Rattle.entry_codec.specs.Records.{record_of}
 use Rattle.entry_codec.specs.RecordLaws.{length-record_of, record_of-grant_of}
-use Rattle.move_journal.specs.Journals.{entries, IsRead}
+use Rattle.move_journal.specs.Journals.{entries, IsReadAgain}
 use Rattle.shift_recovery.specs.declared.faults.JournalFault.{JournalFault}
 use Rattle.shift_recovery.specs.declared.faults.JournalFault.TheVariants.{Damaged, Long}
 use Rattle.shift_recovery.specs.Readings.{gate_at, with_grant, after_gate, grants_from}
@@ -20,7 +20,7 @@ use Rattle.shift_recovery.proofs.Stepping.{closed_ends, one_more}
 
 -- open records of the grants, and after them a closed gate
 pub record Ends (bytes : List ℕ) (grants : List Grant) : Type 0 where
-  pub each : AllByRecursion IsRead grants
+  pub each : AllByRecursion IsReadAgain grants
   pub gate : ℕ
   pub closed : gate ≢ 1
   pub later : List ℕ
@@ -57,7 +57,7 @@ closed_there at (gate ∷ after) is =
     record { each = tt; gate = gate; closed = is_shut gate shut; later = after; split = refl }
 
 open_there : (at : ℕ) (bytes : List ℕ) (grant : Grant) → gate_at at bytes ≡ Ok (Some grant)
-    → (bytes ≡ (1 ∷ record_of grant) ++ drop ENTRY_SIZE bytes) × IsRead grant
+    → (bytes ≡ (1 ∷ record_of grant) ++ drop ENTRY_SIZE bytes) × IsReadAgain grant
 unfolding gate_at
 open_there at [] grant is = absurd (cc)
 open_there at (gate ∷ after) grant is =
@@ -104,7 +104,7 @@ walk_back total (suc room) at bytes grants is =
     ]
 
 -- and the other way round
-gate_of_record : (at : ℕ) (grant : Grant) (rest : List ℕ) → IsRead grant → 1 ≤ length rest
+gate_of_record : (at : ℕ) (grant : Grant) (rest : List ℕ) → IsReadAgain grant → 1 ≤ length rest
     → gate_at at ((1 ∷ record_of grant) ++ rest) ≡ Ok (Some grant)
 gate_of_record at grant rest is some =
     gate_open at 1 (record_of grant ++ rest) grant refl
@@ -119,7 +119,7 @@ gate_shut at gate after shut =
     stays : (gate : ℕ) → gate ≢ 1 → not (gate == 1) ≡ true
     stays gate shut = grind (arith, nat_tests)
 
-pub walk_there : (total room at : ℕ) (grants : List Grant) (gate : ℕ) (after : List ℕ) → AllByRecursion IsRead grants
+pub walk_there : (total room at : ℕ) (grants : List Grant) (gate : ℕ) (after : List ℕ) → AllByRecursion IsReadAgain grants
     → gate ≢ 1 → length grants ≤ room → grants_from total room at (entries grants ++ gate ∷ after) ≡ Ok grants
 walk_there total room at [] gate after each shut fits = closed_ends total room at (gate ∷ after) (gate_shut at gate after shut)
 walk_there total zero at (grant ∷ grants) gate after each shut fits = absurd (omega arith)

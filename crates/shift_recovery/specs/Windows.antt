@@ -6,14 +6,14 @@ use Rattle.shift_recovery.specs.declared.texts.Compared.TheVariants.{Differs, Sa
 use Rattle.shift_recovery.specs.Readings.{first_difference}
 
 -- the kept bytes from `used` on begin at an offset of a file of len bytes
-pub record IsAt (offset len at used : ℕ) (kept : List ℕ) : Type 0 where
+pub record BeginsAt (offset len at used : ℕ) (kept : List ℕ) : Type 0 where
   pub used_within : used ≤ length kept
   pub begins : offset + length kept ≡ at + used
   pub read_within : at ≤ len
 
 -- and they are the file's, where the disk tells it
-abbrev pub Shows : Option (List ℕ) → ℕ → ℕ → ℕ → ℕ → List ℕ → Type 0
-Shows told offset len at used kept = IfSome told (λ file. (length file ≡ len) × (drop offset file ≡ drop used kept ++ drop at file))
+abbrev pub AreOfFile : Option (List ℕ) → ℕ → ℕ → ℕ → ℕ → List ℕ → Type 0
+AreOfFile told offset len at used kept = IfSome told (λ file. (length file ≡ len) × (drop offset file ≡ drop used kept ++ drop at file))
 
 -- the first difference of the stored text, or a window after it
 abbrev pub IsTextEnd : {D : Type 0} → (D → Option (List ℕ)) → D → ℕ → ℕ → List ℕ → Compared → Type 0
@@ -21,5 +21,5 @@ IsTextEnd reads_as disk len size text (Differs at) =
     IfSome (reads_as disk) (λ file. first_difference 0 (take size (drop TEXT_AT file)) text ≡ Some at)
 IsTextEnd reads_as disk len size text (Same window) =
     IfSome (reads_as disk) (λ file. first_difference 0 (take size (drop TEXT_AT file)) text ≡ None)
-    × IsAt (TEXT_AT + size) len window.at window.used window.kept.items
-    × Shows (reads_as disk) (TEXT_AT + size) len window.at window.used window.kept.items
+    × BeginsAt (TEXT_AT + size) len window.at window.used window.kept.items
+    × AreOfFile (reads_as disk) (TEXT_AT + size) len window.at window.used window.kept.items

@@ -2,7 +2,7 @@
 ghost use Rattle.std.specs.Prelude.{◌≡◌, ◌+◌, [], IfOk, OnOk, IsErrOf};
 ghost use Rattle.outside_io.specs.Causes.{Rose};
 ghost use Rattle.shift_recovery.specs.Reads.{OnlyReads};
-ghost use Rattle.shift_recovery.specs.Windows.{IsAt, Shows};
+ghost use Rattle.shift_recovery.specs.Windows.{BeginsAt, AreOfFile};
 ghost use Rattle.shift_recovery.specs.Walked.{IsWalkFrom};
 
 use crate::faults::{JournalFault, Stop};
@@ -32,8 +32,8 @@ pub(crate) fn walk<D: Disk, T: Taker>(
     room: u64,
     taker: &mut T,
 ) -> Result<Walked, Stop>
-    requires window { IsAt first len window.at window.used window.kept.items }
-    requires shows { Shows (D.reads_as disk.old) first len window.at window.used window.kept.items }
+    requires window { BeginsAt first len window.at window.used window.kept.items }
+    requires shows { AreOfFile (D.reads_as disk.old) first len window.at window.used window.kept.items }
     requires none { T.took taker.old first [] taker.old }
     ensures reads { OnlyReads D.reads_as D.may_leave D.moment D.left_since disk.old disk.new }
     ensures walked { IfOk result (IsWalkFrom (D.reads_as disk.old) first room T.took taker.old taker.new) }

@@ -17,7 +17,7 @@ use Rattle.cell_base.specs.Outcomes.{reply_to, state_after}
 use Rattle.cell_base.specs.Histories.{entries_of}
 use Rattle.cell_base.specs.Scripts.{HasEnded, Progress, begin_at, progress_after, script_of}
 use Rattle.cell_base.specs.Rounds.{Precedes, turns_after, IsSession}
-use Rattle.solo_rounds.specs.Underway.{progress_at, HasEndedAt, IsAt, AreUnderway, IsUnderway}
+use Rattle.solo_rounds.specs.Underway.{progress_at, HasEndedAt, IsAtTurn, AreUnderway, IsUnderway}
 use Rattle.cell_base.proofs.Histories.{after-push, progress_through-push}
 use Rattle.solo_rounds.proofs.Traces.{answered, entries_of-push, entries_of-other, holds_halt-push, holds_halt-entries_of}
 use Rattle.solo_rounds.proofs.Traces.{IsTrace-push, IsLegal-push, turns_after-push}
@@ -48,7 +48,7 @@ module _ (shift : Shift) (entries : List Entry) (progress : List Progress) (turn
   counted = let asks = (underway.each done goes.within).asked going in grind (arith, nat_tests)
 
   -- the session that asked
-  here : IsAt shift more (slice_set progress done next) turn (done + 1) done
+  here : IsAtTurn shift more (slice_set progress done next) turn (done + 1) done
   here =
       let stood = underway.each done goes.within in
       let behind : entries_of (done + 1) more ≡ entries_of (done + 1) entries ++ answered (done + 1) request reply ∷ [] =
@@ -71,7 +71,7 @@ module _ (shift : Shift) (entries : List Entry) (progress : List Progress) (turn
       }
 
   -- the others
-  elsewhere : (k : ℕ) → k < length shift.scripts → (k ≡ done → ⊥) → IsAt shift more (slice_set progress done next) turn (done + 1) k
+  elsewhere : (k : ℕ) → k < length shift.scripts → (k ≡ done → ⊥) → IsAtTurn shift more (slice_set progress done next) turn (done + 1) k
   elsewhere k within other =
       let stood = underway.each k within in
       let behind : entries_of (k + 1) more ≡ entries_of (k + 1) entries =
@@ -88,7 +88,7 @@ module _ (shift : Shift) (entries : List Entry) (progress : List Progress) (turn
   asked_once = record {
     unhalted = holds_halt-push entries (done + 1) request reply underway.unhalted;
     each = λ k within. ⊎_elim
-        (λ same. subst (λ j. IsAt shift more (slice_set progress done next) turn (done + 1) j) (sym same) here)
+        (λ same. subst (λ j. IsAtTurn shift more (slice_set progress done next) turn (done + 1) j) (sym same) here)
         (elsewhere k within) (cases_eq k done);
     sessions = All-push (λ entry. IsSession shift entry.session) entries _ underway.sessions (omega arith, omega (arith, goes.within));
     rising = rw (turns_after-push [] entries entry, counted)

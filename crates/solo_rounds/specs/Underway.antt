@@ -74,7 +74,7 @@ pub record IsNextGoing (shift : Shift) (progress : List Progress) (next k : ℕ)
 
 -- the entries of session k + 1 bring it where it stands. In turn number `turn` the first `done` sessions have had their asks, so
 -- a session that goes on has asked once in each turn
-pub record IsAt (shift : Shift) (history : List Entry) (progress : List Progress) (turn done k : ℕ) : Type 0 where
+pub record IsAtTurn (shift : Shift) (history : List Entry) (progress : List Progress) (turn done k : ℕ) : Type 0 where
   pub trace : IsTrace (script_of shift (k + 1)) shift.patience (begin_at 0) (entries_of (k + 1) history)
   pub stands : progress_through (begin_at 0) (entries_of (k + 1) history) ≡ progress_at progress k
   pub asked : (HasEndedAt shift progress k → ⊥) → length (entries_of (k + 1) history) ≡ turn + (if nat_lt k done then 1 else 0)
@@ -82,7 +82,7 @@ pub record IsAt (shift : Shift) (history : List Entry) (progress : List Progress
 -- the entries of rounds that bring the sessions where they stand, of which the first `done` have had their asks of this turn
 pub record AreUnderway (shift : Shift) (entries : List Entry) (progress : List Progress) (turn done : ℕ) : Type 0 where
   pub unhalted : holds_halt entries ≡ false
-  pub each : (k : ℕ) → k < length shift.scripts → IsAt shift entries progress turn done k
+  pub each : (k : ℕ) → k < length shift.scripts → IsAtTurn shift entries progress turn done k
   pub sessions : All (λ entry. IsSession shift entry.session) entries
   pub rising : AllPairs Precedes (turns_after [] entries)
   pub earlier : All (λ t. Precedes t (record { turn = turn; session = done + 1 })) (turns_after [] entries)

@@ -26,7 +26,7 @@ use Rattle.standby_link.specs.declared.frame.Frame.{Frame}
 use Rattle.standby_link.specs.declared.take_fault.TakeFault.{TakeFault}
 use Rattle.standby_link.specs.declared.take_fault.TakeFault.TheVariants.{Halted, NotAFrame, Conflict, NoFit, NotGranted, Full, Device}
 use Rattle.standby_link.specs.Deliveries.{AreFramesTaken, IsFrameTaken, delivered, delivered_all}
-use Rattle.standby_link.specs.Followers.{IsKnown, IsFrameRefused}
+use Rattle.standby_link.specs.Followers.{IsFrameKnown, IsFrameRefused}
 use Rattle.standby_link.specs.Frames.{frame_in, framed}
 use Rattle.standby_link.proofs.Fed.{fed_law}
 use Rattle.standby_commands.specs.Follow.{Followed, EndsFollowing, HaltedAt, RefusedAt, follow}
@@ -81,7 +81,7 @@ same_frame : (bytes : List ℕ) (a b : Frame) → frame_in bytes ≡ Some a → 
 same_frame bytes a b one other = let both : Some a ≡ Some b = sym one ∙ other in cc
 
 -- a frame that is known is not the next one
-not_next : (grants : List Grant) (bytes : List ℕ) (grant : Grant) → IsKnown grants bytes
+not_next : (grants : List Grant) (bytes : List ℕ) (grant : Grant) → IsFrameKnown grants bytes
     → frame_in bytes ≡ Some (framed (length grants) grant) → ⊥
 not_next grants bytes grant (frame, is, place) next =
     let index : frame.index ≡ length grants = ap (λ (f : Frame). f.index) (same_frame bytes frame (framed (length grants) grant) is next) in

@@ -11,13 +11,13 @@ use Rattle.durable_cell.specs.declared.replays.TheConstants.{MAX_ROOM}
 use Rattle.cell_walks.specs.Allowed.{AllowsFrom, ByMemory, IsEndedAt, JournalOpened, NotOpened}
 use Rattle.cell_walks.specs.Allowed.{OpeningStarved, Opened, Passed, Stopped, Unasked}
 use Rattle.cell_walks.specs.DiskTold.{DiskTold, IsOnlyRead, IsUntouched, disk_told}
-use Rattle.cell_walks.specs.Observed.{File, Observed, Shows, files_told, observed}
+use Rattle.cell_walks.specs.Observed.{File, Observed, HoldsOfBytes, files_told, observed}
 use Rattle.cell_walks.specs.Outcomes.{Cut, IsDelivered, Whole}
-use Rattle.cell_walks.specs.Walks.{Opens, Tests, Walk}
+use Rattle.cell_walks.specs.Walks.{Opens, Walk}
 use Rattle.cell_walks.specs.declared.early_end.EarlyEnd.{EarlyEnd}
 use Rattle.cell_walks.specs.declared.early_end.EarlyEnd.TheVariants.{WantOfMemory}
 use Rattle.cell_walks.specs.declared.status.Status.{Status}
-use Rattle.cell_walks.proofs.Steps.{ended_after, ended_at, shown_before}
+use Rattle.cell_walks.proofs.TwoTests.{both_passed, first_ended, second_ended}
 use Rattle.cell_texts.specs.Tests.{KnownCell, cell_file, cell_reads}
 use Rattle.journal_texts.specs.Tests.{to_add}
 use Rattle.standby_commands.specs.Follow.{follow, stands_by}
@@ -40,10 +40,6 @@ followed_opened {D} reads_as may_leave moment left_since faults held frames disk
     JournalOpened durable.opening (subst (λ (d : DurableState D). AreDue d.cell durable.opening) is due, exact)
     (subst (λ (d : DurableState D). HasFollowedOn (disk_told reads_as may_leave moment left_since faults d.entry new) d.cell d.text
     durable.opening frames made) is has)
-
--- a disk that was not touched was only read
-pub only_untouched : (disk : DiskTold) → IsUntouched disk → IsOnlyRead disk
-only_untouched disk still = record { reads = still.reads; leaves = still.leaves.0; any_moment = still.any_moment }
 
 -- there is no memory for the answers
 pub starved : (disk : DiskTold) (held : KnownCell) (frames : List (List ℕ)) → IsOnlyRead disk
@@ -72,9 +68,6 @@ module _ (seen : Observed) (held : KnownCell) (frames : List (List ℕ)) where
 abbrev after_frames : KnownCell → List (List ℕ) → Walk
 after_frames held list = Opens (to_add held MAX_ROOM) (stands_by held list)
 
-abbrev after_cell : List ℕ → KnownCell → Walk
-after_cell frames held = Tests (frames_file frames) (after_frames held)
-
 module _ {F : Type 0} (holds : F → Option Names) (is_sound : F → Type 0) (faults : F → ℕ) (disk : DiskTold) (cell frames : List ℕ) where
   -- the cell was not read
   pub follow_unread : (old new : F) (end : EarlyEnd) → IsUntouched disk
@@ -83,11 +76,11 @@ module _ {F : Type 0} (holds : F → Option Names) (is_sound : F → Type 0) (fa
   follow_unread old new end still ended = (
     [],
     [],
-    ended_at (observed (files_told holds is_sound faults old new) disk) Unasked (cell_file cell) (after_cell frames) end ended still,
+    first_ended holds is_sound faults disk (cell_file cell) (λ held. frames_file frames) after_frames old new end still ended,
   )
 
   module _ (old mid new : F) (held : KnownCell)
-      (shows : Shows (files_told holds is_sound faults old mid) (File cell) (λ bytes. cell_reads bytes (Ok held)))
+      (shows : HoldsOfBytes (files_told holds is_sound faults old mid) (File cell) (λ bytes. cell_reads bytes (Ok held)))
       (same : holds mid ≡ holds old) where
     abbrev seen : Observed
     seen = observed (files_told holds is_sound faults old new) disk
@@ -99,23 +92,21 @@ module _ {F : Type 0} (holds : F → Option Names) (is_sound : F → Type 0) (fa
     follow_without_frames end still kept stays ended = (
       [],
       [],
-      Passed held shows
-          (ended_at seen Unasked (frames_file frames) (after_frames held) end
-          (ended_after holds is_sound faults old mid new same kept stays (frames_file frames) end ended) still),
+      second_ended holds is_sound faults disk (cell_file cell) (λ known. frames_file frames) after_frames
+          old mid new held shows same end still kept stays ended,
     )
 
     -- both were; and the frames were taken, or the command ended before them
     pub follow_on_disk : (list : List (List ℕ))
-        → Shows (files_told holds is_sound faults mid new) (File frames) (λ bytes. frames_reads bytes (Ok list))
+        → HoldsOfBytes (files_told holds is_sound faults mid new) (File frames) (λ bytes. frames_reads bytes (Ok list))
         → (made : Result Followed EarlyEnd) → IsFollowedOnJournal disk held list made
         → IsFollowAllowed seen (follow cell frames) made
     follow_on_disk list read made has =
         let after = from_journal seen held list made has in (
           after.0,
           after.1,
-          Passed held shows
-              (Passed list (shown_before holds is_sound faults old mid new same (File frames) (λ bytes. frames_reads bytes (Ok list)) read)
-              after.2),
+          both_passed holds is_sound faults disk (cell_file cell) (λ known. frames_file frames) after_frames
+              old mid new held shows same list (follow_outcome made after.0 after.1) read after.2,
         )
 
 -- ---- what is delivered

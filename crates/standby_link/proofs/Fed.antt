@@ -9,12 +9,12 @@ use Rattle.std.proofs.lemmas.List.Elements.{All-head, All-tail}
 use Rattle.std.proofs.lemmas.Option.{get_or_from_slice_get, slice_get_within}
 use mathlib.Core.List.{IsPrefix}
 use Rattle.cell_base.specs.declared.cells.Cell.{Cell}
-use Rattle.cell_base.specs.declared.requests.Reply.{Reply}
-use Rattle.cell_base.specs.declared.requests.Reply.TheVariants.{Granted, Refused}
+use Rattle.cell_base.specs.declared.requests.Reply.TheVariants.{Granted}
 use Rattle.cell_base.specs.declared.shifts.Grant.{Grant}
 use Rattle.cell_base.specs.Fits.{RequestFits}
-use Rattle.cell_base.specs.Histories.{all_granted, is_granted, is_replay, replay, requests_of}
+use Rattle.cell_base.specs.Histories.{all_granted, is_replay, replay, requests_of}
 use Rattle.cell_base.specs.Outcomes.{reply_to}
+use Rattle.policy_laws.proofs.Granting.{granted_alone}
 use Rattle.shift_recovery.specs.Replayed.{AreDue}
 use Rattle.standby_link.specs.declared.frame.Frame.{Frame}
 use Rattle.standby_link.specs.Deliveries.{AreFramesTaken, IsFrameTaken, delivered, delivered_all}
@@ -47,16 +47,12 @@ behind [] [] x is = absurd (let h : None ≡ Some x = is in cc)
 behind [] (y ∷ rest) x is = let same : y ≡ x = cc in (rest, ap (λ z. z ∷ rest) same)
 behind (y ∷ front) rest x is = behind front rest x is
 
-by_granted : (reply : Reply) → is_granted reply ≡ true → reply ≡ Granted
-by_granted Granted is = refl
-by_granted (Refused why) is = absurd (cc)
-
 module _ (cell : Cell) where
   -- the grant after a front is granted in its turn
   granted_later : (front : List Grant) (grant : Grant) → is_replay cell (front ++ grant ∷ []) ≡ true
       → reply_to cell (replay cell front) grant.request ≡ Granted
   granted_later front grant is =
-      by_granted (reply_to cell (replay cell front) grant.request)
+      granted_alone (reply_to cell (replay cell front) grant.request)
       (both _ _ (both _ _ (sym (granted-append cell [] (requests_of front) (grant.request ∷ []))
       ∙ ap (all_granted cell []) (sym (map-append (λ (g : Grant). g.request) front (grant ∷ []))) ∙ is)).1).0
 

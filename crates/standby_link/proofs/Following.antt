@@ -6,6 +6,7 @@ use Rattle.std.specs.Option.{option_map}
 use Rattle.std.proofs.lemmas.Bool.{eqb-true}
 use Rattle.std.proofs.lemmas.List.{map-append, length-append}
 use Rattle.std.proofs.lemmas.List.Elements.{All-append, All-cons, All-nil, All-contains}
+use Rattle.std.proofs.lemmas.Bool.{and_from}
 use Rattle.cell_base.specs.declared.cells.Cell.{Cell}
 use Rattle.cell_base.specs.declared.requests.Part.{Part}
 use Rattle.cell_base.specs.declared.requests.Request.{Request}
@@ -22,9 +23,6 @@ use Rattle.standby_link.specs.Following.{after_event, ArePossible, after_events,
 pub both : (a b : Bool) → (a && b) ≡ true → (a ≡ true) × (b ≡ true)
 both true b is = (refl, is)
 both false b is = absurd (let h : false ≡ true = is in cc)
-
-and : (a b : Bool) → a ≡ true → b ≡ true → (a && b) ≡ true
-and a b is_a is_b = subst (λ (x : Bool). (x && b) ≡ true) (sym is_a) is_b
 
 -- the element that stands at an index still stands there when the list grows
 grown-get : {X : Type 0} (xs : List X) (i : ℕ) (ys : List X) (x : X) → slice_get xs i ≡ Some x → slice_get (xs ++ ys) i ≡ Some x
@@ -103,7 +101,7 @@ module _ (cell : Cell) where
   one_granted grants grant granted next =
       ap (all_granted cell []) (map-append (λ (g : Grant). g.request) grants (grant ∷ []))
       ∙ granted-append [] (requests_of grants) (grant.request ∷ [])
-      ∙ and _ _ granted (and _ _ (ap is_granted next) refl)
+      ∙ and_from _ _ granted (and_from _ _ (ap is_granted next) refl)
 
   -- what every event keeps
   record Keeps (world : World) : Type 0 where

@@ -1,43 +1,24 @@
 -- What a follower keeps when it is opened, when a grant is appended, and when its writing fails.
 use Rattle.std.specs.Prelude.{Option, Some, None}
-use Rattle.std.specs.Option.{option_map}
-use Rattle.std.proofs.Common.{◌≡◌, ℕ, ◌+◌, ◌<◌, ◌≤◌, List, [], ◌∷◌, ◌++◌, length, map, refl, ◌∙◌, sym, ap, subst, arith, append_assoc}
+use Rattle.std.proofs.Common.{◌≡◌, ℕ, ◌+◌, ◌<◌, ◌≤◌, List, [], ◌∷◌, ◌++◌, length, refl, ◌∙◌, sym, ap, subst, arith, append_assoc}
 use Rattle.std.proofs.lemmas.List.{append-nil, length_push}
 use Rattle.cell_base.specs.declared.requests.Part.{Part}
 use Rattle.cell_base.specs.declared.requests.Reply.TheVariants.{Granted}
 use Rattle.cell_base.specs.declared.requests.Told.TheVariants.{Answered}
 use Rattle.cell_base.specs.declared.requests.Told.TheVariants as told
-use Rattle.cell_base.specs.declared.shifts.Entry.{Entry}
 use Rattle.cell_base.specs.declared.shifts.Grant.{Grant}
-use Rattle.cell_base.specs.Histories.{after, granted_entries, replay}
+use Rattle.cell_base.specs.Histories.{after, replay}
 use Rattle.cell_base.specs.Outcomes.{state_after}
 use Rattle.cell_base.specs.Shelves.{Shelved}
-use Rattle.durable_cell.specs.Asked.{entry, halted_at, halted_in, with_entry}
+use Rattle.durable_cell.specs.Asked.{entry, halted_at, with_entry}
 use Rattle.durable_cell.specs.DurableState.{DurableState, first_parts}
-use Rattle.durable_cell.specs.Kept.{KeepsHistory, asked_by, asked_in}
+use Rattle.durable_cell.specs.Kept.{KeepsHistory}
 use Rattle.cell_base.proofs.Histories.{after-push}
+use Rattle.durable_cell.proofs.Unasked.{none_added, none_unsure}
 use Rattle.standby_link.specs.Followers.{KeepsFollower, kept_in}
 use Rattle.standby_link.proofs.Histories.{halted_at-push, replay-push}
 
 -- ---- the opening
-
-nothing_mapped : {A B : Type 0} (f : A → B) (xs : List A) → map f xs ≡ [] → xs ≡ []
-nothing_mapped f [] is = refl
-nothing_mapped f (x ∷ xs) is = absurd (cc)
-
-none_mapped : {A B : Type 0} (f : A → B) (x : Option A) → option_map f x ≡ None → x ≡ None
-none_mapped f None is = refl
-none_mapped f (Some x) is = absurd (cc)
-
--- where nothing was decided, nothing was added
-pub none_added : {D : Type 0} (durable : DurableState D) → KeepsHistory durable → durable.history ≡ [] → durable.added ≡ []
-none_added durable keeps none =
-    nothing_mapped asked_by durable.added (keeps.added ∙ ap (λ (es : List Entry). map asked_in (granted_entries es)) none)
-
--- and no writing has failed
-pub none_unsure : {D : Type 0} (durable : DurableState D) → KeepsHistory durable → durable.history ≡ [] → durable.unsure ≡ None
-none_unsure durable keeps none =
-    none_mapped asked_by durable.unsure (keeps.unsure ∙ ap (λ (es : List Entry). option_map asked_in (halted_in es)) none)
 
 pub kept_at_first : {D : Type 0} (durable : DurableState D) → KeepsHistory durable → durable.history ≡ [] → kept_in durable
     ≡ durable.opening

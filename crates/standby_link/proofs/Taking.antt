@@ -29,7 +29,7 @@ use Rattle.standby_link.specs.declared.frame.Frame.{Frame}
 use Rattle.standby_link.specs.declared.take_fault.TakeFault.{TakeFault}
 use Rattle.standby_link.specs.declared.take_fault.TakeFault.TheVariants.{Halted, NotAFrame, Conflict, NoFit, NotGranted, Full, Device}
 use Rattle.standby_link.specs.Deliveries.{Delivers, LeavesDelivered, StandsForDelivered, StandsForKept, delivered}
-use Rattle.standby_link.specs.Followers.{FollowerState, HasNotHalted, IsAppended, IsHaltedAppend, IsKnown}
+use Rattle.standby_link.specs.Followers.{FollowerState, HasNotHalted, IsAppended, IsHaltedAppend, IsFrameKnown}
 use Rattle.standby_link.specs.Followers.{IsNext, Takes, kept, kept_in, with_grant, with_halt}
 use Rattle.standby_link.specs.Following.{received}
 use Rattle.standby_link.specs.Frames.{frame_in, framed}
@@ -42,7 +42,7 @@ pub of_frame : (grants : List Grant) (bytes : List ℕ) (frame : Frame) → fram
 of_frame grants bytes frame is = ap (λ (o : Option Frame). option_map_or (received grants) o grants) is
 
 -- a frame that is known changes no grants
-pub known_leaves : (grants : List Grant) (bytes : List ℕ) → IsKnown grants bytes → delivered grants bytes ≡ grants
+pub known_leaves : (grants : List Grant) (bytes : List ℕ) → IsFrameKnown grants bytes → delivered grants bytes ≡ grants
 known_leaves grants bytes (frame, is, place) =
     of_frame grants bytes frame is
     ∙ ap (λ (test : Bool). cond test (grants ++ frame.grant ∷ []) grants) (ne_eqb frame.index (length grants) (elim place [
@@ -223,7 +223,7 @@ module _ {D : Type 0} (reads_as : D → Option (List ℕ)) (may_leave : D → Li
 
 -- what is not refused is known, where it is not the next one
 pub known : (grants : List Grant) (bytes : List ℕ) (frame : Frame) → frame_in bytes ≡ Some frame → (frame.index ≡ length grants → ⊥)
-    → (slice_get grants frame.index ≡ Some frame.grant) ⊎ (length grants ≤ frame.index) → IsKnown grants bytes
+    → (slice_get grants frame.index ≡ Some frame.grant) ⊎ (length grants ≤ frame.index) → IsFrameKnown grants bytes
 known grants bytes frame is other (inl there) = (frame, is, inl there)
 known grants bytes frame is other (inr late) = (frame, is, inr (after_it late other))
   where

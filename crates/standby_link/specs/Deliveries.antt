@@ -7,7 +7,7 @@ use Rattle.outside_io.specs.Disk.{LeavesOnly}
 use Rattle.move_journal.specs.Disks.{Shows}
 use Rattle.move_journal.specs.Journals.{StandsFor}
 use Rattle.standby_link.specs.declared.take_fault.TakeFault.{TakeFault}
-use Rattle.standby_link.specs.Followers.{FollowerState, HasNotHalted, IsGrantedNext, IsKnown, kept}
+use Rattle.standby_link.specs.Followers.{FollowerState, HasNotHalted, IsGrantedNext, IsFrameKnown, kept}
 use Rattle.standby_link.specs.Following.{received}
 use Rattle.standby_link.specs.Frames.{frame_in}
 
@@ -26,7 +26,7 @@ acks_of grants (bytes ∷ frames) = length (delivered grants bytes) ∷ acks_of 
 
 -- the bytes are a frame that a standby with these grants takes
 abbrev pub IsFrameTaken : Cell → List Grant → List ℕ → Type 0
-IsFrameTaken cell grants bytes = IsKnown grants bytes ⊎ ((grant : Grant) × IsGrantedNext cell grants bytes grant)
+IsFrameTaken cell grants bytes = IsFrameKnown grants bytes ⊎ ((grant : Grant) × IsGrantedNext cell grants bytes grant)
 
 -- each of them is taken in its turn
 abbrev pub AreFramesTaken : Cell → List Grant → List (List ℕ) → Type 0

@@ -47,8 +47,8 @@ pub record IsGrantedNext (cell : Cell) (grants : List Grant) (bytes : List ℕ) 
   pub granted : reply_to cell (replay cell grants) grant.request ≡ Granted
 
 -- the bytes are the frame of a grant that stands among these at its index, or of one after the next
-abbrev pub IsKnown : List Grant → List ℕ → Type 0
-IsKnown grants bytes =
+abbrev pub IsFrameKnown : List Grant → List ℕ → Type 0
+IsFrameKnown grants bytes =
     (frame : Frame) × (frame_in bytes ≡ Some frame) × ((slice_get grants frame.index ≡ Some frame.grant) ⊎ (length grants < frame.index))
 
 -- why bytes are refused by a standby with these grants, whatever its room and its device
@@ -107,7 +107,8 @@ pub record IsOutOfRoom {D : Type 0} (old : FollowerState D) (bytes : List ℕ) (
 -- What is answered to a frame, by the first test that it fails. The answer to a frame that is taken is how many grants there then are.
 abbrev pub Takes : {D : Type 0} → FollowerState D → List ℕ → Result ℕ TakeFault → FollowerState D → Type 0
 Takes old bytes (Ok ack) new =
-    HasNotHalted old × HasNotHalted new × (ack ≡ length (kept new)) × (((new ≡ old) × IsKnown (kept old) bytes) ⊎ IsAppended old bytes new)
+    HasNotHalted old × HasNotHalted new × (ack ≡ length (kept new))
+    × (((new ≡ old) × IsFrameKnown (kept old) bytes) ⊎ IsAppended old bytes new)
 Takes old bytes (Err (Halted at)) new = (new ≡ old) × (halted_at old.durable.history ≡ Some at)
 Takes old bytes (Err (Full len)) new = (new ≡ old) × HasNotHalted old × IsOutOfRoom old bytes len
 Takes old bytes (Err Device) new = HasNotHalted old × IsHaltedAppend old bytes new

@@ -22,7 +22,7 @@ use Rattle.record_text.proofs.Pieces.{pieces_lines, pieces_some}
 use Rattle.record_text.proofs.Splitting.{IsLine, joined-pieces, joined-words}
 use Rattle.start_file.specs.declared.reading.TheConstants.{MAX_START_BYTES, MAX_START_LINES}
 use Rattle.record_text.specs.Reading.{placing_of}
-use Rattle.start_file.specs.Reading.{GivesStart, next_of, read_from}
+use Rattle.start_file.specs.Reading.{GivesStart, next_request, read_from}
 use Rattle.start_file.specs.StartFiles.{IsBadStartLine, IsPlacing, IsStartOf, StartRefusedAt, place_line, start_reads, start_text}
 use Rattle.start_file.proofs.Lines.{first_piece, next_is, read_all, read_cons}
 use Rattle.start_file.proofs.Placing.{placing-sound}
@@ -66,7 +66,7 @@ module _ (cell : Cell) (fits : CellFits cell) where
           ∙ ap (λ (l : List ℕ). l ++ 10 ∷ join_with_byte 10 (next ∷ more)) same
           ∙ sym (append_assoc (line request) (10 ∷ []) (join_with_byte 10 (next ∷ more)))))
 
-      none : (room : Bool) → nat_lt (length before) MAX_START_LINES ≡ room → next_of cell before piece ≡ None
+      none : (room : Bool) → nat_lt (length before) MAX_START_LINES ≡ room → next_request cell before piece ≡ None
       none true is =
           ap (λ (b : Bool). cond b (placing_of cell (words piece)) None) is
           ∙ unread (placing_of cell (words piece)) refl (ltb-true (length before) MAX_START_LINES is)
@@ -95,7 +95,7 @@ module _ (cell : Cell) (fits : CellFits cell) where
   -- no line is read of the rest
   bad_line : (bytes : List ℕ) (found : List Request) (rest : List ℕ) → IsFront bytes found rest → 1 ≤ length rest
       → (piece : List ℕ) (others : List (List ℕ)) → pieces rest ≡ piece ∷ others
-      → (1 ≤ length others → next_of cell found piece ≡ None) → IsBadStartLine cell bytes (length found + 1)
+      → (1 ≤ length others → next_request cell found piece ≡ None) → IsBadStartLine cell bytes (length found + 1)
   bad_line bytes found rest front some piece others are unread = record {
     before = found;
     rest = rest;
@@ -111,7 +111,7 @@ module _ (cell : Cell) (fits : CellFits cell) where
         ∙ ap pieces (sym is) ∙ are in
         let same : line request ≡ piece = cc in
         let rest_is : behind.0 ∷ behind.1 ≡ others = cc in
-        let none : Some request ≡ None = sym (next_is cell fits found request placing room) ∙ ap (next_of cell found) same
+        let none : Some request ≡ None = sym (next_is cell fits found request placing room) ∙ ap (next_request cell found) same
         ∙ unread (omega (arith, ap length rest_is)) in
         absurd cc;
   }
@@ -153,7 +153,7 @@ module _ (cell : Cell) (fits : CellFits cell) where
           at_least [] none is = absurd (true≢false none)
           at_least (x ∷ xs) some is = omega (arith, ap length is)
   tells bytes found rest (piece ∷ next ∷ more) are front =
-      by_next (next_of cell found piece) refl
+      by_next (next_request cell found piece) refl
       (λ request. tells bytes (found ++ request ∷ []) (join_with_byte 10 (next ∷ more)) (next ∷ more) behind)
     where
       text : rest ≡ piece ++ 10 ∷ join_with_byte 10 (next ∷ more)
@@ -175,7 +175,7 @@ module _ (cell : Cell) (fits : CellFits cell) where
       room_of true o request is = (refl, is)
       room_of false o request is = absurd cc
 
-      by_next : (o : Option Request) → next_of cell found piece ≡ o
+      by_next : (o : Option Request) → next_request cell found piece ≡ o
           → ((request : Request) → IsFront bytes (found ++ request ∷ []) (join_with_byte 10 (next ∷ more))
           → Tells bytes (read_from cell (found ++ request ∷ []) (next ∷ more)))
           → Tells bytes (option_map_or (λ (request : Request). read_from cell (found ++ request ∷ []) (next ∷ more)) o

@@ -14,13 +14,13 @@ use Rattle.record_text.specs.BadLines.{pieces}
 use Rattle.record_text.proofs.Pieces.{pieces_some}
 use Rattle.record_text.proofs.Splitting.{IsLine, pieces-behind}
 use Rattle.start_file.specs.declared.reading.TheConstants.{MAX_START_LINES}
-use Rattle.start_file.specs.Reading.{next_of, read_from}
+use Rattle.start_file.specs.Reading.{next_request, read_from}
 use Rattle.start_file.specs.StartFiles.{IsPlacing, place_line, start_text}
 use Rattle.start_file.proofs.Placing.{is_line, placing-complete, words_again}
 
 module _ (cell : Cell) (found : List Request) where
   -- what a line and others after it are read as
-  pub read_cons : (line rest : List ℕ) (others : List (List ℕ)) (o : Option Request) → next_of cell found line ≡ o
+  pub read_cons : (line rest : List ℕ) (others : List (List ℕ)) (o : Option Request) → next_request cell found line ≡ o
       → read_from cell found (line ∷ rest ∷ others)
       ≡ option_map_or (λ (request : Request). read_from cell (found ++ request ∷ []) (rest ∷ others)) o (Err (length found + 1))
   read_cons line rest others o is =
@@ -28,7 +28,7 @@ module _ (cell : Cell) (found : List Request) where
       (Err (length found + 1))) is
 
   -- the same of the pieces of a text
-  pub read_line : (text line rest : List ℕ) (o : Option Request) → pieces text ≡ line ∷ pieces rest → next_of cell found line ≡ o
+  pub read_line : (text line rest : List ℕ) (o : Option Request) → pieces text ≡ line ∷ pieces rest → next_request cell found line ≡ o
       → read_from cell found (pieces text)
       ≡ option_map_or (λ (request : Request). read_from cell (found ++ request ∷ []) (pieces rest)) o (Err (length found + 1))
   read_line text line rest o are is =
@@ -48,7 +48,7 @@ module _ (cell : Cell) (fits : CellFits cell) where
 
   -- it is read as the request, where there may be one more
   pub next_is : (found : List Request) (request : Request) → IsPlacing cell request → length found < MAX_START_LINES
-      → next_of cell found (joined (request_words cell request)) ≡ Some request
+      → next_request cell found (joined (request_words cell request)) ≡ Some request
   next_is found request placing room =
       rw (lt-ltb (length found) MAX_START_LINES room, words_again cell fits request placing) (placing-complete cell fits request placing)
 

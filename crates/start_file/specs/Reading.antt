@@ -10,15 +10,15 @@ use Rattle.record_text.specs.declared.record.RecordFault.TheVariants.{Bad, Memor
 use Rattle.start_file.specs.declared.reading.TheConstants.{MAX_START_LINES}
 
 -- the same of a line that comes after those of so many requests
-abbrev pub next_of : Cell → List Request → List ℕ → Option Request
-next_of cell found line = if nat_lt (length found) MAX_START_LINES then placing_of cell (words line) else None
+abbrev pub next_request : Cell → List Request → List ℕ → Option Request
+next_request cell found line = if nat_lt (length found) MAX_START_LINES then placing_of cell (words line) else None
 
 -- the requests of the pieces between newlines, after those that were found, or the number of the first bad line
 abbrev pub read_from : Cell → List Request → List (List ℕ) → Result (List Request) ℕ
 read_from cell found [] = Err (length found + 1)
 read_from cell found (rest ∷ []) = if length rest == 0 then Ok found else Err (length found + 1)
 read_from cell found (line ∷ next ∷ more) =
-    option_map_or (λ request. read_from cell (found ++ request ∷ []) (next ∷ more)) (next_of cell found line) (Err (length found + 1))
+    option_map_or (λ request. read_from cell (found ++ request ∷ []) (next ∷ more)) (next_request cell found line) (Err (length found + 1))
 
 -- the result is what reading gives, unless memory is wanting
 abbrev pub GivesStart : Result (List Request) RecordFault → Result (List Request) ℕ → Type 0

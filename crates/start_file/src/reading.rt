@@ -3,7 +3,7 @@ ghost use Rattle.std.specs.Prelude.{◌≡◌, ◌<◌, ◌⊎◌, [], length, I
 ghost use Rattle.cell_base.specs.Fits.{CellFits};
 ghost use Rattle.cell_base.specs.declared.requests.Request.{Request};
 ghost use Rattle.record_text.specs.BadLines.{pieces};
-ghost use Rattle.start_file.specs.Reading.{GivesStart, next_of, read_from};
+ghost use Rattle.start_file.specs.Reading.{GivesStart, next_request, read_from};
 ghost use Rattle.start_file.specs.declared.reading.TheConstants.{MAX_START_LINES};
 ghost use Rattle.start_file.specs.StartFiles.{IsStartOf, StartRefusedAt};
 
@@ -46,7 +46,7 @@ fn read_lines(alloc: Global, cell: &Cell, bytes: &[u8]) -> Result<List<Request>,
             None if line.is_empty() => return Ok(found),
             None => return Err(RecordFault::Bad { line: number }),
         };
-        match next_of(cell, &found, line) {
+        match next_request(cell, &found, line) {
             Some(request) => found.try_push(request)?,
             None => return Err(RecordFault::Bad { line: number }),
         }
@@ -55,9 +55,9 @@ fn read_lines(alloc: Global, cell: &Cell, bytes: &[u8]) -> Result<List<Request>,
 }
 
 // The request of a line after those that were found.
-fn next_of(cell: &Cell, found: &List<Request>, line: &[u8]) -> Option<Request>
+fn next_request(cell: &Cell, found: &List<Request>, line: &[u8]) -> Option<Request>
     requires { CellFits cell.now }
-    ensures request { result ≡ next_of cell.now found.now line.now }
+    ensures request { result ≡ next_request cell.now found.now line.now }
     ensures room { IfSome result (λ request. length found.now < MAX_START_LINES) }
 {
     if found.len() >= MAX_START_LINES {

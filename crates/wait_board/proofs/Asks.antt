@@ -12,8 +12,8 @@ use Rattle.wait_board.specs.declared.entries.BoardTold.{BoardTold}
 use Rattle.wait_board.specs.declared.entries.BoardTold.TheVariants as told
 use Rattle.wait_board.specs.declared.entries.BoardEntry.{BoardEntry}
 use Rattle.policy_laws.specs.Decisions.{is_saturation}
-use Rattle.wait_board.specs.Boards.{OnBoard, entry, is_ready, is_answer, end_of_wait, decided, settled}
-use Rattle.wait_board.specs.Boards.{scan_within, noted, joined, told_on, board, asks_of, asked_in_turn}
+use Rattle.wait_board.specs.Boards.{OnBoard, entry, is_ready, is_answer, end_of_wait, after_wait, all_renewed}
+use Rattle.wait_board.specs.Boards.{scan_within, noted, with_waiter, told_on, board, asks_of, asked_in_turn}
 
 -- the end of a wait is no ask
 not_asked : (history : List BoardEntry) (session : ℕ) (request : Request) (r : Reply)
@@ -30,9 +30,10 @@ module _ (cell : Cell) where
   within-asks zero on = refl
   within-asks (suc n) on =
       elim (find (is_ready cell on.parts) on.waiters) as (λ o.
-      asks_of (option_map_or (λ waiter. scan_within n cell (decided cell on waiter)) o (settled cell on)).history ≡ asks_of on.history) [
+      asks_of (option_map_or (λ waiter. scan_within n cell (after_wait cell on waiter)) o (all_renewed cell on)).history
+      ≡ asks_of on.history) [
         | None ↦ refl
-        | Some w ↦ within-asks n (decided cell on w) ∙ not_asked on.history w.session w.request (reply_to cell on.parts w.request)
+        | Some w ↦ within-asks n (after_wait cell on w) ∙ not_asked on.history w.session w.request (reply_to cell on.parts w.request)
       ]
 
   -- an ask is one more of the asks
@@ -50,7 +51,7 @@ module _ (cell : Cell) where
           )
       by_reply (Refused why) =
           elim (is_saturation why) as (λ b. (t : BoardTold)
-          × (asks_of (cond b (joined on session request why) (noted on session request (told.Refused why))).history
+          × (asks_of (cond b (with_waiter on session request why) (noted on session request (told.Refused why))).history
           ≡ asks_of on.history ++ entry session request t ∷ [])) [
             | true ↦ (
               told.Waits why,

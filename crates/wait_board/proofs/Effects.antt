@@ -13,8 +13,8 @@ use Rattle.wait_board.specs.declared.waiter.Waiter.{Waiter}
 use Rattle.wait_board.specs.declared.entries.BoardTold.TheVariants as told
 use Rattle.wait_board.specs.declared.entries.BoardEntry.{BoardEntry}
 use Rattle.policy_laws.specs.Decisions.{is_saturation}
-use Rattle.wait_board.specs.Boards.{OnBoard, entry, is_ready, end_of_wait, decided, settled}
-use Rattle.wait_board.specs.Boards.{scan_within, noted, joined, told_on, board, takes_effect, parts_after}
+use Rattle.wait_board.specs.Boards.{OnBoard, entry, is_ready, end_of_wait, after_wait, all_renewed}
+use Rattle.wait_board.specs.Boards.{scan_within, noted, with_waiter, told_on, board, takes_effect, parts_after}
 
 module _ (cell : Cell) (law : RefusalLaw cell) (first : List Part) where
   -- the last entry of several
@@ -34,7 +34,7 @@ module _ (cell : Cell) (law : RefusalLaw cell) (first : List Part) where
       last first on.history e
       ∙ ap (λ (ps : List Part). cond (takes_effect e.told) (state_after cell ps e.request) ps) is
 
-  decided_after : (on : OnBoard) (w : Waiter) → StandsAfter on → StandsAfter (decided cell on w)
+  decided_after : (on : OnBoard) (w : Waiter) → StandsAfter on → StandsAfter (after_wait cell on w)
   decided_after on w is =
       more on (entry w.session w.request (end_of_wait (reply_to cell on.parts w.request))) is
       ∙ by_reply (reply_to cell on.parts w.request) refl
@@ -48,9 +48,9 @@ module _ (cell : Cell) (law : RefusalLaw cell) (first : List Part) where
   scan_after zero on is = is
   scan_after (suc n) on is =
       elim (find (is_ready cell on.parts) on.waiters) as (λ o.
-      StandsAfter (option_map_or (λ waiter. scan_within n cell (decided cell on waiter)) o (settled cell on))) [
+      StandsAfter (option_map_or (λ waiter. scan_within n cell (after_wait cell on waiter)) o (all_renewed cell on))) [
         | None ↦ is
-        | Some w ↦ scan_after n (decided cell on w) (decided_after on w is)
+        | Some w ↦ scan_after n (after_wait cell on w) (decided_after on w is)
       ]
 
   -- an ask keeps it
@@ -63,7 +63,7 @@ module _ (cell : Cell) (law : RefusalLaw cell) (first : List Part) where
           (more on (entry session request told.Granted) is)
       by_reply (Refused why) =
           let refused = noted on session request (told.Refused why) in
-          elim (is_saturation why) as (λ b. StandsAfter (cond b (joined on session request why) refused)) [
+          elim (is_saturation why) as (λ b. StandsAfter (cond b (with_waiter on session request why) refused)) [
             | true ↦ more on (entry session request (told.Waits why)) is
             | false ↦ more on (entry session request (told.Refused why)) is
           ]

@@ -16,7 +16,7 @@ use Rattle.policy_laws.proofs.Admission.{admission_law}
 use Rattle.wait_board.specs.declared.waiter.Waiter.{Waiter}
 use Rattle.wait_board.specs.declared.entries.BoardTold.TheVariants as told
 use Rattle.policy_laws.specs.Decisions.{is_saturation}
-use Rattle.wait_board.specs.Boards.{OnBoard, noted, joined, told_on, board, waiter_of}
+use Rattle.wait_board.specs.Boards.{OnBoard, noted, with_waiter, told_on, board, waiter_of}
 use Rattle.wait_board.specs.BoardState.{IsWaiting, IsOther, AreApart, KeepsBoard}
 use Rattle.wait_board.proofs.Scans.{full, Stands, scan-settled}
 use Rattle.wait_board.proofs.Asks.{asked_on}
@@ -42,7 +42,7 @@ module _ (cell : Cell) (fits : CellFits cell) (sessions : ℕ) (on : OnBoard) (s
   waiting_on = by_reply (reply_to cell on.parts request) refl
     where
       by_saturation : (why : Refusal) → reply_to cell on.parts request ≡ Refused why → (b : Bool) → is_saturation why ≡ b
-          → Waits (cond b (joined on session request why) (noted on session request (told.Refused why)))
+          → Waits (cond b (with_waiter on session request why) (noted on session request (told.Refused why)))
       by_saturation why is true sat =
           let new : Waiter = record { session = session; request = request; refusal = why } in (
             All-append (IsWaiting cell on.parts sessions) on.waiters (new ∷ []) waiting

@@ -18,8 +18,8 @@ use Rattle.policy_laws.proofs.Admission.{admission_law, saturation_law}
 use Rattle.policy_laws.proofs.Lists.{All-found}
 use Rattle.wait_board.specs.declared.waiter.Waiter.{Waiter}
 use Rattle.policy_laws.specs.Decisions.{is_saturation, is_saturated}
-use Rattle.wait_board.specs.Boards.{OnBoard, is_ready, without_first, decided}
-use Rattle.wait_board.specs.Boards.{refusal_in, renewed, settled, scan_within, scan}
+use Rattle.wait_board.specs.Boards.{OnBoard, is_ready, without_first, after_wait}
+use Rattle.wait_board.specs.Boards.{refusal_in, renewed, all_renewed, scan_within, scan}
 use Rattle.wait_board.specs.BoardState.{IsFullFor, IsWaiting, IsOther, AreApart}
 use Rattle.wait_board.proofs.Firsts.{length-without, each_fails, All-without, pairs-without, pairs-map}
 
@@ -28,21 +28,21 @@ false-true e = absurd (let h : false ≡ true = e in cc)
 
 module _ (cell : Cell) where
   -- where nobody is ready the scan is at its end
-  within-none : (n : ℕ) (on : OnBoard) → find (is_ready cell on.parts) on.waiters ≡ None → scan_within n cell on ≡ settled cell on
+  within-none : (n : ℕ) (on : OnBoard) → find (is_ready cell on.parts) on.waiters ≡ None → scan_within n cell on ≡ all_renewed cell on
   within-none zero on none = refl
   within-none (suc n) on none =
-      ap (λ o. option_map_or (λ waiter. scan_within n cell (decided cell on waiter)) o (settled cell on)) none
+      ap (λ o. option_map_or (λ waiter. scan_within n cell (after_wait cell on waiter)) o (all_renewed cell on)) none
 
-  pub scan-none : (on : OnBoard) → find (is_ready cell on.parts) on.waiters ≡ None → scan cell on ≡ settled cell on
+  pub scan-none : (on : OnBoard) → find (is_ready cell on.parts) on.waiters ≡ None → scan cell on ≡ all_renewed cell on
   scan-none on none = within-none (length on.waiters) on none
 
-  -- the first waiter that is ready is decided, and the scan goes on
+  -- the first waiter that is ready is after_wait, and the scan goes on
   pub scan-some : (on : OnBoard) (w : Waiter) → find (is_ready cell on.parts) on.waiters ≡ Some w
-      → scan cell on ≡ scan cell (decided cell on w)
+      → scan cell on ≡ scan cell (after_wait cell on w)
   scan-some on w some =
       ap (λ n. scan_within n cell on) (length-without (is_ready cell on.parts) on.waiters w some)
       ∙ ap (λ o. option_map_or (λ waiter. scan_within (length (without_first (is_ready cell on.parts) on.waiters)) cell
-      (decided cell on waiter)) o (settled cell on)) some
+      (after_wait cell on waiter)) o (all_renewed cell on)) some
 
   module _ (fits : CellFits cell) where
     -- a saturation names a neighborhood that is full
@@ -95,7 +95,7 @@ module _ (cell : Cell) where
         pub apart : AreApart on.waiters
 
       stands-decided : (on : OnBoard) (w : Waiter) → Stands on → find (is_ready cell on.parts) on.waiters ≡ Some w
-          → Stands (decided cell on w)
+          → Stands (after_wait cell on w)
       stands-decided on w stands some = record {
         admitted = (admission_law cell fits on.parts stands.admitted).request w.request
             (All-found Stays (is_ready cell on.parts) on.waiters w stands.stay some).request;
@@ -103,7 +103,7 @@ module _ (cell : Cell) where
         apart = pairs-without (is_ready cell on.parts) IsOther on.waiters stands.apart;
       }
 
-      settles : (on : OnBoard) → Stands on → find (is_ready cell on.parts) on.waiters ≡ None → IsSettled (settled cell on)
+      settles : (on : OnBoard) → Stands on → find (is_ready cell on.parts) on.waiters ≡ None → IsSettled (all_renewed cell on)
       settles on stands none = record {
         admitted = stands.admitted;
         waiting = All-map (IsWaiting cell on.parts sessions) (renewed cell on.parts) on.waiters (λ k d within.
@@ -122,9 +122,9 @@ module _ (cell : Cell) where
       within-settled (suc n) on few stands =
           let test = is_ready cell on.parts in
           elim (find test on.waiters) as (λ o. find test on.waiters ≡ o
-          → IsSettled (option_map_or (λ waiter. scan_within n cell (decided cell on waiter)) o (settled cell on))) [
+          → IsSettled (option_map_or (λ waiter. scan_within n cell (after_wait cell on waiter)) o (all_renewed cell on))) [
             | None ↦ λ none. settles on stands none
-            | Some w ↦ λ some. within-settled n (decided cell on w)
+            | Some w ↦ λ some. within-settled n (after_wait cell on w)
                 (let one = length-without test on.waiters w some in omega (arith, one, few)) (stands-decided on w stands some)
           ] refl
 

@@ -9,7 +9,7 @@ use Rattle.cell_base.specs.Outcomes.{reply_to, state_after}
 use Rattle.admission_core.specs.CoreState.{CoreState}
 use Rattle.wait_board.specs.declared.waiter.Waiter.{Waiter}
 use Rattle.wait_board.specs.declared.entries.BoardEntry.{BoardEntry}
-use Rattle.wait_board.specs.Boards.{entry, is_ready, end_of_wait, renewed, decided, settled, scan}
+use Rattle.wait_board.specs.Boards.{entry, is_ready, end_of_wait, renewed, after_wait, all_renewed, scan}
 use Rattle.wait_board.specs.BoardState.{on_board}
 use Rattle.wait_board.proofs.Firsts.{found, others, unfound, length-without, All-without}
 use Rattle.wait_board.proofs.Scans.{scan-some, scan-none}
@@ -23,7 +23,7 @@ scan-step cell core next ws rest told longer at w is_cell is_at is_w is_rest is_
     let test = is_ready core.cell core.parts in
     let on = on_board core ws told in
     let is_rest_of = is_rest ∙ others test ws at is_at in
-    let is_decided : on_board next rest longer ≡ decided core.cell on w =
+    let is_decided : on_board next rest longer ≡ after_wait core.cell on w =
     λ k. record { parts = (ap (λ (c : CoreState). c.parts) is_next) k; waiters = is_rest_of k; history = is_longer k } in
     subst (λ (c : Cell). scan c (on_board next rest longer) ≡ scan c on) is_cell
     (ap (scan core.cell) is_decided
@@ -35,7 +35,7 @@ pub scan-end : (cell : Cell) (core : CoreState) (ws new : List Waiter) (told : L
     → on_board core new told ≡ scan cell (on_board core ws told)
 scan-end cell core ws new told is_cell nobody is_new =
     let on = on_board core ws told in
-    let is_settled : on_board core new told ≡ settled core.cell on =
+    let is_settled : on_board core new told ≡ all_renewed core.cell on =
     λ k. record { parts = core.parts; waiters = is_new k; history = told } in
     subst (λ (c : Cell). on_board core new told ≡ scan c on) is_cell
     (is_settled ∙ sym (scan-none core.cell on (unfound (is_ready core.cell core.parts) ws nobody)))

@@ -41,9 +41,9 @@ abbrev pub end_of_wait : Reply → BoardTold
 end_of_wait Granted = told.Served
 end_of_wait (Refused why) = told.Dropped why
 
--- a waiter that is ready is decided, and leaves
-abbrev pub decided : Cell → OnBoard → Waiter → OnBoard
-decided cell on waiter = record {
+-- a waiter that is ready is after_wait, and leaves
+abbrev pub after_wait : Cell → OnBoard → Waiter → OnBoard
+after_wait cell on waiter = record {
   parts = state_after cell on.parts waiter.request;
   waiters = without_first (is_ready cell on.parts) on.waiters;
   history = on.history ++ entry waiter.session waiter.request (end_of_wait (reply_to cell on.parts waiter.request)) ∷ [];
@@ -59,40 +59,41 @@ abbrev pub renewed : Cell → List Part → Waiter → Waiter
 renewed cell parts waiter = record waiter { refusal = refusal_in (reply_to cell parts waiter.request) waiter.refusal }
 
 -- where nobody is ready each waiter keeps its refusal
-abbrev pub settled : Cell → OnBoard → OnBoard
-settled cell on = record on { waiters = map (renewed cell on.parts) on.waiters }
+abbrev pub all_renewed : Cell → OnBoard → OnBoard
+all_renewed cell on = record on { waiters = map (renewed cell on.parts) on.waiters }
 
--- the first waiter that is ready is decided, and so on, in at most so many steps
+-- the first waiter that is ready is after_wait, and so on, in at most so many steps
 abbrev pub scan_within : ℕ → Cell → OnBoard → OnBoard
-scan_within zero cell on = settled cell on
+scan_within zero cell on = all_renewed cell on
 scan_within (suc n) cell on =
-    option_map_or (λ waiter. scan_within n cell (decided cell on waiter)) (find (is_ready cell on.parts) on.waiters) (settled cell on)
+    option_map_or (λ waiter. scan_within n cell (after_wait cell on waiter))
+    (find (is_ready cell on.parts) on.waiters) (all_renewed cell on)
 
 -- the whole scan: each step takes a waiter out
 abbrev pub scan : Cell → OnBoard → OnBoard
 scan cell on = scan_within (length on.waiters) cell on
 
--- the answer to an ask
-abbrev pub answer : Reply → BoardReply
-answer Granted = answers.Granted
-answer (Refused why) = if is_saturation why then answers.Waits why else answers.Refused why
+-- the board_reply to an ask
+abbrev pub board_reply : Reply → BoardReply
+board_reply Granted = answers.Granted
+board_reply (Refused why) = if is_saturation why then answers.Waits why else answers.Refused why
 
 -- an entry that only tells
 abbrev pub noted : OnBoard → ℕ → Request → BoardTold → OnBoard
 noted on session request told = record on { history = on.history ++ entry session request told ∷ [] }
 
 -- a session waits from now on
-abbrev pub joined : OnBoard → ℕ → Request → Refusal → OnBoard
-joined on session request why = record (noted on session request (told.Waits why)) {
+abbrev pub with_waiter : OnBoard → ℕ → Request → Refusal → OnBoard
+with_waiter on session request why = record (noted on session request (told.Waits why)) {
   waiters = on.waiters ++ record { session = session; request = request; refusal = why } ∷ [];
 }
 
--- what an answer makes of a board
+-- what an board_reply makes of a board
 abbrev pub told_on : Cell → OnBoard → ℕ → Request → Reply → OnBoard
 told_on cell on session request Granted =
     scan cell (record (noted on session request told.Granted) { parts = state_after cell on.parts request })
 told_on cell on session request (Refused why) =
-    if is_saturation why then joined on session request why else noted on session request (told.Refused why)
+    if is_saturation why then with_waiter on session request why else noted on session request (told.Refused why)
 
 -- what an ask makes of a board
 abbrev pub board : Cell → OnBoard → ℕ → Request → OnBoard

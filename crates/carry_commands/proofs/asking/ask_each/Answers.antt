@@ -2,7 +2,7 @@
 use Rattle.std.proofs.Common.{◌+◌, List, ◌++◌, take, drop, inr, sym, ap, ◌∙◌, arith}
 use Rattle.std.proofs.lemmas.List.{drop_more, take-append-drop, take_more}
 use Rattle.cell_base.specs.declared.requests.Request.{Request}
-use Rattle.journal_texts.specs.AskedSteps.{after_steps}
+use Rattle.journal_texts.specs.AskedSteps.{after_plan_steps}
 use Rattle.carry_commands.proofs.Askings.{goes_on, halts}
 use Rattle.carry_commands.proofs.asking.ask_each.Goals as goal
 
@@ -24,6 +24,6 @@ loop-request-preserved g c =
           (sym (take-append-drop k requests) ∙ ap (λ (rs : List Request). take k requests ++ rs)
           (drop_more requests k _ (omega (arith, c.loop-request-test.true))))
           c.loop-request.invariant.so_far c.requires.granted c.in-Ok.field-0 c.in-Ok.ensures.answer
-          ∙ ap (after_steps c.args.durable.now c.ask.new.self.disk)
+          ∙ ap (after_plan_steps c.args.durable.now c.ask.new.self.disk)
           (sym (take_more requests k _ (omega (arith, c.loop-request-test.true))));
     }

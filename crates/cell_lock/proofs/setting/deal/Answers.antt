@@ -1,7 +1,7 @@
 -- One pass more is dealt.
 use Rattle.std.proofs.Common.{◌≡◌, ◌+◌, ◌-◌, ◌∷◌, [], ◌++◌, ℕ, arith, sym, ap, ◌∙◌}
 use Rattle.cell_lock.specs.Views.{AtSeat, stock}
-use Rattle.cell_lock.specs.Standing.{new_pass}
+use Rattle.cell_lock.specs.Passes.{new_pass}
 use Rattle.cell_lock.specs.Steps.{lock_of}
 use Rattle.cell_lock.proofs.Gathering.{passes_more}
 use Rattle.cell_lock.proofs.setting.deal.Goals as goal

@@ -1,7 +1,7 @@
 -- The first k passes are dealt, and the seat has the numbers after them.
 use Rattle.std.proofs.Common.{◌≡◌, ◌+◌, ◌-◌, ◌≤◌, []}
 use Rattle.cell_lock.specs.Views.{stock}
-use Rattle.cell_lock.specs.Standing.{new_passes}
+use Rattle.cell_lock.specs.Passes.{new_passes}
 use Rattle.cell_lock.specs.Steps.{lock_of}
 use Rattle.cell_lock.proofs.setting.deal.Given as goal
 

@@ -1,40 +1,23 @@
 -- The rule of the table holds of a durable cell in which nothing was decided.
-use Rattle.std.proofs.Common.{◌≡◌, ◌≤◌, ℕ, Option, Some, None, List, [], ◌∷◌, map, length, refl, arith, sym, ap, ◌∙◌, subst}
-use Rattle.std.specs.Option.{option_map}
-use Rattle.cell_base.specs.Histories.{IsLegal, granted_entries, grants, replay}
+use Rattle.std.proofs.Common.{◌≡◌, ◌≤◌, ℕ, None, [], ◌∷◌, length, refl, arith, sym, ap, ◌∙◌, subst}
+use Rattle.cell_base.specs.Histories.{IsLegal, grants, replay}
 use Rattle.durable_cell.specs.Acknowledged.{HasSince}
-use Rattle.durable_cell.specs.Asked.{halted_in, unsure_grant}
+use Rattle.durable_cell.specs.Asked.{unsure_grant}
 use Rattle.durable_cell.specs.DurableState.{DurableState}
-use Rattle.durable_cell.specs.Kept.{KeepsHistory, asked_by, asked_in}
+use Rattle.durable_cell.proofs.Unasked.{none_added, none_unsure}
 use Rattle.cell_lock.specs.Openings.{opening_of, Fits}
 use Rattle.cell_lock.proofs.Acknowledging.{since_found}
 use Rattle.cell_lock.proofs.Dealing.{starts}
 use Rattle.cell_lock.proofs.setting.lay.Goals as goal
-
-no_more : {A B : Type 0} (f : A → B) (xs : List A) → map f xs ≡ [] → xs ≡ []
-no_more f [] h = refl
-no_more f (x ∷ xs) h = absurd (cc)
-
-none_mapped : {A B : Type 0} (f : A → B) (found : Option A) → option_map f found ≡ None → found ≡ None
-none_mapped f None h = refl
-none_mapped f (Some x) h = absurd (cc)
-
--- where nothing was decided, nothing was added, and nothing is unsure
-nothing_added : {D : Type 0} (durable : DurableState D) → KeepsHistory durable → durable.history ≡ []
-    → (durable.added ≡ []) × (durable.unsure ≡ None)
-nothing_added durable kept none = (
-  no_more asked_by durable.added (kept.added ∙ ap (λ log. map asked_in (granted_entries log)) none),
-  none_mapped asked_by durable.unsure (kept.unsure ∙ ap (λ log. option_map asked_in (halted_in log)) none),
-)
 
 pub new-requires : goal.new-requires
 new-requires g c =
     let a : DurableState g.row.D.Denot = c.of.result.value in
     let same : a ≡ c.args.durable = c.of.ensures in
     let new : a.history ≡ [] = ap (λ (x : DurableState g.row.D.Denot). x.history) same ∙ c.requires in
-    let unasked = nothing_added c.args.durable c.history-history.ensures.kept c.requires in
-    let none : a.added ≡ [] = ap (λ (x : DurableState g.row.D.Denot). x.added) same ∙ unasked.0 in
-    let sure : a.unsure ≡ None = ap (λ (x : DurableState g.row.D.Denot). x.unsure) same ∙ unasked.1 in
+    let kept = c.history-history.ensures.kept in
+    let none : a.added ≡ [] = ap (λ (x : DurableState g.row.D.Denot). x.added) same ∙ none_added c.args.durable kept c.requires in
+    let sure : a.unsure ≡ None = ap (λ (x : DurableState g.row.D.Denot). x.unsure) same ∙ none_unsure c.args.durable kept c.requires in
     let fits : Fits (opening_of a c.args.shift c.args.passes) a = record {
       same = refl;
       legal = subst (λ h. IsLegal a.cell (replay a.cell a.opening) h) (sym new) tt;

@@ -2,7 +2,7 @@
 use Rattle.std.proofs.Common.{◌≡◌, List, Some, slice_get, subst, arith}
 use Rattle.cell_base.specs.declared.requests.Request.{Request}
 use Rattle.cell_base.specs.Scripts.{HasEnded, Progress}
-use Rattle.cell_lock.specs.Standing.{Asked}
+use Rattle.cell_lock.specs.Passes.{Asked}
 use Rattle.solo_rounds.proofs.Counting.{script_asks_left-falls}
 use Rattle.solo_rounds.proofs.Going.{step_left, patience_left, within_next}
 use Rattle.cell_sessions.proofs.Sessions.{Asks, answered, faulted}

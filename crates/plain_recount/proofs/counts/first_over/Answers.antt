@@ -7,7 +7,8 @@ use Rattle.cell_base.specs.Masks.{has_bit}
 use Rattle.cell_base.specs.Outcomes.{without}
 use Rattle.cell_base.proofs.Bits.{without_lowest, has_bit-zero}
 use Rattle.policy_laws.proofs.States.{first_over-none}
-use Rattle.plain_recount.proofs.Counting.{first_over-at, count-entered, count-not_entered, present_stands}
+use Rattle.policy_laws.proofs.FirstOver.{first_over-at}
+use Rattle.plain_recount.proofs.Counting.{count-entered, count-not_entered, present_stands}
 use Rattle.plain_recount.proofs.Bits.{lowest_bit, bit_kept, bit_gone}
 use Rattle.plain_recount.proofs.counts.first_over.Goals as goal
 

@@ -1,6 +1,7 @@
 -- The row knows one place more.
 use Rattle.std.proofs.Common.{◌-◌, arith, length-set, ◌∙◌}
-use Rattle.plain_recount.proofs.Places.{KnowsAfter-set, length-route_of}
+use Rattle.policy_laws.proofs.Limits.{length-route_of}
+use Rattle.plain_recount.proofs.Places.{KnowsAfter-set}
 use Rattle.plain_recount.proofs.sweep.sweep.Goals as goal
 
 pub loop-place-preserved : goal.loop-place-preserved

@@ -1,27 +1,38 @@
 -- The cell is read, then the shift, and then the shift runs.
-use Rattle.cell_texts.specs.Tests.{known}
-use Rattle.queue_command.proofs.Queueing.{queue_ran, queue_starved, queue_unread, queue_without_shift}
+use Rattle.cell_walks.specs.DiskTold.{no_disk}
+use Rattle.cell_walks.specs.Outcomes.{done}
+use Rattle.cell_walks.proofs.Steps.{none_done}
+use Rattle.cell_walks.proofs.TwoTests.{both_passed, first_ended, second_ended, starved_between}
+use Rattle.cell_texts.specs.Tests.{cell_file, known, shift_file}
+use Rattle.queue_command.specs.Lines.{board_lines}
+use Rattle.queue_command.proofs.Queueing.{queue_ran, ran}
 use Rattle.queue_command.proofs.queue.queue_of_files.Goals as goal
 
 pub returns-clause-allowed : goal.returns-clause-allowed
 returns-clause-allowed g c =
-    queue_unread g.F.Files.holds g.F.Files.is_sound g.F.Files.faults c.args.cell.now c.args.shift.now c.args.files.now
-    c.read_cell.new.files c.in-Err.end c.in-Err.ensures.ended
+    first_ended g.F.Files.holds g.F.Files.is_sound g.F.Files.faults no_disk (cell_file c.args.cell.now)
+    (λ held. shift_file held.cell c.args.shift.now) ran c.args.files.now c.read_cell.new.files
+    c.in-Err.end none_done c.in-Err.ensures.ended
 
 pub returns-in-Ok-clause-allowed : goal.returns-in-Ok-clause-allowed
 returns-in-Ok-clause-allowed g c =
-    queue_without_shift g.F.Files.holds g.F.Files.is_sound g.F.Files.faults c.args.cell.now c.args.shift.now c.args.files.now
-    c.read_cell.new.files c.read_shift.new.files (known c.in-Ok.held) c.in-Ok.ensures.read c.in-Ok.ensures.same c.in-Err-read_shift.end
+    second_ended g.F.Files.holds g.F.Files.is_sound g.F.Files.faults no_disk (cell_file c.args.cell.now)
+    (λ held. shift_file held.cell c.args.shift.now) ran c.args.files.now c.read_cell.new.files
+    c.read_shift.new.files (known c.in-Ok.held) c.in-Ok.ensures.read c.in-Ok.ensures.same
+    c.in-Err-read_shift.end none_done
     c.in-Ok.ensures.kept c.in-Ok.ensures.stays_sound c.in-Err-read_shift.ensures.ended
-
-pub returns-in-Ok-run_rounds-clause-allowed : goal.returns-in-Ok-run_rounds-clause-allowed
-returns-in-Ok-run_rounds-clause-allowed g c =
-    queue_ran g.F.Files.holds g.F.Files.is_sound g.F.Files.faults c.args.cell.now c.args.shift.now c.args.files.now
-    c.read_cell.new.files c.read_shift.new.files (known c.in-Ok.held) c.in-Ok.ensures.read c.in-Ok.ensures.same
-    c.in-Ok-read_shift.shift c.in-Ok-run_rounds.board c.in-Ok-read_shift.ensures.read
-    c.in-Ok-run_rounds.ensures.run
 
 pub returns-in-Ok-read_shift-clause-allowed : goal.returns-in-Ok-read_shift-clause-allowed
 returns-in-Ok-read_shift-clause-allowed g c =
-    queue_starved g.F.Files.holds g.F.Files.is_sound g.F.Files.faults c.args.cell.now c.args.shift.now c.args.files.now
-    c.read_cell.new.files c.read_shift.new.files (known c.in-Ok.held) c.in-Ok.ensures.read c.in-Ok.ensures.same
+    starved_between g.F.Files.holds g.F.Files.is_sound g.F.Files.faults no_disk (cell_file c.args.cell.now)
+    (λ held. shift_file held.cell c.args.shift.now) ran c.args.files.now c.read_cell.new.files
+    c.read_shift.new.files (known c.in-Ok.held) c.in-Ok.ensures.read c.in-Ok.ensures.same none_done
+
+pub returns-in-Ok-run_rounds-clause-allowed : goal.returns-in-Ok-run_rounds-clause-allowed
+returns-in-Ok-run_rounds-clause-allowed g c =
+    let board = c.in-Ok-run_rounds.board in
+    both_passed g.F.Files.holds g.F.Files.is_sound g.F.Files.faults no_disk (cell_file c.args.cell.now)
+    (λ held. shift_file held.cell c.args.shift.now) ran c.args.files.now c.read_cell.new.files
+    c.read_shift.new.files (known c.in-Ok.held) c.in-Ok.ensures.read c.in-Ok.ensures.same c.in-Ok-read_shift.shift
+    (done (board_lines board.cell board.on)) c.in-Ok-read_shift.ensures.read
+    (queue_ran (known c.in-Ok.held).cell c.in-Ok-read_shift.shift board c.in-Ok-run_rounds.ensures.run, none_done)

@@ -5,7 +5,7 @@ use Rattle.std.proofs.lemmas.List.{take_at}
 use mathlib.Core.List.{IsPrefix}
 use Rattle.cell_base.specs.Histories.{entries_of}
 use Rattle.cell_base.specs.Scripts.{Progress, script_of}
-use Rattle.cell_lock.specs.Standing.{AreAll, Standing}
+use Rattle.cell_lock.specs.Passes.{AreAll, PassState}
 use Rattle.cell_sessions.specs.Starting.{AreBegun}
 use Rattle.solo_rounds.specs.Underway.{IsWithinScript, progress_at}
 use Rattle.run_command.proofs.RunSessions.{all_new, begun_within, after_sessions}
@@ -56,7 +56,7 @@ returns-clause-after g c =
       opening = c.close.ensures.opening;
       added = c.close.ensures.added;
       unsure = c.close.ensures.unsure;
-      seen = subst (All (λ (pass : Standing _). IsPrefix pass.seen c.close.result.history)) back c.close.ensures.seen;
-      mine = subst (All (λ (pass : Standing _). entries_of pass.number c.close.result.history ≡ pass.mine)) back c.close.ensures.mine;
+      seen = subst (All (λ (pass : PassState _). IsPrefix pass.seen c.close.result.history)) back c.close.ensures.seen;
+      mine = subst (All (λ (pass : PassState _). entries_of pass.number c.close.result.history ≡ pass.mine)) back c.close.ensures.mine;
       others = c.close.ensures.others;
     })

@@ -1,4 +1,4 @@
--- An entry or a line of the tail stands behind the head.
+-- An entry or a line of the tail stands after the head.
 use Rattle.std.proofs.Common.{◌-◌, arith, ap, ◌∙◌}
 use Rattle.std.specs.List.{slice_get}
 use Rattle.shift_checker.specs.Saying.{tail_says}

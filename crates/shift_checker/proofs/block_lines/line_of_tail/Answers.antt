@@ -1,4 +1,4 @@
--- A step stands behind the left line and the plan line.
+-- A step stands after the left line and the plan line.
 use Rattle.std.proofs.Common.{arith}
 use Rattle.shift_checker.proofs.Following.{step_there}
 use Rattle.shift_checker.proofs.block_lines.line_of_tail.Goals as goal

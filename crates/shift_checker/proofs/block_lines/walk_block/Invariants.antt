@@ -1,4 +1,4 @@
--- The lines so far are right, and the walk is behind them.
+-- The lines so far are right, and the walk is past them.
 use Rattle.std.proofs.Common.{◌≡◌, ◌+◌, take, List}
 use Rattle.record_text.specs.declared.blocks.Block.{Block}
 use Rattle.record_text.specs.declared.stages.Stage.TheVariants.{Between}

@@ -1,4 +1,4 @@
--- The blocks so far are right, and the walk is behind them.
+-- The blocks so far are right, and the walk is past them.
 use Rattle.std.proofs.Common.{◌≡◌, ◌+◌, take}
 use Rattle.std.specs.List.{sum_by}
 use Rattle.record_text.specs.declared.stages.Stage.TheVariants.{Between}

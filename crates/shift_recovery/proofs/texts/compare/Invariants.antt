@@ -4,7 +4,7 @@ use Rattle.std.proofs.Common.{◌≡◌, ◌+◌, ◌-◌, ◌≤◌, length, ta
 use Rattle.move_journal.specs.declared.head_write.TheConstants.{TEXT_AT}
 use Rattle.shift_recovery.specs.Readings.{first_difference}
 use Rattle.shift_recovery.specs.Reads.{OnlyReads}
-use Rattle.shift_recovery.specs.Windows.{IsAt, Shows}
+use Rattle.shift_recovery.specs.Windows.{BeginsAt, AreOfFile}
 use Rattle.shift_recovery.proofs.texts.compare.Given as goal
 
 abbrev pub invariant-text : goal.invariant-text
@@ -13,8 +13,8 @@ invariant-text g l = record {
   count : g.D.Disk.faults l.disk ≡ g.D.Disk.faults l.fn.disk;
   compared : l.done ≤ l.size;
   within_text : l.done ≤ length l.text;
-  window : IsAt (TEXT_AT + l.done) l.len l.at l.used l.kept.items;
-  shows : Shows (g.D.Disk.reads_as l.fn.disk) (TEXT_AT + l.done) l.len l.at l.used l.kept.items;
+  window : BeginsAt (TEXT_AT + l.done) l.len l.at l.used l.kept.items;
+  shows : AreOfFile (g.D.Disk.reads_as l.fn.disk) (TEXT_AT + l.done) l.len l.at l.used l.kept.items;
   same : IfSome (g.D.Disk.reads_as l.fn.disk) (λ file. first_difference 0 (take l.size (drop TEXT_AT file)) l.text
       ≡ first_difference l.done (take (l.size - l.done) (drop (TEXT_AT + l.done) file)) (drop l.done l.text));
 }

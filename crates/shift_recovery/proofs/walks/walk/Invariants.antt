@@ -6,15 +6,15 @@ use Rattle.entry_codec.specs.declared.encoder.TheConstants.{ENTRY_SIZE}
 use Rattle.shift_recovery.specs.Readings.{grants_from}
 use Rattle.shift_recovery.specs.Reads.{OnlyReads}
 use Rattle.shift_recovery.specs.Walked.{with_grants}
-use Rattle.shift_recovery.specs.Windows.{IsAt, Shows}
+use Rattle.shift_recovery.specs.Windows.{BeginsAt, AreOfFile}
 use Rattle.shift_recovery.proofs.walks.walk.Given as goal
 
 abbrev pub invariant-gates : goal.invariant-gates
 invariant-gates g l = record {
   reads : OnlyReads g.D.Disk.reads_as g.D.Disk.may_leave g.D.Disk.moment g.D.Disk.left_since l.fn.disk l.disk;
   faults : g.D.Disk.faults l.disk ≡ g.D.Disk.faults l.fn.disk;
-  window : IsAt l.gate l.len l.at l.used l.kept.items;
-  shows : Shows (g.D.Disk.reads_as l.fn.disk) l.gate l.len l.at l.used l.kept.items;
+  window : BeginsAt l.gate l.len l.at l.used l.kept.items;
+  shows : AreOfFile (g.D.Disk.reads_as l.fn.disk) l.gate l.len l.at l.used l.kept.items;
   grants : List Grant;
   taken : g.T.Taker.took l.fn.taker l.first grants l.taker;
   counted : l.count ≡ length grants;

@@ -3,10 +3,11 @@ use Rattle.std.proofs.Common.{refl, ap, arith}
 use Rattle.durable_cell.specs.DurableState.{DurableState}
 use Rattle.cell_walks.specs.Allowed.{NotOpened}
 use Rattle.cell_walks.specs.DiskTold.{disk_told}
+use Rattle.cell_walks.proofs.Walked.{read_untouched}
 use Rattle.cell_texts.specs.Tests.{known}
 use Rattle.cell_texts.proofs.Disks.{untouched}
 use Rattle.standby_commands.specs.FrameFiles.{frames_in}
-use Rattle.standby_commands.proofs.FollowWalk.{followed_opened, only_untouched, starved}
+use Rattle.standby_commands.proofs.FollowWalk.{followed_opened, starved}
 use Rattle.standby_commands.proofs.FrameCuts.{count}
 use Rattle.standby_commands.proofs.follow.follow_journal.Goals as goal
 
@@ -32,7 +33,7 @@ pub returns-in_default-clause-followed : goal.returns-in_default-clause-followed
 returns-in_default-clause-followed g c =
     let disk = disk_told g.D.Disk.reads_as g.D.Disk.may_leave g.D.Disk.moment g.D.Disk.left_since g.D.Disk.faults c.args.disk c.args.disk in
     starved disk (known c.args.held) (frames_in c.args.bytes.now)
-    (only_untouched disk (untouched g.D.Disk.reads_as g.D.Disk.may_leave g.D.Disk.moment g.D.Disk.left_since g.D.Disk.faults c.args.disk
+    (read_untouched disk (untouched g.D.Disk.reads_as g.D.Disk.may_leave g.D.Disk.moment g.D.Disk.left_since g.D.Disk.faults c.args.disk
     (g.met.D.Disk.only_now c.args.disk)))
 
 pub returns-in-Ok-open_journal-clause-followed : goal.returns-in-Ok-open_journal-clause-followed

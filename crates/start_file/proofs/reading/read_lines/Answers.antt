@@ -7,23 +7,23 @@ use Rattle.start_file.specs.Reading.{read_from}
 use Rattle.start_file.proofs.Lines.{read_line}
 use Rattle.start_file.proofs.reading.read_lines.Goals as goal
 
-pub returns-in-None-next_of : goal.returns-in-None-next_of
-returns-in-None-next_of c =
+pub returns-in-None-next_request : goal.returns-in-None-next_request
+returns-in-None-next_request c =
     let loop = c.loop-more in
     sym loop.invariant.read
     ∙ read_line c.args.cell.now loop.found loop.rest.now c.cut_line.result.0.now c.in-Some.more.now None
-    (rw c.in-Some.is at c.cut_line.ensures.pieces) (sym c.in-None-next_of.ensures.request)
+    (rw c.in-Some.is at c.cut_line.ensures.pieces) (sym c.in-None-next_request.ensures.request)
     ∙ search rules
 
 pub loop-more-preserved : goal.loop-more-preserved
 loop-more-preserved c =
     let loop = c.loop-more in
-    let request = c.in-Some-next_of.request in
-    let grown : c.try_push.new.self ≡ loop.found ++ request ∷ [] = c.in_ok-try_push-in-Some-next_of.ensures.ok in
+    let request = c.in-Some-next_request.request in
+    let grown : c.try_push.new.self ≡ loop.found ++ request ∷ [] = c.in_ok-try_push-in-Some-next_request.ensures.ok in
     record {
-      few = omega (arith, ap length grown, length-append loop.found (request ∷ []), c.in-Some-next_of.ensures.room);
+      few = omega (arith, ap length grown, length-append loop.found (request ∷ []), c.in-Some-next_request.ensures.room);
       read = ap (λ (found : List Request). read_from c.args.cell.now found (pieces c.in-Some.more.now)) grown
           ∙ sym (read_line c.args.cell.now loop.found loop.rest.now c.cut_line.result.0.now c.in-Some.more.now (Some request)
-          (rw c.in-Some.is at c.cut_line.ensures.pieces) (sym c.in-Some-next_of.ensures.request))
+          (rw c.in-Some.is at c.cut_line.ensures.pieces) (sym c.in-Some-next_request.ensures.request))
           ∙ loop.invariant.read;
     }

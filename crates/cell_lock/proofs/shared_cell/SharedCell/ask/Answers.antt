@@ -5,7 +5,7 @@ use Rattle.durable_cell.specs.DurableState.{DurableState}
 use Rattle.cell_lock.specs.declared.board.Opening.{Opening}
 use Rattle.cell_lock.specs.Openings.{WhereTold}
 use Rattle.cell_lock.specs.Views.{held_of, moment_of}
-use Rattle.cell_lock.specs.Standing.{LockId, Standing}
+use Rattle.cell_lock.specs.Passes.{LockId, PassState}
 use Rattle.cell_lock.proofs.Acknowledging.{no_later}
 use Rattle.cell_lock.proofs.Asking.{asked_seen}
 use Rattle.cell_lock.proofs.shared_cell.SharedCell.ask.Goals as goal
@@ -16,7 +16,7 @@ returns-clause-seen g c =
     let a : DurableState g.row.D.Denot = held_of first c.take_turn.new.seat.me in
     let b : DurableState g.row.D.Denot = held_of first c.ask_held-answer.new.seat.me in
     let began : IsPrefix c.args.pass.now.seen a.history =
-    subst (λ (s : Standing g.row.D.Denot). IsPrefix s.seen a.history) c.pass.view_is c.take_turn.ensures.follows.began in
+    subst (λ (s : PassState g.row.D.Denot). IsPrefix s.seen a.history) c.pass.view_is c.take_turn.ensures.follows.began in
     rw c.give_turn.ensures.seen
     (asked_seen c.args.pass.now.seen c.self.inside.shift c.pass.inside.number c.args.request.now c.ask_held-answer.result a b began
     c.ask_held-answer.ensures.answer)
@@ -36,7 +36,7 @@ returns-clause-moment g c =
     let b : DurableState g.row.D.Denot = held_of first me in
     let opening : me.0.opening ≡ c.args.self.now.opening =
     c.ask_held-answer.ensures.same.opening ∙ c.take_turn.ensures.same.opening
-    ∙ ap (λ (s : Standing g.row.D.Denot). s.lock.opening) c.pass.view_is
+    ∙ ap (λ (s : PassState g.row.D.Denot). s.lock.opening) c.pass.view_is
     ∙ ap (λ (l : LockId g.row.D.Denot). l.opening) c.requires.lock in
     let stands = c.ask_held-answer.ensures.disk.still _ _ c.take_turn.ensures.stands in
     let later = no_later g.D.Disk.reads_as g.D.Disk.moment g.D.Disk.left_since me.0.opening b _ _ _ c.ask_held-answer.ensures.holds.1.same

@@ -9,7 +9,7 @@ use Rattle.cell_lock.specs.declared.board.View.{View}
 use Rattle.cell_lock.specs.Openings.{Outside, first_parts, opening_of}
 use Rattle.cell_lock.specs.Views.{AtSeat, mines_of}
 use Rattle.cell_lock.specs.Law.{AllBegin, AllStand}
-use Rattle.cell_lock.specs.Standing.{LockId, Standing, all_answers}
+use Rattle.cell_lock.specs.Passes.{LockId, PassState, all_answers}
 use Rattle.cell_lock.specs.Steps.{gathering}
 use Rattle.cell_lock.proofs.Dealing.{sits, closes}
 use Rattle.cell_lock.proofs.Gathering.{all_seen, all_stand, all_mine}
@@ -22,7 +22,7 @@ pub returns : goal.returns
 returns g c =
     let key = c.self.inside.table.shared.key in
     let o : Opening g.row.D.Denot = opening_of key.durable.value key.shift key.passes in
-    let ps : List (Standing g.row.D.Denot) = c.args.passes in
+    let ps : List (PassState g.row.D.Denot) = c.args.passes in
     let has : DurableState g.row.D.Denot → ℕ → ℕ → Type 0 = HasSince g.D.Disk.reads_as g.D.Disk.moment g.D.Disk.left_since in
     let opening_is : o ≡ c.args.self.opening = ap (λ (l : LockId g.row.D.Denot). l.opening) c.self.view_is in
     let sat = c.load_new_seat-host.ensures.2 in
@@ -38,7 +38,7 @@ returns g c =
     let fits = end.0 in
     let began : AllBegin (all_answers ps) a.history =
     subst (λ (x : View g.row.D.Denot). AllBegin x.answers a.history) view end.1 in
-    let mines : map (λ (p : Standing g.row.D.Denot). p.mine) ps ≡ mines_of 1 (length ps) a.history =
+    let mines : map (λ (p : PassState g.row.D.Denot). p.mine) ps ≡ mines_of 1 (length ps) a.history =
     ap (λ (x : View g.row.D.Denot). x.mines) (sym view) ∙ end.2 ∙ ap (λ (k : ℕ). mines_of 1 k a.history) (sym whole) in
     let stand : AllStand has c.args.self.opening.shift a (all_answers ps) =
     subst (λ (z : ℕ × View g.row.D.Denot). AllStand has z.0 a z.1.answers) (λ i. ((opening_is i).shift, view i)) end.4 in

@@ -4,7 +4,7 @@ use Rattle.durable_cell.specs.Acknowledged.{HasSince}
 use Rattle.durable_cell.specs.DurableState.{DurableState}
 use Rattle.cell_lock.specs.declared.board.Opening.{Opening}
 use Rattle.cell_lock.specs.Openings.{WhereTold}
-use Rattle.cell_lock.specs.Standing.{LockId, Standing}
+use Rattle.cell_lock.specs.Passes.{LockId, PassState}
 use Rattle.cell_lock.specs.Views.{AtSeat, IsSafe, held_of, moment_of}
 use Rattle.cell_lock.proofs.Acknowledging.{no_later}
 use Rattle.cell_lock.proofs.shared_cell.SharedCell.peek_plan_step.Goals as goal
@@ -20,7 +20,7 @@ returns-clause-moment g c =
     let me = c.take_turn.new.seat.me in
     let a : DurableState g.row.D.Denot = held_of first me in
     let opening : me.0.opening ≡ c.args.self.now.opening =
-    c.take_turn.ensures.same.opening ∙ ap (λ (s : Standing g.row.D.Denot). s.lock.opening) c.pass.view_is
+    c.take_turn.ensures.same.opening ∙ ap (λ (s : PassState g.row.D.Denot). s.lock.opening) c.pass.view_is
     ∙ ap (λ (l : LockId g.row.D.Denot). l.opening) c.requires.lock in
     let same : held_of first c.plan_held-step.new.seat.me ≡ a =
     ap (λ (m : AtSeat g.row.D.Denot). held_of first m) c.plan_held-step.ensures.seat in

@@ -2,7 +2,7 @@
 use Rattle.std.proofs.Common.{◌-◌, ◌<◌, [], ◌∷◌, length, sym, ◌∙◌, ap, subst, arith, length-append}
 use Rattle.entry_codec.specs.Decoding.{grant_of}
 use Rattle.move_journal.specs.Groups.{GroupState}
-use Rattle.move_journal.specs.Journals.{entries, group_bytes, IsRead}
+use Rattle.move_journal.specs.Journals.{entries, group_bytes, IsReadAgain}
 use Rattle.std.specs.List.{AllByRecursion}
 use Rattle.move_journal.proofs.Fronts.{each-append, group-push, length-entries}
 use Rattle.move_journal.proofs.group.Group.push.Goals as goal
@@ -20,7 +20,7 @@ invariant_of-self c =
       bytes_are = group-push old.grants.items grant old.bytes.items c.encode.result c.with_gates-piece.result
           _ c.self.invariant.bytes_are c.with_gates-piece.ensures c.encode.ensures.record c.put_last.ensures.items
           ∙ ap group_bytes (sym items);
-      are_read = subst (AllByRecursion IsRead) (sym items) (each-append old.grants.items (grant ∷ []) c.self.invariant.are_read
+      are_read = subst (AllByRecursion IsReadAgain) (sym items) (each-append old.grants.items (grant ∷ []) c.self.invariant.are_read
           (ap grant_of (sym c.encode.ensures.record) ∙ c.encode.ensures.read_back, tt));
       room = omega (arith, c.self.invariant.room, c.push_reserved.ensures.capacity);
       bytes_room = omega (arith, c.self.invariant.bytes_room, c.put_last.ensures.capacity);

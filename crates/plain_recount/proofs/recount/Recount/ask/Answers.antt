@@ -1,7 +1,7 @@
 -- The state after a request that fits is admitted.
 use Rattle.std.proofs.Common.{sym, subst}
 use Rattle.cell_base.specs.Fits.{RequestFits}
-use Rattle.plain_recount.specs.Standing.{Standing}
+use Rattle.plain_recount.specs.RecountState.{RecountState}
 use Rattle.policy_laws.proofs.Admission.{admission_law}
 use Rattle.policy_laws.proofs.Room.{few_parts}
 use Rattle.plain_recount.proofs.recount.Recount.ask.Goals as goal
@@ -9,7 +9,7 @@ use Rattle.plain_recount.proofs.recount.Recount.ask.Goals as goal
 pub invariant_of-self : goal.invariant_of-self
 invariant_of-self c =
     let fit : RequestFits c.self.inside.table c.args.request.now =
-    subst (λ (standing : Standing). RequestFits standing.cell c.args.request.now) (sym c.self.view_is) c.requires in (
+    subst (λ (standing : RecountState). RequestFits standing.cell c.args.request.now) (sym c.self.view_is) c.requires in (
       record {
         fits = c.self.invariant.0.fits;
         admitted =

@@ -4,7 +4,7 @@ use Rattle.cell_base.specs.declared.cells.Cell.{Cell}
 use Rattle.cell_base.specs.Fits.{CellFits}
 use Rattle.step_text.specs.Words.{words}
 use Rattle.record_text.specs.declared.stages.Stage.TheVariants.{Between}
-use Rattle.record_text.specs.Progress.{IsOpen, is_between, on_line}
+use Rattle.record_text.specs.Progress.{LacksStep, is_between, on_line}
 use Rattle.record_text.specs.Remains.{Remains, IsReadTo}
 use Rattle.record_text.proofs.Portions.{IsReadOn, none_read, one_read, some_bytes, true_false, block_read, refused_line, refused_end}
 use Rattle.record_text.proofs.block_reader.BlockReader.next.Goals.{else-is_empty-via-then-is_empty+else-self-gt1}
@@ -108,7 +108,7 @@ loop-more-preserved c =
     let stage = c.in-Some-Within.next in
     let line = c.cut_line.result.0.now in
     let shorter = rw c.in-Some.is at c.cut_line.ensures.shorter in
-    let within : IsOpen stage × (is_between stage ≡ false) =
+    let within : LacksStep stage × (is_between stage ≡ false) =
     rw (c.in-Some-Within.is, c.in-Some-Within.field-0-is) at c.in_ok-next.ensures.within in
     record {
       cell = so_far.cell;

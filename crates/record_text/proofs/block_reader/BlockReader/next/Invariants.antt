@@ -2,7 +2,7 @@
 use Rattle.std.proofs.Common.{◌≡◌, ◌+◌, ◌≤◌, ◌⊎◌, true, [], length}
 use Rattle.cell_base.specs.Fits.{CellFits}
 use Rattle.record_text.specs.declared.record.TheConstants.{MAX_RECORD_BYTES}
-use Rattle.record_text.specs.Progress.{IsOpen, is_between}
+use Rattle.record_text.specs.Progress.{LacksStep, is_between}
 use Rattle.record_text.proofs.Portions.{IsReadOn}
 use Rattle.record_text.proofs.block_reader.BlockReader.next.Given as goal
 
@@ -13,7 +13,7 @@ invariant-loop-more l = record {
   bytes : l.self-inside.rest.now ≡ l.fn.self.bytes;
   fits : CellFits l.fn.self.cell;
   within : l.fn.self.number + length l.fn.self.bytes ≤ MAX_RECORD_BYTES + 1;
-  stage : IsOpen l.stage;
+  stage : LacksStep l.stage;
   counted : l.number + length l.rest ≤ MAX_RECORD_BYTES + 1;
   unended : is_between l.stage ≡ true → (1 ≤ length l.rest) ⊎ (l.number ≤ 1);
   shorter : length l.rest ≤ length l.fn.self.bytes;

@@ -20,7 +20,7 @@ pub record LockId (D : Type 0) : Type 0 where
 
 -- The lock of a pass and its number; the history that it saw last, and the disk's clock of then; the same of its earlier answers, the last
 -- one first; and its own entries in that history.
-pub record Standing (D : Type 0) : Type 0 where
+pub record PassState (D : Type 0) : Type 0 where
   pub lock : LockId D
   pub number : ℕ
   pub seen : List Entry
@@ -29,45 +29,45 @@ pub record Standing (D : Type 0) : Type 0 where
   pub mine : List Entry
 
 -- what a pass saw with each of its answers, and the disk's clock of then
-abbrev pub answers_of : {D : Type 0} → Standing D → List (List Entry × ℕ)
+abbrev pub answers_of : {D : Type 0} → PassState D → List (List Entry × ℕ)
 answers_of pass = (pass.seen, pass.moment) ∷ pass.earlier
 
 -- the same of all passes, one after another
-abbrev pub all_answers : {D : Type 0} → List (Standing D) → List (List Entry × ℕ)
+abbrev pub all_answers : {D : Type 0} → List (PassState D) → List (List Entry × ℕ)
 all_answers [] = []
 all_answers (pass ∷ passes) = answers_of pass ++ all_answers passes
 
 -- a pass that saw nothing
-abbrev pub new_pass : {D : Type 0} → (D → ℕ) → LockId D → ℕ → Standing D
+abbrev pub new_pass : {D : Type 0} → (D → ℕ) → LockId D → ℕ → PassState D
 new_pass moment lock number =
     record { lock = lock; number = number; seen = []; moment = first_moment moment lock.opening; earlier = []; mine = [] }
 
 -- such passes, numbered from `first` on
-abbrev pub new_passes : {D : Type 0} → (D → ℕ) → LockId D → ℕ → ℕ → List (Standing D)
+abbrev pub new_passes : {D : Type 0} → (D → ℕ) → LockId D → ℕ → ℕ → List (PassState D)
 new_passes moment lock first zero = []
 new_passes moment lock first (suc count) = new_pass moment lock first ∷ new_passes moment lock (first + 1) count
 
 -- the passes are of this lock and are numbered from `first` on
-abbrev pub ArePassesNumbered : {D : Type 0} → LockId D → ℕ → List (Standing D) → Type 0
+abbrev pub ArePassesNumbered : {D : Type 0} → LockId D → ℕ → List (PassState D) → Type 0
 ArePassesNumbered lock first [] = ⊤
 ArePassesNumbered lock first (pass ∷ passes) = (pass.lock ≡ lock) × (pass.number ≡ first) × ArePassesNumbered lock (first + 1) passes
 
 -- they are the passes with which the lock was opened
-pub record AreAll {D : Type 0} (lock : LockId D) (passes : List (Standing D)) : Type 0 where
+pub record AreAll {D : Type 0} (lock : LockId D) (passes : List (PassState D)) : Type 0 where
   pub numbered : ArePassesNumbered lock 1 passes
   pub count : length passes ≡ lock.opening.passes
 
 -- the pass has one answer more, and keeps the earlier ones
-abbrev pub HasAnswer : {D : Type 0} → Standing D → Standing D → Type 0
+abbrev pub HasAnswer : {D : Type 0} → PassState D → PassState D → Type 0
 HasAnswer old new = new.earlier ≡ answers_of old
 
 -- the pass keeps its lock and its number
-pub record KeepsName {D : Type 0} (old new : Standing D) : Type 0 where
+pub record KeepsName {D : Type 0} (old new : PassState D) : Type 0 where
   pub lock : new.lock ≡ old.lock
   pub number : new.number ≡ old.number
 
 -- the history that is now seen ends with this entry, after all that was seen before, and the pass's own entries grew by it
-pub record AddsEntry {D : Type 0} (old new : Standing D) (e : Entry) : Type 0 where
+pub record AddsEntry {D : Type 0} (old new : PassState D) (e : Entry) : Type 0 where
   pub before : List Entry
   pub began : IsPrefix old.seen before
   pub ends : new.seen ≡ before ++ e ∷ []
@@ -75,7 +75,7 @@ pub record AddsEntry {D : Type 0} (old new : Standing D) (e : Entry) : Type 0 wh
 
 -- What a pass knows after it asked: its entry with the reply, or as the halt; or where the history that it sees halts, or that it is
 -- full.
-abbrev pub Asked : {D : Type 0} → Standing D → Request → Result Reply AskFault → Standing D → Type 0
+abbrev pub Asked : {D : Type 0} → PassState D → Request → Result Reply AskFault → PassState D → Type 0
 Asked old request (Ok reply) new = AddsEntry old new (entry old.number request (Answered reply))
 Asked old request (Err (Halted at)) new = (halted_at new.seen ≡ Some at) × (new.mine ≡ old.mine)
 Asked old request (Err (Full len)) new =

@@ -6,7 +6,7 @@ use Rattle.cell_base.specs.Policy.{IsAdmitted}
 use Rattle.cell_base.specs.Fits.{CellFits, units_of}
 
 -- the cell, its parts in the order in which they came to their present stages, and the parts that were kept aside
-pub record Standing : Type 0 where
+pub record RecountState : Type 0 where
   pub cell : Cell
   pub parts : List Part
   pub kept : List Part
