@@ -1,8 +1,8 @@
 //! A line of text, made word by word.
-ghost use Rattle.std.specs.Prelude.{◌≡◌, ◌+◌, ◌≤◌, ◌∷◌, [], ◌++◌, length};
+ghost use Rattle.std.specs.Prelude.{◌≡◌, ◌+◌, ◌<◌, ◌≤◌, ◌∷◌, [], ◌++◌, length};
 ghost use Rattle.std.specs.Fmt.{decimal};
 
-use itoa::{Buffer, Integer};
+use itoa::{Buffer, Integer, write_digits};
 use std::marker::Model;
 
 /// The most bytes of a line. The longest line of a record has 143, with its newline.
@@ -175,20 +175,47 @@ impl Line {
         self.len = end;
     }
 
-    // A number of one digit or two is written in its place.
+    // The digits are counted, and written in their place: by a buffer of their own, which is cleared and copied, a plan took a thirtieth
+    // more instructions (29 November 2026).
     fn digits(&mut self, n: u32)
         requires { length self.old + 10 ≤ LINE_BYTES }
         ensures bytes { self.new ≡ self.old ++ decimal n }
         ensures len { length self.new ≤ length self.old + 10 }
     {
-        if n < 10 {
-            self.push(b'0' + n as u8);
-        } else if n < 100 {
-            self.push(b'0' + (n / 10) as u8);
-            self.push(b'0' + (n % 10) as u8);
-        } else {
-            let mut digits = Buffer::new();
-            self.append(digits.format(n).as_bytes());
-        }
+        let end = self.len + digit_count(n);
+        let _start = write_digits(u64::from(n), &mut self.bytes, end);
+        self.len = end;
+    }
+}
+
+/// How many digits a number has.
+fn digit_count(n: u32) -> usize
+    ensures count { result ≡ length (decimal n) }
+    ensures few { result ≤ 10 }
+{
+    if n < 10_000 {
+        short_count(n)
+    } else if n < 100_000_000 {
+        4 + short_count(n / 10_000)
+    } else {
+        8 + short_count(n / 100_000_000)
+    }
+}
+
+/// The same of a number of at most four.
+fn short_count(n: u32) -> usize
+    requires { n < 10000 }
+    ensures count { result ≡ length (decimal n) }
+    ensures few { result ≤ 4 }
+    ensures shorter { n < 100 → result ≤ 2 }
+{
+    if n < 10 {
+        1
+    } else if n < 100 {
+        2
+    } else if n < 1_000 {
+        3
+    } else {
+        4
     }
 }

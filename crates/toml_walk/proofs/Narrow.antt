@@ -73,3 +73,9 @@ pub found_narrow : (o : Option (Bor Value)) (key : List ℕ) (ms : Members) → 
     → IfSome o (λ v. width (view v.now) ≤ members_width ms)
 found_narrow None key ms is = tt
 found_narrow (Some v) key ms is = member_narrow key ms (view v.now) is
+
+-- the same of a value that is taken out
+pub taken_narrow : (o : Option Value) (key : List ℕ) (ms : Members) → option_map view o ≡ get_member key ms
+    → IfSome o (λ v. width (view v) ≤ members_width ms)
+taken_narrow None key ms is = tt
+taken_narrow (Some v) key ms is = member_narrow key ms (view v) is
