@@ -5,7 +5,7 @@ use Rattle.std.proofs.Math.Seq.{map-set_same}
 use Rattle.std.proofs.lemmas.List.{get_or-map, length-map}
 use Rattle.std.proofs.lemmas.Option.{same_Some, get_or_from_slice_get}
 use Rattle.part_table.specs.declared.chain.Ends.{Ends}
-use Rattle.part_table.specs.declared.chain.Link.{Link}
+use Rattle.part_table.specs.declared.link.Link.{Link}
 use Rattle.part_table.specs.declared.standing.Entry.{Entry}
 use Rattle.part_table.specs.Chains.{OFF, link_entries, nexts_of, told_key, standing_key, waiting_key}
 use Rattle.part_table.specs.Chains.{IsFirst, WasFirst, IsNextOf, AreLinked, IsChain}

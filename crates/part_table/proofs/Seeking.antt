@@ -5,7 +5,7 @@ use Rattle.std.proofs.Math.Seq.{map-set_same}
 use Rattle.std.proofs.lemmas.List.{get_or-map, length-map, map-set}
 use Rattle.std.proofs.lemmas.Option.{slice_get_within, get_or_from_slice_get}
 use Rattle.part_table.specs.declared.chain.Ends.{Ends}
-use Rattle.part_table.specs.declared.chain.Link.{Link}
+use Rattle.part_table.specs.declared.link.Link.{Link}
 use Rattle.part_table.specs.declared.standing.Entry.{Entry}
 use Rattle.part_table.specs.Chains.{OFF, link_entries, nexts_of, told_key, key_of, IsFirst, WasFirst}
 use Rattle.part_table.specs.Chains.{IsOnWay, AreLinked, IsChained, IsChain}

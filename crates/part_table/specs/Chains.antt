@@ -2,7 +2,7 @@
 use Rattle.std.specs.Prelude.{◌≡◌, ◌≢◌, ℕ, ◌<◌, ◌≤◌, Bool, if◌then◌else◌, nat_lt, List, length, map, slice_index, slice_set}
 use Rattle.std.specs.List.{All}
 use Rattle.part_table.specs.declared.chain.Ends.{Ends}
-use Rattle.part_table.specs.declared.chain.Link.{Link}
+use Rattle.part_table.specs.declared.link.Link.{Link}
 use Rattle.part_table.specs.declared.chain.TheConstants.{NOWHERE}
 use Rattle.part_table.specs.declared.standing.Entry.{Entry}
 use Rattle.part_table.specs.declared.standing.Standing.{Standing}

@@ -10,6 +10,7 @@ ghost use Rattle.part_table.specs.Logs.{gone_entry, done_entry, reseated, stayin
 ghost use Rattle.part_table.specs.Standings.{parts_of};
 ghost use Rattle.part_table.specs.declared.standing.Entry.{Entry};
 
+use crate::link::{Link, Packed};
 use crate::standing::{Entry, Standing};
 use cell_base::{List, NoMemory, Part, ResId};
 use std::alloc::Global;
@@ -17,13 +18,6 @@ use std::marker::Model;
 
 /// Past every place.
 pub const NOWHERE: u32 = u32::MAX;
-
-/// An entry, and the place of the next one that was told the same resource.
-#[derive(Clone, Copy, Debug, PartialEq, Eq)]
-pub struct Link {
-    entry: Entry,
-    next: u32,
-}
 
 /// Of the entries that were told a resource, the places of the first that stays, of the first that stays and is not done, and of the
 /// last that came.
@@ -63,7 +57,7 @@ impl Ends {
 /// The entries in the order in which they came, and the ends of each resource.
 #[derive(Drop)]
 pub struct Chain {
-    links: Vec<Link>,
+    links: Vec<Packed>,
     /// By resource.
     ends: Vec<Ends>,
 }
@@ -100,19 +94,20 @@ fn forget(ends: &mut Vec<Ends>)
 }
 
 /// The last place before a place leads to it, where there is one.
-fn lead(links: &mut Vec<Link>, last: u32, at: u32)
+#[inline(always)]
+fn lead(links: &mut Vec<Packed>, last: u32, at: u32)
     requires { at < length links.old.items }
     ensures entries { link_entries links.new.items ≡ link_entries links.old.items }
     ensures next { nexts_of links.new.items ≡ linked (nexts_of links.old.items) last at }
     ensures room { vec_capacity links.new ≡ vec_capacity links.old }
 {
     if last < at {
-        links[last as usize].next = at;
+        links[last as usize].lead_to(at);
     }
 }
 
 /// The entry at a place, which stays, has the item and leads nowhere, comes after those before it, which are linked.
-fn join(links: &mut Vec<Link>, ends: &mut Vec<Ends>, at: u32, item: Standing)
+fn join(links: &mut Vec<Packed>, ends: &mut Vec<Ends>, at: u32, item: Standing)
     requires few { length links.old.items ≤ NOWHERE }
     requires chained { IsChained (link_entries links.old.items) (nexts_of links.old.items) ends.old.items at }
     requires inside { at < length links.old.items }
@@ -132,7 +127,7 @@ fn join(links: &mut Vec<Link>, ends: &mut Vec<Ends>, at: u32, item: Standing)
 }
 
 /// All entries, which stay, are linked anew.
-fn join_all(links: &mut Vec<Link>, ends: &mut Vec<Ends>)
+fn join_all(links: &mut Vec<Packed>, ends: &mut Vec<Ends>)
     requires few { length links.old.items ≤ NOWHERE }
     requires none { AreNone ends.old.items }
     requires resources { length ends.old.items ≤ OFF }
@@ -144,21 +139,24 @@ fn join_all(links: &mut Vec<Link>, ends: &mut Vec<Ends>)
     ensures resources { length ends.new.items ≡ length ends.old.items }
 {
     for at in 0..links.len() {
-        let item = links[at].entry.item;
-        links[at].next = NOWHERE;
+        let link = &mut links[at];
+        link.lead_to(NOWHERE);
+        let item = link.entry().item;
         join(links, ends, at as u32, item);
     }
 }
 
-/// Whether an entry stays, and where `waiting`, is not done.
-fn is_sought(entry: Entry, waiting: bool) -> bool
-    ensures { result ≡ (entry.stays && not (waiting && entry.item.part.done)) }
+/// Whether the entry of a link stays, and where `waiting`, is not done.
+#[inline(always)]
+fn is_sought(link: &Packed, waiting: bool) -> bool
+    ensures { result ≡ (link.now.entry.stays && not (waiting && link.now.entry.item.part.done)) }
 {
+    let entry = link.entry();
     entry.stays && !(waiting && entry.item.part.done)
 }
 
 /// The first entry from a place on that stays, and where `waiting`, is not done.
-fn seek(links: &[Link], from: u32, waiting: bool) -> u32
+fn seek(links: &[Packed], from: u32, waiting: bool) -> u32
     requires few { length links.now ≤ NOWHERE }
     requires linked { AreLinked (link_entries links.now) (nexts_of links.now) (length links.now) }
     ensures { (r : ℕ) → r < OFF
@@ -167,17 +165,17 @@ fn seek(links: &[Link], from: u32, waiting: bool) -> u32
 {
     let mut at = from;
     while (at as usize) < links.len() {
-        let link = links[at as usize];
-        if is_sought(link.entry, waiting) {
+        let link = &links[at as usize];
+        if is_sought(link, waiting) {
             return at;
         }
-        at = link.next;
+        at = link.next();
     }
     NOWHERE
 }
 
 /// The first place of a resource, which was `first`, after the one at a place lost it.
-fn first_after(links: &[Link], first: u32, at: u32, waiting: bool) -> u32
+fn first_after(links: &[Packed], first: u32, at: u32, waiting: bool) -> u32
     requires few { length links.now ≤ NOWHERE }
     requires linked { AreLinked (link_entries links.now) (nexts_of links.now) (length links.now) }
     requires inside { at < length links.now }
@@ -186,21 +184,22 @@ fn first_after(links: &[Link], first: u32, at: u32, waiting: bool) -> u32
         → IsFirst (map (key_of waiting) (link_entries links.now)) (length links.now) r result }
 {
     if first == at {
-        seek(links, links[at as usize].next, waiting)
+        seek(links, links[at as usize].next(), waiting)
     } else {
         first
     }
 }
 
 /// The part at an index, among the entries that stay.
-fn nth(links: &[Link], i: u32) -> Option<Standing>
+fn nth(links: &[Packed], i: u32) -> Option<Standing>
     ensures { result ≡ slice_get (staying (link_entries links.now)) i }
 {
     let mut left = i;
     for link in links {
-        if link.entry.stays {
+        let entry = link.entry();
+        if entry.stays {
             if left == 0 {
-                return Some(link.entry.item);
+                return Some(entry.item);
             }
             left -= 1;
         }
@@ -209,13 +208,14 @@ fn nth(links: &[Link], i: u32) -> Option<Standing>
 }
 
 /// The parts of the entries that stay.
-fn listed(alloc: Global, links: &[Link]) -> Result<List<Part>, NoMemory>
+fn listed(alloc: Global, links: &[Packed]) -> Result<List<Part>, NoMemory>
     ensures { IfOk result (λ parts. parts ≡ parts_of (staying (link_entries links.now))) }
 {
     let mut parts = List::new(alloc);
     for link in links {
-        if link.entry.stays {
-            parts.try_push(link.entry.item.part)?;
+        let entry = link.entry();
+        if entry.stays {
+            parts.try_push(entry.item.part)?;
         }
     }
     Ok(parts)
@@ -250,11 +250,12 @@ impl Chain {
     }
 
     /// The entry at a place.
+    #[inline(always)]
     pub fn get(&self, at: u32) -> Entry
         requires { at < length self.now.entries }
         ensures { slice_get self.now.entries at ≡ Some result }
     {
-        self.links[at as usize].entry
+        self.links[at as usize].entry()
     }
 
     /// The place of the first entry of a resource that stays.
@@ -312,14 +313,15 @@ impl Chain {
         ensures resources { self.new.resources ≡ self.old.resources }
     {
         let at = self.links.len() as u32;
-        self.links.push_reserved(Link {
-            entry: Entry {
-                item,
-                stays: true,
-                seat,
-            },
+        let entry = Entry {
+            item,
+            stays: true,
+            seat,
+        };
+        self.links.push_reserved(Packed::of(Link {
+            entry,
             next: NOWHERE,
-        });
+        }));
         join(&mut self.links, &mut self.ends, at, item);
     }
 
@@ -332,8 +334,8 @@ impl Chain {
         ensures resources { self.new.resources ≡ self.old.resources }
     {
         let link = &mut self.links[at as usize];
-        let entry = link.entry;
-        link.entry.stays = false;
+        let entry = link.entry();
+        link.take_out();
         let lane = entry.item.on.0 as usize;
         let end = self.ends[lane];
         self.ends[lane] = Ends {
@@ -353,8 +355,8 @@ impl Chain {
         ensures resources { self.new.resources ≡ self.old.resources }
     {
         let link = &mut self.links[at as usize];
-        link.entry.item.part.done = true;
-        let lane = link.entry.item.on.0 as usize;
+        let lane = link.entry().item.on.0 as usize;
+        link.finish();
         let end = self.ends[lane];
         self.ends[lane] = Ends {
             waiting: first_after(&self.links, end.waiting, at, true),
@@ -370,7 +372,7 @@ impl Chain {
         ensures room { self.new.room ≡ self.old.room }
         ensures resources { self.new.resources ≡ self.old.resources }
     {
-        self.links[at as usize].entry.seat = seat;
+        self.links[at as usize].seat_at(seat);
     }
 
     /// Only the entries that stay, in their order. It takes no memory.
@@ -379,7 +381,7 @@ impl Chain {
         ensures room { self.new.room ≡ self.old.room }
         ensures resources { self.new.resources ≡ self.old.resources }
     {
-        self.links.retain(|link| link.entry.stays);
+        self.links.retain(|link| link.entry().stays);
         forget(&mut self.ends);
         join_all(&mut self.links, &mut self.ends);
     }

@@ -29,6 +29,7 @@
 mod arrivals;
 mod chain;
 mod found;
+mod link;
 mod log;
 mod parts;
 mod seats;

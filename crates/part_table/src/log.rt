@@ -116,6 +116,7 @@ impl Log {
     }
 
     /// The same, where the part may stand at a place that is told: there it is found without a look-up of its job.
+    #[inline(always)]
     pub fn place_near(&self, job: JobId, near: u32) -> Option<u32>
         ensures { MatchOption result (IsAbsent self.now.entries job) (IsPlaceOf self.now.entries job) }
     {
@@ -127,6 +128,7 @@ impl Log {
     }
 
     /// Whether an entry of the job stays at a place.
+    #[inline(always)]
     fn is_at(&self, job: JobId, at: u32) -> bool
         ensures here { result ≡ true → IsPlaceOf self.now.entries job at }
         ensures away { result ≡ false → (entry : Entry) → slice_get self.now.entries at ≡ Some entry → entry.stays ≡ true
@@ -141,6 +143,7 @@ impl Log {
     }
 
     /// The entry at a place.
+    #[inline(always)]
     pub fn get(&self, at: u32) -> Entry
         requires { at < length self.now.entries }
         ensures { slice_get self.now.entries at ≡ Some result }

@@ -1,7 +1,7 @@
 -- The ends of the entry's resource are those with one entry more.
 use Rattle.std.proofs.Common.{◌≡◌, ◌<◌, true, Some, refl, subst, sym, ap, arith, ◌∙◌}
 use Rattle.std.proofs.lemmas.List.{length-map}
-use Rattle.part_table.specs.declared.chain.Link.{Link}
+use Rattle.part_table.specs.declared.link.Link.{Link}
 use Rattle.part_table.specs.declared.standing.Entry.{Entry}
 use Rattle.part_table.specs.Chains.{link_entries, nexts_of}
 use Rattle.part_table.proofs.Chains.{chained_joined}

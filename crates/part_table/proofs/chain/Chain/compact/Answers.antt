@@ -2,7 +2,7 @@
 use Rattle.std.proofs.Common.{◌≡◌, ◌<◌, List, length, filter, ap, rules, tests, ◌∙◌}
 use Rattle.std.proofs.lemmas.Fn.{filter_same}
 use Rattle.std.proofs.lemmas.List.Elements.{filter_passes, All-filter}
-use Rattle.part_table.specs.declared.chain.Link.{Link}
+use Rattle.part_table.specs.declared.link.Link.{Link}
 use Rattle.part_table.specs.declared.standing.Entry.{Entry}
 use Rattle.part_table.specs.Chains.{link_entries, told_key}
 use Rattle.part_table.proofs.Seeking.{entries_kept, all_told}

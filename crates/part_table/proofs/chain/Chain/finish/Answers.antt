@@ -13,14 +13,14 @@ index-end-requires c =
     let inside = inside_links links c.args.at (rw (← c.self.view_is) at c.requires) in
     let lane = lane_of links c.self.inside.ends.items _ c.args.at c.index_mut-link.result.now c.self.invariant inside
     c.index_mut-link.ensures.value in
-    omega (arith, lane, c.self.inside.ends.ok.0)
+    rw c.entry-lane.ensures (omega (arith, lane, c.self.inside.ends.ok.0))
 
 pub first_after-requires-clause-linked : goal.first_after-requires-clause-linked
 first_after-requires-clause-linked c =
     let links = c.self.inside.links.items in
     let old = c.index_mut-link.result.now in
     let inside = inside_links links c.args.at (rw (← c.self.view_is) at c.requires) in
-    rw (c.deref.ensures.value)
+    rw (c.deref.ensures.value, c.finish.ensures)
     (linked_still links c.self.inside.ends.items _ c.args.at old c.self.invariant inside c.index_mut-link.ensures.value
     (done_entry old.entry) refl)
 
@@ -30,7 +30,7 @@ index_mut-requires c =
     let inside = inside_links links c.args.at (rw (← c.self.view_is) at c.requires) in
     let lane = lane_of links c.self.inside.ends.items _ c.args.at c.index_mut-link.result.now c.self.invariant inside
     c.index_mut-link.ensures.value in
-    omega (arith, lane, c.self.inside.ends.ok.0)
+    rw c.entry-lane.ensures (omega (arith, lane, c.self.inside.ends.ok.0))
 
 pub invariant_of-self : goal.invariant_of-self
 invariant_of-self c =
@@ -42,9 +42,11 @@ invariant_of-self c =
     let lane = lane_of links ends _ c.args.at old c.self.invariant inside c.index_mut-link.ensures.value in
     let below : told_key c.index_mut-link.result.now.entry < OFF = omega (arith, lane, c.self.invariant.chained.few) in
     let told = told_still links ends _ c.args.at old c.self.invariant inside c.index_mut-link.ensures.value (done_entry old.entry) refl in
-    let waiting = rw c.deref.ensures.value at (c.first_after.ensures (told_key old.entry) below) in
-    chain_done links ends _ c.args.at old c.self.invariant inside c.index_mut-link.ensures.value end c.index-end.ensures
-    (record { first = end.first; waiting = c.first_after.result; last = end.last }) refl refl (waiting told)
+    let waiting = rw (c.deref.ensures.value, c.finish.ensures) at (c.first_after.ensures (told_key old.entry) below) in
+    rw (c.finish.ensures, c.entry-lane.ensures)
+    (chain_done links ends _ c.args.at old c.self.invariant inside c.index_mut-link.ensures.value end
+    (rw c.entry-lane.ensures at c.index-end.ensures)
+    (record { first = end.first; waiting = c.first_after.result; last = end.last }) refl refl (waiting told))
 
 pub returns-clause-entries : goal.returns-clause-entries
 returns-clause-entries c entry is =
@@ -52,7 +54,7 @@ returns-clause-entries c entry is =
     let old = c.index_mut-link.result.now in
     let inside = inside_links links c.args.at (rw (← c.self.view_is) at c.requires) in
     let here = rw (← c.self.view_is) at is in
-    rw (← c.self.view_is)
+    rw (← c.self.view_is, c.finish.ensures)
     (entry_set links c.args.at old (done_entry old.entry) c.index_mut-link.ensures.value
     ∙ ap (λ (e : Entry). set (link_entries c.self.inside.links.items) c.args.at (done_entry e))
     (entry_same links c.self.inside.ends.items _ c.args.at old c.self.invariant inside c.index_mut-link.ensures.value entry here))

@@ -11,8 +11,9 @@ pub invariant_of-self : goal.invariant_of-self
 invariant_of-self c =
     let links = c.self.inside.links.items in
     let inside = inside_links links c.args.at (rw (← c.self.view_is) at c.requires) in
-    chain_seated links c.self.inside.ends.items _ c.args.at c.index_mut.result.now c.self.invariant inside c.index_mut.ensures.value
-    c.args.seat
+    rw c.seat_at.ensures
+    (chain_seated links c.self.inside.ends.items _ c.args.at c.index_mut.result.now c.self.invariant inside c.index_mut.ensures.value
+    c.args.seat)
 
 pub returns-clause-entries : goal.returns-clause-entries
 returns-clause-entries c entry is =
@@ -20,7 +21,7 @@ returns-clause-entries c entry is =
     let old = c.index_mut.result.now in
     let inside = inside_links links c.args.at (rw (← c.self.view_is) at c.requires) in
     let here = rw (← c.self.view_is) at is in
-    rw (← c.self.view_is)
+    rw (← c.self.view_is, c.seat_at.ensures)
     (entry_set links c.args.at old (reseated old.entry c.args.seat) c.index_mut.ensures.value
     ∙ ap (λ (e : Entry). set (link_entries c.self.inside.links.items) c.args.at (reseated e c.args.seat))
     (entry_same links c.self.inside.ends.items _ c.args.at old c.self.invariant inside c.index_mut.ensures.value entry here))

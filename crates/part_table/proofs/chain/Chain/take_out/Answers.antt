@@ -12,14 +12,14 @@ index-end-requires c =
     let inside = inside_links links c.args.at (rw (← c.self.view_is) at c.requires) in
     let lane = lane_of links c.self.inside.ends.items _ c.args.at c.index_mut-link.result.now c.self.invariant inside
     c.index_mut-link.ensures.value in
-    omega (arith, lane, c.self.inside.ends.ok.0)
+    rw c.entry-entry.ensures (omega (arith, lane, c.self.inside.ends.ok.0))
 
 pub first_after-requires-clause-linked : goal.first_after-requires-clause-linked
 first_after-requires-clause-linked c =
     let links = c.self.inside.links.items in
     let old = c.index_mut-link.result.now in
     let inside = inside_links links c.args.at (rw (← c.self.view_is) at c.requires) in
-    rw (c.deref.ensures.value)
+    rw (c.deref.ensures.value, c.take_out.ensures)
     (linked_still links c.self.inside.ends.items _ c.args.at old c.self.invariant inside c.index_mut-link.ensures.value
     (gone_entry old.entry) refl)
 
@@ -28,7 +28,7 @@ first_after-requires-2-clause-linked c =
     let links = c.self.inside.links.items in
     let old = c.index_mut-link.result.now in
     let inside = inside_links links c.args.at (rw (← c.self.view_is) at c.requires) in
-    rw (c.deref-2.ensures.value)
+    rw (c.deref-2.ensures.value, c.take_out.ensures)
     (linked_still links c.self.inside.ends.items _ c.args.at old c.self.invariant inside c.index_mut-link.ensures.value
     (gone_entry old.entry) refl)
 
@@ -38,7 +38,7 @@ index_mut-requires c =
     let inside = inside_links links c.args.at (rw (← c.self.view_is) at c.requires) in
     let lane = lane_of links c.self.inside.ends.items _ c.args.at c.index_mut-link.result.now c.self.invariant inside
     c.index_mut-link.ensures.value in
-    omega (arith, lane, c.self.inside.ends.ok.0)
+    rw c.entry-entry.ensures (omega (arith, lane, c.self.inside.ends.ok.0))
 
 pub invariant_of-self : goal.invariant_of-self
 invariant_of-self c =
@@ -49,19 +49,23 @@ invariant_of-self c =
     let lane = lane_of links ends _ c.args.at old c.self.invariant inside c.index_mut-link.ensures.value in
     let below : told_key c.index_mut-link.result.now.entry < OFF = omega (arith, lane, c.self.invariant.chained.few) in
     let told = told_still links ends _ c.args.at old c.self.invariant inside c.index_mut-link.ensures.value (gone_entry old.entry) refl in
-    let first = rw c.deref.ensures.value at (c.first_after.ensures (told_key old.entry) below) in
-    let waiting = rw c.deref-2.ensures.value at (c.first_after-2.ensures (told_key old.entry) below) in
-    chain_gone links ends _ c.args.at old c.self.invariant inside c.index_mut-link.ensures.value c.index-end.result.now c.index-end.ensures
+    let first = rw (c.deref.ensures.value, c.take_out.ensures) at (c.first_after.ensures (told_key old.entry) below) in
+    let waiting = rw (c.deref-2.ensures.value, c.take_out.ensures) at (c.first_after-2.ensures (told_key old.entry) below) in
+    rw (c.take_out.ensures, c.entry-entry.ensures)
+    (chain_gone links ends _ c.args.at old c.self.invariant inside c.index_mut-link.ensures.value c.index-end.result.now
+    (rw c.entry-entry.ensures at c.index-end.ensures)
     (record { first = c.first_after.result; waiting = c.first_after-2.result; last = c.index-end.result.now.last }) refl (first told)
-    (waiting told)
+    (waiting told))
 
 pub returns-clause-entry : goal.returns-clause-entry
 returns-clause-entry c =
     let links = c.self.inside.links.items in
     let inside = inside_links links c.args.at (rw (← c.self.view_is) at c.requires) in
-    rw (← c.self.view_is) (entry_read links c.args.at c.index_mut-link.result.now inside c.index_mut-link.ensures.value)
+    rw (← c.self.view_is, c.entry-entry.ensures)
+    (entry_read links c.args.at c.index_mut-link.result.now inside c.index_mut-link.ensures.value)
 
 pub returns-clause-entries : goal.returns-clause-entries
 returns-clause-entries c =
     let old = c.index_mut-link.result.now in
-    rw (← c.self.view_is) (entry_set c.self.inside.links.items c.args.at old (gone_entry old.entry) c.index_mut-link.ensures.value)
+    rw (← c.self.view_is, c.take_out.ensures, c.entry-entry.ensures)
+    (entry_set c.self.inside.links.items c.args.at old (gone_entry old.entry) c.index_mut-link.ensures.value)
