@@ -1,15 +1,22 @@
 //! Steps of one cell, many of them: a type is found by the last bytes of its name, where `read_step` compares name after name.
-ghost use Rattle.std.specs.Prelude.{◌≡◌, ◌<◌, ◌∷◌, codes, length, Ok, IfOk, IfSome};
+ghost use Rattle.std.specs.Prelude.{◌≡◌, ◌<◌, ◌∷◌, codes, length, true, Ok, IfOk, IfSome, slice_index, take};
+ghost use Rattle.std.specs.Char.{is_ascii_digit};
+ghost use Rattle.std.specs.List.{list_all};
+ghost use Rattle.std.specs.Str.Parse.{digits_value};
 ghost use Rattle.cell_base.specs.Fits.{CellFits};
 ghost use Rattle.cell_base.specs.Named.{type_name};
-ghost use Rattle.step_text.specs.Steps.{IsStep, step_of};
+ghost use Rattle.step_text.specs.Steps.{BeginsWithJob, IsStep, step_of};
 ghost use Rattle.step_text.specs.Words.{words};
 
+use crate::StepFault;
 use crate::names::are_same;
-use crate::reading::{job_of, read_step};
-use crate::{StepFault, cut};
+use crate::reading::read_step;
+use crate::words::{digit_of, is_plain};
 use cell_base::{Cell, JobId, Request, TypeId};
 use std::marker::Model;
+
+/// The most digits of a job.
+const JOB_DIGITS: usize = 10;
 
 /// Reads the steps of a cell. For each key of a name it has a guess which type that is: no two types have one name, so a guess that has
 /// the name is right, and any other costs time alone. Contracts see it as the cell.
@@ -71,15 +78,12 @@ impl<'a> StepReader<'a> {
         ensures step { IfSome result (λ request. step_of self.now text.now ≡ Ok request) }
         ensures fits { IfSome result (IsStep self.now) }
     {
-        let (job_word, rest) = cut(after_load(text)?);
-        let number = self.guess(rest?)?;
-        match job_of(job_word) {
-            Ok(job) => Some(Request::Load {
-                job: JobId(job),
-                kind: TypeId(number),
-            }),
-            Err(_) => None,
-        }
+        let (job, rest) = cut_job(after_load(text)?)?;
+        let number = self.guess(rest)?;
+        Some(Request::Load {
+            job: JobId(job),
+            kind: TypeId(number),
+        })
     }
 
     /// The request that a text asks for, as `read_step` gives it.
@@ -101,5 +105,36 @@ fn after_load(text: &[u8]) -> Option<&[u8]>
     match text {
         [b'l', b'o', b'a', b'd', b' ', rest @ ..] => Some(rest),
         _ => None,
+    }
+}
+
+// The job that a text begins with, and what stands after the space behind it: the word is cut and its digits are read in one pass.
+fn cut_job(text: &[u8]) -> Option<(u32, &[u8])>
+    ensures { IfSome result (λ found. BeginsWithJob text.now found.0 found.1.now) }
+{
+    let mut value: u64 = 0;
+    for at in 0..text.len().min(JOB_DIGITS + 1) {
+        if text[at] == b' ' {
+            return job_before(text, at, value);
+        }
+        value = value * 10 + digit_of(text[at])?;
+    }
+    None
+}
+
+// The same where so many digits, of this value, stand before the first space.
+fn job_before(text: &[u8], at: usize, value: u64) -> Option<(u32, &[u8])>
+    requires inside { at < length text.now }
+    requires space { slice_index text.now at ≡ 32 }
+    requires digits { list_all is_ascii_digit (take at text.now) ≡ true }
+    requires value { value ≡ digits_value 10 (take at text.now) }
+    ensures { IfSome result (λ found. BeginsWithJob text.now found.0 found.1.now) }
+{
+    if !is_plain(&text[..at]) {
+        return None;
+    }
+    match u32::try_from(value) {
+        Ok(job) => Some((job, &text[at + 1..])),
+        Err(_) => None,
     }
 }
