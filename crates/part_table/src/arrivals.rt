@@ -110,6 +110,7 @@ impl Arrivals {
     }
 
     /// The part of a job.
+    #[inline(always)]
     pub fn find(&self, job: JobId) -> Option<Found>
         ensures part { option_map (λ found. found.part) result ≡ part_of (parts_of self.now.items) job }
         ensures distinct { HaveDistinctJobs (parts_of self.now.items) }

@@ -74,6 +74,7 @@ impl Parts {
     }
 
     /// The part of a job, with a clue to it.
+    #[inline(always)]
     pub fn find(&self, job: JobId) -> Option<Found>
         ensures part { option_map (λ found. found.part) result ≡ part_of self.now.parts job }
         ensures distinct { HaveDistinctJobs self.now.parts }

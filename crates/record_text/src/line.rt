@@ -175,9 +175,25 @@ impl Line {
         self.len = end;
     }
 
-    // The digits are counted, and written in their place: by a buffer of their own, which is cleared and copied, a plan took a thirtieth
-    // more instructions (29 November 2026).
+    // A number of one digit or two is written in its place. The digits of a longer one are counted and then written there: by a buffer of
+    // their own, which is cleared and copied, a plan took a thirtieth more instructions (29 November 2026).
     fn digits(&mut self, n: u32)
+        requires { length self.old + 10 ≤ LINE_BYTES }
+        ensures bytes { self.new ≡ self.old ++ decimal n }
+        ensures len { length self.new ≤ length self.old + 10 }
+    {
+        if n < 10 {
+            self.push(b'0' + n as u8);
+        } else if n < 100 {
+            self.push(b'0' + (n / 10) as u8);
+            self.push(b'0' + (n % 10) as u8);
+        } else {
+            self.long_digits(n);
+        }
+    }
+
+    // The same, however many digits there are.
+    fn long_digits(&mut self, n: u32)
         requires { length self.old + 10 ≤ LINE_BYTES }
         ensures bytes { self.new ≡ self.old ++ decimal n }
         ensures len { length self.new ≤ length self.old + 10 }
