@@ -1,7 +1,7 @@
 -- What a durable cell keeps with one entry more.
 use Rattle.std.specs.Prelude.{Option, Some, None, is_some, Result, Err, Bool, true, false, cond, slice_index_or}
 use Rattle.std.specs.Option.{option_map}
-use Rattle.std.proofs.Common.{◌≡◌, ◌⊎◌, inl, inr, ℕ, ◌+◌, ◌-◌, ◌<◌, ◌≤◌, List, [], ◌∷◌, ◌++◌, length, map, refl, sym, ◌∙◌, ap, subst, arith}
+use Rattle.std.proofs.Common.{◌≡◌, ◌⊎◌, inl, inr, ℕ, ◌+◌, ◌-◌, ◌<◌, ◌≤◌, List, [], ◌∷◌, ◌++◌, length, length-append, map, refl, sym, ◌∙◌, ap, subst, arith}
 use Rattle.std.proofs.lemmas.List.{map-append, length_push}
 use Rattle.std.proofs.lemmas.List.Elements.{filter-append}
 use Rattle.atomic_table.specs.declared.badge.Badge.{Badge}
@@ -66,16 +66,18 @@ pub keeps_parts : {D : Type 0} (durable : DurableState D) (shift : ℕ) (entry :
     → KeepsParts durable first second core journal history_spare added_spare
     → new_core ≡ record { cell = durable.cell; parts = state_after_entry durable.cell (parts durable) entry.request entry.told }
     → (unsure_grant shift (entry ∷ []) ≡ None → new_journal.is_halted ≡ false) → new_journal.len ≤ journal.len + 1
+    → new_journal.len ≡ journal.len + length (grants shift (entry ∷ []))
     → new_history_spare + 1 ≡ history_spare → added_spare ≤ new_added_spare + 1
     → KeepsParts (with_entry durable new_journal.disk shift entry) first second new_core new_journal new_history_spare new_added_spare
 keeps_parts durable shift entry first second core new_core journal new_journal history_spare added_spare new_history_spare
-    new_added_spare keeps core_is runs len history_room added_room =
+    new_added_spare keeps core_is runs len count history_room added_room =
     let more : length (durable.history ++ entry ∷ []) ≡ length durable.history + 1 = length_push durable.history entry in
     record {
       first = keeps.first;
       second = keeps.second;
       state = core_is ∙ ap (λ ps. state_of ps) (sym (after-push durable.cell (first_parts durable) durable.history entry));
       runs = runs;
+      count = omega (arith, keeps.count, count, length-append durable.added (grants shift (entry ∷ [])));
       few = omega (arith, keeps.few, more, len);
       history_room = omega (arith, keeps.history_room, more, history_room);
       added_room = omega (arith, keeps.added_room, more, added_room);

@@ -67,14 +67,15 @@ pub record KeepsDisk {D : Type 0} (reads_as : D → Option (List ℕ)) (may_leav
   pub read : OnlyReads reads_as may_leave moment left_since durable.entry durable.found
   pub any_moment : IfSome (reads_as durable.disk) (λ _. LeavesOnly moment left_since durable.found durable.disk (StandsBetween durable))
 
--- The badges have the two earlier disks, the core stands after the history, the journal runs until a writing fails, and no shelf gets
--- full.
+-- The badges have the two earlier disks, the core stands after the history, the journal runs until a writing fails and has the grants of
+-- the opening and those since, and no shelf gets full.
 pub record KeepsParts {D : Type 0} (durable : DurableState D) (entry found : Badge D) (core : CoreState) (journal : JournalState D)
     (history_spare added_spare : ℕ) : Type 0 where
   pub first : entry.views ≡ durable.entry ∷ []
   pub second : found.views ≡ durable.found ∷ []
   pub state : core ≡ record { cell = durable.cell; parts = parts durable }
   pub runs : durable.unsure ≡ None → journal.is_halted ≡ false
+  pub count : journal.len ≡ length durable.opening + length durable.added
   pub few : journal.len + durable.limit ≤ 2 * MAX_ROOM + length durable.history
   pub history_room : durable.limit ≤ length durable.history + history_spare
   pub added_room : durable.limit ≤ length durable.history + added_spare

@@ -9,5 +9,5 @@ pub mod Openings
 pub mod Replays
 pub mod Resumed
 pub mod Reserved
-pub mod Restored
+pub mod StoredGrants
 pub mod Clauses

@@ -8,7 +8,7 @@ use Rattle.shift_recovery.specs.Replayed.{opened_as}
 use Rattle.durable_cell.specs.declared.stored.Stored.{Stored}
 use Rattle.durable_cell.specs.declared.resumed.Resumed.{Resumed}
 use Rattle.durable_cell.specs.declared.resumed.Resumed.TheVariants.{Open, Refused, Device, Memory}
-use Rattle.durable_cell.specs.Restored.{IsCore, IsStored, disk_stored}
+use Rattle.durable_cell.specs.StoredGrants.{IsCore, IsStored, disk_stored}
 
 -- the disk that an answer has
 abbrev pub disk_resumed : {D K : Type 0} → Resumed D K → D

@@ -1,20 +1,22 @@
 //! The durable cell.
-ghost use Rattle.std.specs.Prelude.{◌≡◌, ◌≤◌, ℕ, List as Sequence, Some, length, IfOk, IfSome};
+ghost use Rattle.std.specs.Prelude.{◌≡◌, ◌≤◌, ℕ, List as Sequence, [], Some, length, IfOk, IfSome};
 ghost use Rattle.durable_cell.specs.Clauses.{AreDue, CellFits, Grant, Granted, IsAdmitted, IsLegal, IsReserved, RequestFits, StandsFor};
 ghost use Rattle.durable_cell.specs.Clauses.{first_parts, opened_as, parts, reply_to};
 ghost use Rattle.durable_cell.specs.Acknowledged.{HasSince, MovesSafely};
 ghost use Rattle.durable_cell.specs.Asked.{Answers, GoesOn, HasAskCause, WritesGrants, entry};
 ghost use Rattle.durable_cell.specs.Kept.{KeepsHistory, KeepsDisk};
-ghost use Rattle.durable_cell.specs.Openings.{IsNew, IsAnswer, IsFound, HasCause, Leaves};
+ghost use Rattle.durable_cell.specs.Openings.{IsNew, IsAnswer, IsFound, HasCause, HasTaken, Leaves};
 
 use crate::marks::mark_of;
-use crate::{AskFault, Finished, MAX_ROOM, Opening, Restored, restore};
+use crate::recalled::{Recalled, Recalling};
+use crate::{AskFault, Finished, MAX_ROOM, Opening, Resumed, resume};
 use admission_core::Core;
 use atomic_table::Badge;
 use cell_base::{Cell, Entry, Grant, List, NoMemory, Reply, Request, Shelf, Told};
 use move_journal::{Journal, MAX_CELL_TEXT};
 use outside_io::Disk;
 use policy_laws::refusal_law;
+use shift_recovery::Taker;
 use std::alloc::Global;
 use std::marker::Model;
 
@@ -26,7 +28,7 @@ pub struct Durable<D: Disk> {
     core: Core,
     text: List<u8>,
     journal: Journal<D>,
-    opening: List<Grant>,
+    opening: Recalled,
     history: Shelf<Entry>,
     added: Shelf<Grant>,
     unsure: Option<Grant>,
@@ -57,10 +59,10 @@ impl<D: Disk> Model for Durable<D> {
 
     ghost Value = { DurableState D };
 
-    ghost view = { λ s. seen s.entry s.found s.core s.text s.journal s.opening s.history.items s.added.items s.unsure s.limit };
+    ghost view = { λ s. seen s.entry s.found s.core s.text s.journal s.opening.items s.history.items s.added.items s.unsure s.limit };
 
     ghost invariant = { λ s. Keeps D.reads_as D.may_leave D.moment D.left_since D.faults
-        (seen s.entry s.found s.core s.text s.journal s.opening s.history.items s.added.items s.unsure s.limit)
+        (seen s.entry s.found s.core s.text s.journal s.opening.items s.history.items s.added.items s.unsure s.limit)
         s.entry s.found s.core s.journal s.history.spare s.added.spare };
 }
 
@@ -91,22 +93,26 @@ fn reserve<D: Disk>(
 }
 
 impl<D: Disk> Durable<D> {
-    /// The cell after the grants that stand on a disk with this cell text, if there are at most `room` of them. At most `limit`
-    /// requests may be decided. A disk that holds no journal gets one of no grants, as the last step.
-    pub fn open(
+    /// The cell after the grants that stand on a disk with this cell text, if there are at most `room` of them, each of which is
+    /// handed on as it is read. At most `limit` requests may be decided. A disk that holds no journal gets one of no grants, as the
+    /// last step.
+    pub fn open<K: Taker + Drop>(
         alloc: Global,
         cell: Cell,
         cell_text: &[u8],
         disk: D,
         room: u64,
         limit: u64,
-    ) -> Opening<D>
+        kept: K,
+    ) -> Opening<D, K>
         requires fits { CellFits cell }
         requires text { length cell_text.now ≤ MAX_CELL_TEXT }
         requires room { room ≤ MAX_ROOM }
         requires limit { limit ≤ MAX_ROOM }
+        requires none { (first : ℕ) → K.took kept first [] kept }
         ensures new { IsNew cell cell_text.now disk limit result }
         ensures exact { IfSome (D.reads_as disk) (λ file. IsAnswer result (opened_as cell file cell_text.now room)) }
+        ensures taken { HasTaken K.took kept result }
         ensures cause { HasCause D.faults disk result }
         ensures leaves { Leaves D.reads_as D.may_leave D.moment D.left_since D.faults disk cell_text.now result }
 
@@ -117,36 +123,40 @@ impl<D: Disk> Durable<D> {
         let Ok(entry) = mark_of(alloc, &disk) else {
             return Opening::Memory { disk };
         };
-        match restore(alloc, cell, cell_text, disk, room) {
-            Restored::Open {
-                core,
-                stored,
-                grants,
-            } => {
+        let recalling = Recalling {
+            grants: Recalled::none(),
+            kept,
+        };
+        match resume(alloc, cell, cell_text, disk, room, recalling) {
+            Resumed::Open { core, stored, kept } => {
                 let Ok(shelves) = reserve(alloc, stored.disk(), cell_text, limit) else {
                     return Opening::Memory {
                         disk: stored.into_disk(),
                     };
                 };
+                let Recalling { grants, kept } = kept;
                 match stored.into_journal(cell_text) {
-                    Ok(journal) => Opening::Open(Durable {
-                        entry,
-                        found: shelves.found,
-                        core,
-                        text: shelves.text,
-                        journal,
-                        opening: grants,
-                        history: shelves.history,
-                        added: shelves.added,
-                        unsure: None,
-                        limit,
-                    }),
+                    Ok(journal) => Opening::Open {
+                        durable: Durable {
+                            entry,
+                            found: shelves.found,
+                            core,
+                            text: shelves.text,
+                            journal,
+                            opening: grants,
+                            history: shelves.history,
+                            added: shelves.added,
+                            unsure: None,
+                            limit,
+                        },
+                        kept,
+                    },
                     Err(disk) => Opening::Device { disk },
                 }
             }
-            Restored::Refused { disk, why } => Opening::Refused { disk, why },
-            Restored::Device { disk } => Opening::Device { disk },
-            Restored::Memory { disk } => Opening::Memory { disk },
+            Resumed::Refused { disk, why } => Opening::Refused { disk, why },
+            Resumed::Device { disk } => Opening::Device { disk },
+            Resumed::Memory { disk } => Opening::Memory { disk },
         }
     }
 
@@ -214,11 +224,11 @@ impl<D: Disk> Durable<D> {
         }
     }
 
-    /// The grants for which the disk stood at the opening.
-    pub fn opening(&self) -> &[Grant]
-        ensures { result.now ≡ self.now.opening }
+    /// The number of the grants for which the disk stood at the opening.
+    pub fn held(&self) -> u64
+        ensures { result ≡ length self.now.opening }
     {
-        self.opening.as_slice()
+        self.journal.len() - self.added.len()
     }
 
     /// The decided requests since the opening, in their order.
@@ -257,13 +267,14 @@ impl<D: Disk> Durable<D> {
         ensures kept { KeepsHistory self }
         ensures keeps_disk { KeepsDisk D.reads_as D.may_leave D.moment D.left_since D.faults self }
     {
+        let after = self.held();
         let Durable {
             entry: _,
             found: _,
             core,
             text: _,
             journal,
-            opening,
+            opening: _,
             history,
             added: _,
             unsure: _,
@@ -273,7 +284,7 @@ impl<D: Disk> Durable<D> {
             disk: journal.into_disk(),
             core,
             history: history.into_list(),
-            after: opening.len(),
+            after,
         }
     }
 }

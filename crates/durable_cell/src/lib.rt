@@ -1,8 +1,8 @@
 //! A cell whose grants are on a disk: the core and the journal in one type, so that neither is ahead of the other.
 //!
 //! ```rust
-//! match Durable::open(alloc, cell, b"cell", disk, 8, 5) {
-//!     Opening::Open(durable) => Ok(durable),         // after the grants that stand on the disk
+//! match Durable::open(alloc, cell, b"cell", disk, 8, 5, Unkept) {
+//!     Opening::Open { durable, .. } => Ok(durable),  // after the grants that stand on the disk
 //!     Opening::Refused { .. } => Err(Fail::from("no journal of this cell")),
 //!     Opening::Device { .. } => Err(Fail::from("the device failed")),
 //!     Opening::Memory { .. } => Err(Fail::from("no memory")),
@@ -21,8 +21,8 @@
 //! that one grant is on the disk, the core goes on without it, and every later `ask` is answered `Halted`, until the disk is
 //! opened again.
 //!
-//! `restore` is the first half of `open`: it reads a disk and replays its grants, and writes nothing. `resume` is the same for
-//! grants that need not be kept.
+//! `resume` is the first half of `open`: it reads a disk and replays its grants, and writes nothing. Both hand each grant on as it is
+//! read, and keep no list of them: an opened cell knows how many there are, and contracts alone know which.
 #![tactic(auto)]
 
 mod durable;
@@ -30,8 +30,8 @@ mod fault;
 mod finished;
 mod marks;
 mod opening;
+mod recalled;
 mod replays;
-mod restored;
 mod resumed;
 mod stored;
 
@@ -40,6 +40,5 @@ pub use fault::AskFault;
 pub use finished::Finished;
 pub use opening::Opening;
 pub use replays::MAX_ROOM;
-pub use restored::{Restored, restore};
 pub use resumed::{Resumed, resume};
 pub use stored::Stored;

@@ -2,7 +2,7 @@
 ghost use Rattle.std.specs.Prelude.{◌≡◌, ◌≤◌, ℕ, List as Sequence, length};
 ghost use Rattle.cell_base.specs.declared.shifts.Grant.{Grant};
 ghost use Rattle.durable_cell.specs.Made.{IsMade};
-ghost use Rattle.durable_cell.specs.Restored.{disk_stored, IsStored};
+ghost use Rattle.durable_cell.specs.StoredGrants.{disk_stored, IsStored};
 
 use move_journal::{Blank, Journal, MAX_CELL_TEXT};
 use outside_io::Disk;

@@ -1,10 +1,15 @@
--- The disk was only read until a journal is made on it.
-use Rattle.std.proofs.Common.{ℕ, [], ◌∷◌, inr, sym, ◌∙◌, ap, subst}
+-- The disk was only read until a journal is made on it, and what was recalled are the grants that were read.
+use Rattle.std.specs.Prelude.{Ok, Result}
+use Rattle.std.proofs.Common.{◌≡◌, ℕ, List, [], ◌∷◌, inr, sym, ◌∙◌, ap, subst}
+use Rattle.cell_base.specs.declared.shifts.Grant.{Grant}
 use Rattle.admission_core.specs.CoreState.{CoreState}
 use Rattle.outside_io.specs.Causes.{Rose}
+use Rattle.outside_io.specs.Telling.{told}
+use Rattle.shift_recovery.proofs.Replaying.{stands_opened}
+use Rattle.shift_recovery.proofs.Standing.{stands_found}
 use Rattle.durable_cell.specs.DurableState.{DurableState}
 use Rattle.durable_cell.specs.Kept.{Keeps}
-use Rattle.durable_cell.specs.Restored.{disk_stored}
+use Rattle.durable_cell.specs.StoredGrants.{disk_stored, IsCore, IsStored}
 use Rattle.durable_cell.proofs.Opened.{history_opened, parts_opened, seen_fresh, disk_opened, unmade_since}
 use Rattle.durable_cell.proofs.durable.Durable.open.Goals as goal
 
@@ -12,11 +17,16 @@ pub invariant_of-result : goal.invariant_of-result
 invariant_of-result g c =
     let cell = c.args.cell in let text = c.args.cell_text.now in let disk = c.args.disk in let limit = c.args.limit in
     let found = disk_stored c.in-Open.stored in
-    let grants = c.in-Open.grants in let core = c.in-Open.core in let journal = c.in-Ok-into_journal.journal in
+    let resumed = c.in-Open.ensures.resumed in
+    let grants = c.in-Open.kept.grants.items in let core = c.in-Open.core in let journal = c.in-Ok-into_journal.journal in
+    let recalled : grants ≡ resumed.grants = resumed.taken.0 in
     let shelves = c.in-Ok-reserve.shelves in let reserved = c.in-Ok-reserve.ensures in
     let is_found = reserved.found ∙ ap (λ (d : _). d ∷ []) c.disk.ensures in
-    let is_core = c.in-Open.ensures.core in
-    let made = c.in-Ok-into_journal.ensures grants c.in-Open.ensures.holds in
+    let is_core : IsCore cell c.args.room core grants = subst (λ (gs : List Grant). IsCore cell c.args.room core gs) (sym recalled)
+    resumed.core in
+    let holds : IsStored g.D.Disk.reads_as g.D.Disk.may_leave text grants c.in-Open.stored =
+    subst (λ (gs : List Grant). IsStored g.D.Disk.reads_as g.D.Disk.may_leave text gs c.in-Open.stored) (sym recalled) resumed.holds in
+    let made = c.in-Ok-into_journal.ensures grants holds in
     let is_fresh = seen_fresh c.in-Ok.entry shelves.found disk found cell core text shelves.text journal grants shelves.history.items
     shelves.added.items limit c.in-Ok.ensures is_found (ap (λ (k : CoreState). k.cell) is_core.state) reserved.text_is
     reserved.no_history reserved.none_added in
@@ -33,13 +43,28 @@ invariant_of-result g c =
 pub returns-in-Err-clause-cause : goal.returns-in-Err-clause-cause
 returns-in-Err-clause-cause g c =
     subst (λ (n : ℕ). Rose n (g.D.Disk.faults c.in-Err.disk)) c.in-Open.ensures.cause
-    (c.in-Err.ensures c.in-Open.grants c.in-Open.ensures.holds).1
+    (c.in-Err.ensures c.in-Open.ensures.resumed.grants c.in-Open.ensures.resumed.holds).1
 
 pub returns-in-Err-clause-leaves : goal.returns-in-Err-clause-leaves
 returns-in-Err-clause-leaves g c =
     inr (unmade_since g.D.Disk.reads_as g.D.Disk.may_leave g.D.Disk.moment g.D.Disk.left_since g.D.Disk.faults c.args.disk
     (disk_stored c.in-Open.stored) c.in-Err.disk c.args.cell_text.now c.in-Open.ensures.reads
-    (c.in-Err.ensures c.in-Open.grants c.in-Open.ensures.holds).0)
+    (c.in-Err.ensures c.in-Open.ensures.resumed.grants c.in-Open.ensures.resumed.holds).0)
 
 pub returns-in-Ok-into_journal-clause-leaves : goal.returns-in-Ok-into_journal-clause-leaves
 returns-in-Ok-into_journal-clause-leaves g c = (invariant_of-result g c).1
+
+pub returns-in-Ok-into_journal-clause-stands : goal.returns-in-Ok-into_journal-clause-stands
+returns-in-Ok-into_journal-clause-stands g c file grants is stands due fits =
+    let cell = c.args.cell in let text = c.args.cell_text.now in
+    let opened = stands_opened cell file text c.args.room grants due (stands_found file text c.args.room grants stands fits) in
+    let exact = told _ _ file is c.in-Open.ensures.resumed.opened in
+    let recalled = c.in-Open.ensures.resumed.taken.0 in
+    cc (opened, exact, recalled)
+
+pub returns-in-Refused-clause-stands : goal.returns-in-Refused-clause-stands
+returns-in-Refused-clause-stands g c file grants is stands due fits =
+    let cell = c.args.cell in let text = c.args.cell_text.now in
+    let opened = stands_opened cell file text c.args.room grants due (stands_found file text c.args.room grants stands fits) in
+    let exact = told _ _ file is c.in-Refused.ensures.resumed in
+    cc (opened, exact)

@@ -5,7 +5,7 @@ use Rattle.move_journal.specs.Blanks.{IsBlank}
 use Rattle.durable_cell.specs.declared.stored.Stored.{Stored}
 use Rattle.durable_cell.specs.declared.stored.Stored.TheVariants as stored
 use Rattle.durable_cell.specs.Made.{IsMade}
-use Rattle.durable_cell.specs.Restored.{disk_stored, IsStored}
+use Rattle.durable_cell.specs.StoredGrants.{disk_stored, IsStored}
 use Rattle.durable_cell.proofs.Making.{made_blank}
 use Rattle.durable_cell.proofs.stored.Stored.into_journal.Goals as goal
 

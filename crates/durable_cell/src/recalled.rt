@@ -1,0 +1,64 @@
+//! The grants of an opening, as contracts see them: nothing keeps them at run time.
+ghost use base.Fml.{ftrue};
+ghost use Rattle.std.specs.Prelude.{◌≡◌, List, [], ◌∷◌, ◌++◌};
+ghost use Rattle.cell_base.specs.declared.shifts.Grant.{Grant as OneGrant};
+
+use cell_base::{Grant, NoMemory};
+use shift_recovery::Taker;
+use std::marker::{Model, PhantomData};
+
+/// Grants that were taken one after the other. It has no bytes: contracts alone read `items`.
+pub(crate) struct Recalled {
+    marker: PhantomData<Grant>,
+    pub(crate) ghost items: { List OneGrant },
+}
+
+impl Model for Recalled {
+    ghost also_owns = { λ _. ftrue };
+}
+
+impl Recalled {
+    /// No grants.
+    pub(crate) fn none() -> Recalled
+        ensures { result.items ≡ [] }
+    {
+        Recalled {
+            marker: PhantomData,
+        }
+    }
+
+    /// Some grants, and one more.
+    pub(crate) fn with(earlier: &Recalled, grant: &Grant) -> Recalled
+        ensures { result.items ≡ earlier.now.items ++ grant.now ∷ [] }
+    {
+        let _ = earlier;
+        let _ = grant;
+        Recalled {
+            marker: PhantomData,
+        }
+    }
+}
+
+impl Drop for Recalled {
+    fn drop(self) {
+        let Self { marker: _ } = self;
+    }
+}
+
+unsafe impl Send for Recalled {}
+
+/// Recalls what it hands on.
+#[derive(Drop)]
+pub(crate) struct Recalling<K> {
+    pub(crate) grants: Recalled,
+    pub(crate) kept: K,
+}
+
+impl<K: Taker> Taker for Recalling<K> {
+    ghost took = { λ start first grants now. (now.grants.items ≡ grants) × K.took start.kept first grants now.kept };
+
+    fn take(&mut self, at: u64, grant: Grant) -> Result<(), NoMemory> {
+        self.grants = Recalled::with(&self.grants, &grant);
+        self.kept.take(at, grant)
+    }
+}
