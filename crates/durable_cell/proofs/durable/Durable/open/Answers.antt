@@ -1,5 +1,4 @@
 -- The disk was only read until a journal is made on it, and what was recalled are the grants that were read.
-use Rattle.std.specs.Prelude.{Ok, Result}
 use Rattle.std.proofs.Common.{◌≡◌, ℕ, List, [], ◌∷◌, inr, sym, ◌∙◌, ap, subst}
 use Rattle.cell_base.specs.declared.shifts.Grant.{Grant}
 use Rattle.admission_core.specs.CoreState.{CoreState}
