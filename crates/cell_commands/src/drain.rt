@@ -11,6 +11,7 @@ use cell_texts::{CellFile, CommandEnd, read_cell};
 use durable_cell::{Durable, MAX_ROOM};
 use journal_texts::{Closed, Made, Recorded, open_journal, print_recorded, record_of};
 use outside_io::{Disk, Files, Sink};
+use shift_recovery::Unkept;
 use std::alloc::Global;
 
 /// The most steps of a plan: 128 for each of the 4,096 units of a cell.
@@ -62,9 +63,9 @@ fn drain_journal<D: Disk>(alloc: Global, held: CellFile, disk: D) -> Made<Record
         (recorded_or_early result.made) }
     ensures fits { IfOk result.made EntriesFit }
 {
-    match open_journal(alloc, held, disk, MAX_ROOM, MAX_PLAN) {
-        Ok(durable) => {
-            let Closed { recorded, disk } = drain_all(durable);
+    match open_journal(alloc, held, disk, MAX_ROOM, MAX_PLAN, Unkept) {
+        Ok(opened) => {
+            let Closed { recorded, disk } = drain_all(opened.durable);
             Made {
                 made: Ok(recorded),
                 disk,

@@ -1,5 +1,5 @@
 //! A journal that is opened to be added to.
-ghost use Rattle.std.specs.Prelude.{◌≡◌, ◌≤◌, length, Ok, IfOk, IfErr, IfSome};
+ghost use Rattle.std.specs.Prelude.{◌≡◌, ◌≤◌, ℕ, [], length, Ok, IfOk, IfErr, IfSome};
 ghost use Rattle.durable_cell.specs.Openings.{fresh};
 ghost use Rattle.shift_recovery.specs.Replayed.{opened_as};
 ghost use Rattle.durable_cell.specs.declared.replays.TheConstants.{MAX_ROOM};
@@ -12,7 +12,15 @@ use cell_texts::CellFile;
 use cell_walks::EarlyEnd;
 use durable_cell::{Durable, Opening};
 use outside_io::Disk;
+use shift_recovery::Taker;
 use std::alloc::Global;
+
+/// A journal that was opened to be added to, and what is kept of its grants.
+#[derive(Drop)]
+pub struct OpenedJournal<D: Disk, K> {
+    pub durable: Durable<D>,
+    pub kept: K,
+}
 
 /// Why a journal was not opened, and the disk that was handed in.
 #[derive(Drop)]
@@ -21,29 +29,33 @@ pub struct Unopened<D> {
     pub disk: D,
 }
 
-/// The durable cell after the grants of a journal that has at most `room` of them, or the end in its place. At most `limit` requests
-/// may be decided.
-pub fn open_journal<D: Disk>(
+/// The durable cell after the grants of a journal that has at most `room` of them, each of which is handed on as it is read, or the end
+/// in its place. At most `limit` requests may be decided.
+pub fn open_journal<D: Disk, K: Taker + Drop>(
     alloc: Global,
     held: CellFile,
     disk: D,
     room: u64,
     limit: u64,
-) -> Result<Durable<D>, Unopened<D>>
+    kept: K,
+) -> Result<OpenedJournal<D, K>, Unopened<D>>
     requires fits { CellFits held.cell }
     requires short { length held.text.items ≤ MAX_CELL_BYTES }
     requires room { room ≤ MAX_ROOM }
     requires limit { limit ≤ MAX_ROOM }
-    ensures new { IfOk result (λ durable. durable ≡ fresh held.cell held.text.items disk durable.found durable.disk durable.opening limit) }
-    ensures opening { IfOk result (λ durable.
-        IfSome (D.reads_as disk) (λ file. opened_as held.cell file held.text.items room ≡ Ok durable.opening)) }
+    requires none { (first : ℕ) → K.took kept first [] kept }
+    ensures new { IfOk result (λ opened. let durable = opened.durable in
+        durable ≡ fresh held.cell held.text.items disk durable.found durable.disk durable.opening limit) }
+    ensures opening { IfOk result (λ opened.
+        IfSome (D.reads_as disk) (λ file. opened_as held.cell file held.text.items room ≡ Ok opened.durable.opening)) }
+    ensures taken { IfOk result (λ opened. (first : ℕ) × K.took kept first opened.durable.opening opened.kept) }
     ensures ended { IfErr result (λ unopened.
         IsNotOpened (disk_told D.reads_as D.may_leave D.moment D.left_since D.faults disk unopened.disk) (to_add (known held) room)
         unopened.end) }
 {
     let CellFile { cell, text } = held;
-    match Durable::open(alloc, cell, &text, disk, room, limit) {
-        Opening::Open(durable) => Ok(durable),
+    match Durable::open(alloc, cell, &text, disk, room, limit, kept) {
+        Opening::Open { durable, kept } => Ok(OpenedJournal { durable, kept }),
         Opening::Refused { disk, why } => Err(Unopened {
             end: at_journal_fault(why),
             disk,
