@@ -6,4 +6,5 @@ pub mod Making
 pub mod Moving
 pub mod Opened
 pub mod Replaying
+pub mod Tokens
 pub mod Unasked

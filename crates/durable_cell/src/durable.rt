@@ -123,11 +123,7 @@ impl<D: Disk> Durable<D> {
         let Ok(entry) = mark_of(alloc, &disk) else {
             return Opening::Memory { disk };
         };
-        let recalling = Recalling {
-            grants: Recalled::none(),
-            kept,
-        };
-        match resume(alloc, cell, cell_text, disk, room, recalling) {
+        match resume(alloc, cell, cell_text, disk, room, Recalling::of(kept)) {
             Resumed::Open { core, stored, kept } => {
                 let Ok(shelves) = reserve(alloc, stored.disk(), cell_text, limit) else {
                     return Opening::Memory {

@@ -54,6 +54,19 @@ pub(crate) struct Recalling<K> {
     pub(crate) kept: K,
 }
 
+impl<K> Recalling<K> {
+    /// No grants yet.
+    pub(crate) fn of(kept: K) -> Recalling<K>
+        ensures none { result.grants.items ≡ [] }
+        ensures kept { result.kept ≡ kept }
+    {
+        Recalling {
+            grants: Recalled::none(),
+            kept,
+        }
+    }
+}
+
 impl<K: Taker> Taker for Recalling<K> {
     ghost took = { λ start first grants now. (now.grants.items ≡ grants) × K.took start.kept first grants now.kept };
 
