@@ -1,17 +1,25 @@
--- A disk that was read, and holds a journal of the grants for which it stood.
+-- What was resumed, and a live cell that is made of it.
 use Rattle.std.specs.Prelude.{Option, IfSome}
-use Rattle.std.proofs.Common.{ℕ, List, subst}
+use Rattle.std.proofs.Common.{◌≡◌, ℕ, List, [], subst}
+use Rattle.cell_base.specs.declared.cells.Cell.{Cell}
 use Rattle.cell_base.specs.declared.shifts.Grant.{Grant}
+use Rattle.admission_core.specs.CoreState.{CoreState}
 use Rattle.outside_io.specs.Disk.{Turns, LeavesOnly}
+use Rattle.move_journal.specs.Groups.{GroupState}
 use Rattle.move_journal.specs.Journals.{StandsFor}
 use Rattle.move_journal.specs.Kept.{JournalState}
 use Rattle.shift_recovery.specs.Reads.{OnlyReads}
 use Rattle.durable_cell.specs.Made.{IsJournalOf}
-use Rattle.live_cell.specs.Openings.{IsOpened}
+use Rattle.durable_cell.specs.Resumed.{IsOpenedAfter}
+use Rattle.durable_cell.specs.StoredGrants.{disk_stored}
+use Rattle.durable_cell.specs.declared.stored.Stored.{Stored}
+use Rattle.live_cell.specs.LiveState.{seen}
+use Rattle.live_cell.specs.Openings.{IsLiveAfter, IsOpened}
 
 module _ {D : Type 0} (reads_as : D → Option (List ℕ)) (may_leave : D → List ℕ → Type 0) (moment : D → ℕ)
     (left_since : D → ℕ → List ℕ → Type 0) (faults : D → ℕ) where
-  pub opened : (old found : D) (text : List ℕ) (grants : List Grant) (journal : JournalState D)
+  -- a disk that was read, and holds a journal of the grants for which it stood
+  opened : (old found : D) (text : List ℕ) (grants : List Grant) (journal : JournalState D)
       → OnlyReads reads_as may_leave moment left_since old found
       → IsJournalOf reads_as may_leave moment left_since faults found text grants journal
       → IsOpened reads_as may_leave moment left_since old text grants journal.disk
@@ -22,4 +30,30 @@ module _ {D : Type 0} (reads_as : D → Option (List ℕ)) (may_leave : D → Li
     stands = made.stands;
     any_moment = subst (λ (o : Option (List ℕ)). IfSome o (λ _. LeavesOnly moment left_since found journal.disk
         (λ file. StandsFor file text grants))) read.same made.any_moment;
+  }
+
+  -- with an empty group it is a live cell after these grants
+  pub live_after : {K : Type 0} (cell : Cell) (text : List ℕ) (room most : ℕ) (took : K → ℕ → List Grant → K → Type 0) (disk : D) (old : K)
+      (core : CoreState) (held : Stored D) (new : K) (journal : JournalState D) (group : GroupState)
+      (resumed : IsOpenedAfter reads_as may_leave disk cell text room took old core held new)
+      → OnlyReads reads_as may_leave moment left_since disk (disk_stored held)
+      → IsJournalOf reads_as may_leave moment left_since faults (disk_stored held) text resumed.grants journal
+      → group ≡ record { grants = []; spare = most }
+      → IsLiveAfter reads_as may_leave moment left_since cell text room most took disk old resumed.grants (seen core journal group room) new
+  live_after cell text room most took disk old core held new journal group resumed read made none = record {
+    state = λ i. record {
+      cell = (resumed.core.state i).cell;
+      parts = (resumed.core.state i).parts;
+      disk = journal.disk;
+      len = made.len i;
+      pending = (none i).grants;
+      spare = (none i).spare;
+      room = room;
+      is_halted = made.runs i;
+    };
+    due = resumed.core.due;
+    few = resumed.core.few;
+    taken = (resumed.first, resumed.taken);
+    exact = resumed.opened;
+    stands = opened disk (disk_stored held) text resumed.grants journal read made;
   }

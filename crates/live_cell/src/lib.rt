@@ -1,8 +1,8 @@
 //! A cell whose grants are on a disk, without a history: requests are decided one by one, and made stable in groups.
 //!
 //! ```text
-//! let (mut live, opening) = match LiveCell::open(alloc, cell, cell_text, disk, room, 512) {
-//!     LiveOpening::Open { live, grants } => (live, grants),    // after the grants that stand on the disk
+//! let mut live = match LiveCell::open(alloc, cell, cell_text, disk, room, 512, Unkept) {
+//!     LiveOpening::Open { live, .. } => live,        // after the grants that stand on the disk
 //!     LiveOpening::Refused { disk, why } => ..,      // the file is damaged, of another cell, or of another program
 //!     LiveOpening::Device { disk } => ..,
 //!     LiveOpening::Memory { disk } => ..,
@@ -12,12 +12,12 @@
 //! live.commit()?;                                 // both are stable, and may be told
 //! ```
 //!
-//! `open` recovers what stands on the disk, replays it, takes all memory, and last makes a journal where there is none. `ask`
-//! decides a request by the core, after all that were asked before it; a grant is applied and stays pending until `commit`,
-//! which writes all pending grants by as many calls of the device as one takes. At each moment of a commit each image that a crash
-//! may leave has all of them or none, and from its `Ok` on each image has them all, whatever comes later. An answer is to be
-//! told only after the commit. Where a commit fails nobody knows whether the pending grants are on the disk: none was told, and
-//! nothing more may be asked until the disk is opened again.
+//! `open` recovers what stands on the disk, replays it and hands each grant on as it is read, takes all memory, and last makes
+//! a journal where there is none. `ask` decides a request by the core, after all that were asked before it; a grant is applied
+//! and stays pending until `commit`, which writes all pending grants by as many calls of the device as one takes. At each
+//! moment of a commit each image that a crash may leave has all of them or none, and from its `Ok` on each image has them all,
+//! whatever comes later. An answer is to be told only after the commit. Where a commit fails nobody knows whether the pending
+//! grants are on the disk: none was told, and nothing more may be asked until the disk is opened again.
 //!
 //! What was asked is not kept, so memory doesn't grow: the clauses speak of the grants for which the disk stands as the caller
 //! knows them. A request is turned away only where it would be granted and the journal has no room for one grant more.

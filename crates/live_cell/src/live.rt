@@ -9,9 +9,10 @@ ghost use Rattle.live_cell.specs.LiveState.{asked, committed};
 use crate::{JournalFull, LiveOpening, LiveParts};
 use admission_core::Core;
 use cell_base::{Cell, Grant, Reply, Request};
-use durable_cell::{MAX_ROOM, Restored, restore};
+use durable_cell::{MAX_ROOM, Resumed, resume};
 use move_journal::{Group, Journal, MAX_CELL_TEXT, MAX_GROUP};
 use outside_io::{Disk, Failed};
+use shift_recovery::Taker;
 use std::alloc::Global;
 use std::marker::Model;
 
@@ -51,39 +52,37 @@ impl<D: Disk> Model for LiveCell<D> {
 impl<D: Disk> LiveCell<D> {
     ghost use Rattle.outside_io.specs.Causes.{Rose};
     ghost use Rattle.outside_io.specs.Disk.{Turns, LeavesOnly};
-    ghost use Rattle.durable_cell.specs.Clauses.{AreDue, Granted, opened_as};
-    ghost use Rattle.live_cell.specs.Openings.{IsNew, IsAnswer, IsFound, HasCause, Leaves};
+    ghost use Rattle.durable_cell.specs.Clauses.{AreDue, Granted};
+    ghost use Rattle.live_cell.specs.Openings.{IsOpenedAs, IsFound, HasCause, Leaves};
 
-    /// The cell after the grants that stand on a disk with this cell text, which are handed out beside it, if there are at most
-    /// `room` of them; so many the journal may have in all. At most `most` grants may be pending. A disk that holds no journal gets
-    /// one of no grants, as the last step.
-    pub fn open(
+    /// The cell after the grants that stand on a disk with this cell text, if there are at most `room` of them, each of which is
+    /// handed on as it is read; so many the journal may have in all. At most `most` grants may be pending. A disk that holds no
+    /// journal gets one of no grants, as the last step.
+    pub fn open<K: Taker + Drop>(
         alloc: Global,
         cell: Cell,
         cell_text: &[u8],
         disk: D,
         room: u64,
         most: u64,
-    ) -> LiveOpening<D>
+        kept: K,
+    ) -> LiveOpening<D, K>
         requires fits { CellFits cell }
         requires text { length cell_text.now ≤ MAX_CELL_TEXT }
         requires room { room ≤ MAX_ROOM }
         requires group { most ≤ MAX_GROUP }
-        ensures new { IsNew cell room most result }
-        ensures exact { IfSome (D.reads_as disk) (λ file. IsAnswer result (opened_as cell file cell_text.now room)) }
+        requires none { (first : ℕ) → K.took kept first [] kept }
+        ensures opened { IsOpenedAs D.reads_as D.may_leave D.moment D.left_since cell cell_text.now room most K.took disk kept result }
         ensures cause { HasCause D.faults disk result }
         ensures leaves { Leaves D.reads_as D.may_leave D.moment D.left_since disk cell_text.now result }
 
         // What a live or durable cell may leave is opened.
         ensures stands { (file : Sequence ℕ) (grants : Sequence Grant) → D.reads_as disk ≡ Some file
-            → StandsFor file cell_text.now grants → AreDue cell grants → length grants ≤ room → IsFound grants result }
+            → StandsFor file cell_text.now grants → AreDue cell grants → length grants ≤ room
+            → IsFound D.reads_as D.may_leave D.moment D.left_since cell cell_text.now room most K.took disk kept grants result }
     {
-        match restore(alloc, cell, cell_text, disk, room) {
-            Restored::Open {
-                core,
-                stored,
-                grants,
-            } => {
+        match resume(alloc, cell, cell_text, disk, room, kept) {
+            Resumed::Open { core, stored, kept } => {
                 let Ok(group) = Group::with_room(alloc, most) else {
                     return LiveOpening::Memory {
                         disk: stored.into_disk(),
@@ -98,14 +97,14 @@ impl<D: Disk> LiveCell<D> {
                             most,
                             room,
                         },
-                        grants,
+                        kept,
                     },
                     Err(disk) => LiveOpening::Device { disk },
                 }
             }
-            Restored::Refused { disk, why } => LiveOpening::Refused { disk, why },
-            Restored::Device { disk } => LiveOpening::Device { disk },
-            Restored::Memory { disk } => LiveOpening::Memory { disk },
+            Resumed::Refused { disk, why } => LiveOpening::Refused { disk, why },
+            Resumed::Device { disk } => LiveOpening::Device { disk },
+            Resumed::Memory { disk } => LiveOpening::Memory { disk },
         }
     }
 

@@ -1,24 +1,56 @@
--- The disk was only read until a journal is made on it.
-use Rattle.std.proofs.Common.{ℕ, inr, subst}
+-- The disk was only read until a journal is made on it, and what it stood for was replayed and taken.
+use Rattle.std.specs.Prelude.{Ok, Err}
+use Rattle.std.proofs.Common.{◌≡◌, ℕ, List, inr, subst}
+use Rattle.cell_base.specs.declared.shifts.Grant.{Grant}
 use Rattle.outside_io.specs.Causes.{Rose}
-use Rattle.durable_cell.specs.Restored.{disk_stored}
+use Rattle.outside_io.specs.Telling.{told}
+use Rattle.shift_recovery.specs.Replayed.{opened_as}
+use Rattle.shift_recovery.proofs.Replaying.{stands_opened}
+use Rattle.shift_recovery.proofs.Standing.{stands_found}
+use Rattle.durable_cell.specs.StoredGrants.{disk_stored}
 use Rattle.durable_cell.proofs.Opened.{unmade_since}
-use Rattle.live_cell.proofs.Opened.{opened}
+use Rattle.live_cell.specs.LiveState.{seen}
+use Rattle.live_cell.specs.Openings.{IsLiveAfter}
+use Rattle.live_cell.proofs.Opened.{live_after}
 use Rattle.live_cell.proofs.live.LiveCell.open.Goals as goal
-
-pub returns-in-Ok-into_journal-clause-leaves : goal.returns-in-Ok-into_journal-clause-leaves
-returns-in-Ok-into_journal-clause-leaves g c =
-    opened g.D.Disk.reads_as g.D.Disk.may_leave g.D.Disk.moment g.D.Disk.left_since g.D.Disk.faults c.args.disk
-    (disk_stored c.in-Open.stored) c.args.cell_text.now c.in-Open.grants c.in-Ok-into_journal.journal c.in-Open.ensures.reads
-    (c.in-Ok-into_journal.ensures c.in-Open.grants c.in-Open.ensures.holds)
 
 pub returns-in-Err-clause-cause : goal.returns-in-Err-clause-cause
 returns-in-Err-clause-cause g c =
     subst (λ (n : ℕ). Rose n (g.D.Disk.faults c.in-Err.disk)) c.in-Open.ensures.cause
-    (c.in-Err.ensures c.in-Open.grants c.in-Open.ensures.holds).1
+    (c.in-Err.ensures c.in-Open.ensures.resumed.grants c.in-Open.ensures.resumed.holds).1
 
 pub returns-in-Err-clause-leaves : goal.returns-in-Err-clause-leaves
 returns-in-Err-clause-leaves g c =
     inr (unmade_since g.D.Disk.reads_as g.D.Disk.may_leave g.D.Disk.moment g.D.Disk.left_since g.D.Disk.faults c.args.disk
     (disk_stored c.in-Open.stored) c.in-Err.disk c.args.cell_text.now c.in-Open.ensures.reads
-    (c.in-Err.ensures c.in-Open.grants c.in-Open.ensures.holds).0)
+    (c.in-Err.ensures c.in-Open.ensures.resumed.grants c.in-Open.ensures.resumed.holds).0)
+
+pub returns-in-Ok-into_journal-clause-opened : goal.returns-in-Ok-into_journal-clause-opened
+returns-in-Ok-into_journal-clause-opened g c =
+    let resumed = c.in-Open.ensures.resumed in (
+      resumed.grants,
+      live_after g.D.Disk.reads_as g.D.Disk.may_leave g.D.Disk.moment g.D.Disk.left_since g.D.Disk.faults c.args.cell c.args.cell_text.now
+          c.args.room c.args.most g.K.Taker.took c.args.disk c.args.kept c.in-Open.core c.in-Open.stored c.in-Open.kept
+          c.in-Ok-into_journal.journal c.in-Ok.group resumed c.in-Open.ensures.reads
+          (c.in-Ok-into_journal.ensures resumed.grants resumed.holds) c.in-Ok.ensures,
+    )
+
+pub returns-in-Ok-into_journal-clause-stands : goal.returns-in-Ok-into_journal-clause-stands
+returns-in-Ok-into_journal-clause-stands g c file grants is stands due fits =
+    let cell = c.args.cell in let text = c.args.cell_text.now in
+    let after = returns-in-Ok-into_journal-clause-opened g c in
+    let stood = stands_opened cell file text c.args.room grants due (stands_found file text c.args.room grants stands fits) in
+    let exact = told (g.D.Disk.reads_as c.args.disk) (λ (f : List ℕ). opened_as cell f text c.args.room ≡ Ok after.0) file is
+    after.1.exact in
+    let same : after.0 ≡ grants = cc (stood, exact) in
+    subst (λ (gs : List Grant). IsLiveAfter g.D.Disk.reads_as g.D.Disk.may_leave g.D.Disk.moment g.D.Disk.left_since cell text c.args.room
+    c.args.most g.K.Taker.took c.args.disk c.args.kept gs (seen c.in-Open.core c.in-Ok-into_journal.journal c.in-Ok.group c.args.room)
+    c.in-Open.kept) same after.1
+
+pub returns-in-Refused-clause-stands : goal.returns-in-Refused-clause-stands
+returns-in-Refused-clause-stands g c file grants is stands due fits =
+    let cell = c.args.cell in let text = c.args.cell_text.now in
+    let opened = stands_opened cell file text c.args.room grants due (stands_found file text c.args.room grants stands fits) in
+    let exact = told (g.D.Disk.reads_as c.args.disk) (λ (f : List ℕ). opened_as cell f text c.args.room ≡ Err c.in-Refused.why) file is
+    c.in-Refused.ensures.resumed in
+    cc (opened, exact)
