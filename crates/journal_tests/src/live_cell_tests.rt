@@ -49,8 +49,8 @@ fn opened(
     if !cell_fits(&cell) || room > 8 {
         return Err(Fail::from("the cell fits"));
     }
-    match LiveCell::open(alloc, cell, b"cell", disk, room, 4) {
-        LiveOpening::Open { live, grants } => Ok(Ok((live, grants))),
+    match LiveCell::open(alloc, cell, b"cell", disk, room, 4, List::new(alloc)) {
+        LiveOpening::Open { live, kept } => Ok(Ok((live, kept))),
         LiveOpening::Device { disk } => Ok(Err(disk)),
         _ => Err(Fail::from("not opened")),
     }

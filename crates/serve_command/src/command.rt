@@ -96,13 +96,12 @@ fn serve_journal<R: Wait, S: Source, K: Sink, D: Disk>(
 {
     let CellFile { cell, text } = held;
     let Desk {
-        mut counts,
+        counts,
         replies,
         lines,
     } = desk;
-    match LiveCell::open(alloc, cell, &text, disk, MAX_SERVED, GROUP_LINES) {
-        LiveOpening::Open { live, grants } => {
-            counts.add_all(grants.as_slice());
+    match LiveCell::open(alloc, cell, &text, disk, MAX_SERVED, GROUP_LINES, counts) {
+        LiveOpening::Open { live, kept: counts } => {
             let server = Server {
                 live,
                 counts,

@@ -2,6 +2,7 @@
 ghost use Rattle.std.specs.Prelude.{◌≡◌, length, replicate, IfOk};
 
 use cell_base::{Grant, NoMemory};
+use shift_recovery::Taker;
 use std::alloc::Global;
 use std::marker::Model;
 
@@ -62,15 +63,18 @@ impl SessionCounts {
         let at = usize::from(session);
         self.counts[at] = self.counts[at].saturating_add(1);
     }
+}
 
-    /// Counts these grants, after none.
-    pub fn add_all(&mut self, grants: &[Grant])
-        requires { length grants.now < 4294967295 }
-        ensures { HasCounts [] self.old → HasCounts grants.now self.new }
-    {
-        for grant in grants {
-            self.add(grant);
-        }
+/// Counts the grants of a journal as they are read.
+impl Taker for SessionCounts {
+    ghost use Rattle.std.specs.Prelude.{[], ◌<◌};
+    ghost use Rattle.serve_command.specs.Serving.{HasCounts};
+
+    ghost took = { λ start first grants now. HasCounts [] start → length grants < 4294967295 → HasCounts grants now };
+
+    fn take(&mut self, _at: u64, grant: Grant) -> Result<(), NoMemory> {
+        self.add(&grant);
+        Ok(())
     }
 }
 

@@ -16,7 +16,6 @@ use Rattle.cell_walks.specs.DiskTold.{disk_told}
 use Rattle.cell_texts.specs.Tests.{known}
 use Rattle.journal_texts.proofs.Disks.{adds_nothing, only_read}
 use Rattle.serve_command.specs.Conversing.{IsServedOnJournal}
-use Rattle.serve_command.specs.Serving.{HasCounts}
 use Rattle.serve_command.specs.declared.command.TheConstants.{MAX_SERVED}
 use Rattle.serve_command.proofs.Ending.{opened_so}
 use Rattle.serve_command.proofs.command.serve_journal.Goals as goal
@@ -25,26 +24,24 @@ pub returns-in-Open : goal.returns-in-Open
 returns-in-Open g c =
     let disk = c.args.disk in
     let live = c.in-Open.live in
-    let opening : List Grant = c.in-Open.grants in
-    let new = c.in-Open.ensures.new in
+    let opening : List Grant = c.in-Open.ensures.opened.0 in
+    let after = c.in-Open.ensures.opened.1 in
     let opened = subst (λ (text : List ℕ). IsOpened g.D.Disk.reads_as g.D.Disk.may_leave g.D.Disk.moment g.D.Disk.left_since disk
     text opening
-    live.disk) c.deref.ensures.value c.in-Open.ensures.leaves in
+    live.disk) c.deref.ensures.value after.stands in
     let exact = subst (λ (text : List ℕ). IfSome (g.D.Disk.reads_as disk)
-    (λ file. opened_as c.args.held.cell file text MAX_SERVED ≡ Ok opening)) c.deref.ensures.value c.in-Open.ensures.exact in
-    let counts = subst (λ (gs : List Grant). HasCounts gs c.add_all.new.self) c.as_slice.ensures
-    (c.add_all.ensures c.requires.desk.counts) in
+    (λ file. opened_as c.args.held.cell file text MAX_SERVED ≡ Ok opening)) c.deref.ensures.value after.exact in
     opened_so g.D.Disk.reads_as g.D.Disk.may_leave g.D.Disk.moment g.D.Disk.left_since g.D.Disk.faults
     (known c.args.held) disk c.serve_live.result.disk live opening
     (source_told g.S.Source.given g.S.Source.has_ended g.S.Source.faults c.args.input.now c.serve_live.new.input)
     (sink_told g.K.Sink.taken g.K.Sink.was_put g.K.Sink.faults c.args.out.now c.serve_live.new.out)
-    c.serve_live.result.status new.0 new.1 exact opened c.in-Open.ensures.cause
+    c.serve_live.result.status after.state after.due exact opened c.in-Open.ensures.cause
     (c.serve_live.ensures c.args.held.text.items opening (record {
       at = record {
-        parts = ap (λ (l : LiveState _). l.parts) new.0
-            ∙ ap (λ (cell : Cell). replay cell opening) (sym (ap (λ (l : LiveState _). l.cell) new.0));
-        counts = counts;
-        number = omega (arith, ap (λ (l : LiveState _). l.len) new.0, ap (λ (l : LiveState _). length l.pending) new.0);
+        parts = ap (λ (l : LiveState _). l.parts) after.state
+            ∙ ap (λ (cell : Cell). replay cell opening) (sym (ap (λ (l : LiveState _). l.cell) after.state));
+        counts = after.taken.1 c.requires.desk.counts (omega (arith, after.few));
+        number = omega (arith, ap (λ (l : LiveState _). l.len) after.state, ap (λ (l : LiveState _). length l.pending) after.state);
       };
       disk = opened.stands;
     }))
@@ -59,7 +56,7 @@ returns-in-Refused g c =
     (NotOpened c.at_journal_fault.result
     (OpeningRefused c.in-Refused.why
     (subst (λ (text : List ℕ). IfSome (g.D.Disk.reads_as c.args.disk)
-    (λ file. opened_as c.args.held.cell file text MAX_SERVED ≡ Err c.in-Refused.why)) c.deref.ensures.value c.in-Refused.ensures.exact)
+    (λ file. opened_as c.args.held.cell file text MAX_SERVED ≡ Err c.in-Refused.why)) c.deref.ensures.value c.in-Refused.ensures.opened)
     (only_read g.D.Disk.reads_as g.D.Disk.may_leave g.D.Disk.moment g.D.Disk.left_since g.D.Disk.faults c.args.disk c.in-Refused.disk
     c.in-Refused.ensures.leaves)
     c.at_journal_fault.ensures)
