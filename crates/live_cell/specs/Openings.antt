@@ -23,8 +23,7 @@ pub record IsOpened {D : Type 0} (reads_as : D → Option (List ℕ)) (may_leave
   pub stands : Shows reads_as may_leave new (λ file. StandsFor file text grants)
   pub any_moment : IfSome (reads_as old) (λ _. LeavesOnly moment left_since found new (λ file. StandsFor file text grants))
 
--- The cell is new after these grants: each fits it and was granted in its turn, and there is room for them. They were taken, where the disk
--- tells they are what its bytes open as, and the disk stands for them.
+-- The cell is new after these grants: they are due and few, they were taken, the bytes open as them, and the disk stands for them.
 pub record IsLiveAfter {D K : Type 0} (reads_as : D → Option (List ℕ)) (may_leave : D → List ℕ → Type 0) (moment : D → ℕ)
     (left_since : D → ℕ → List ℕ → Type 0) (cell : Cell) (text : List ℕ) (room most : ℕ) (took : K → ℕ → List Grant → K → Type 0)
     (disk : D) (old : K) (grants : List Grant) (live : LiveState D) (new : K) : Type 0 where
