@@ -1,10 +1,10 @@
 -- One opening grant more: its session stands a step further, or it is a stray.
-use Rattle.std.proofs.Common.{◌≡◌, ℕ, ◌+◌, ◌<◌, ◌≤◌, ◌==◌, ◌&&◌, Bool, false, Some, List, [], ◌∷◌, ◌++◌, length}
-use Rattle.std.proofs.Common.{take, drop, slice_get, slice_set, get_or, replicate, refl, ap, ◌∙◌, sym, subst}
-use Rattle.std.proofs.Common.{⊎_elim, arith, length-set, get_or-set_same, get_or-set_other, append-nil}
+use Rattle.std.proofs.Common.{◌≡◌, ℕ, ◌+◌, ◌<◌, ◌≤◌, ◌==◌, ◌&&◌, Bool, true, false, Option, None, Some, is_some, List, [], ◌∷◌, ◌++◌, length}
+use Rattle.std.proofs.Common.{take, slice_get, slice_set, get_or, replicate, refl, ap, ◌∙◌, sym, subst}
+use Rattle.std.proofs.Common.{⊎_elim, arith, length-set, get_or-set_same, get_or-set_other, append-nil, append_assoc}
 use Rattle.std.specs.List.{filter}
 use Rattle.std.proofs.lemmas.Bool.{and_from, and_left, and_right, cases_eq, cond-true, cond-false, eq-eqb, ne_eqb}
-use Rattle.std.proofs.lemmas.List.{drop_more, get_or-take, length-take-le, length_push, map-append, take-append-drop, take_more}
+use Rattle.std.proofs.lemmas.List.{get_or-take, length-take-le, length_push, map-append}
 use Rattle.std.proofs.lemmas.List.Elements.{All-nil, All-pop, All-push, filter-append}
 use Rattle.std.proofs.lemmas.Option.{get_or_from_slice_get, slice_get-get_or, slice_get_within}
 use Rattle.cell_base.specs.declared.requests.Request.{Request}
@@ -14,7 +14,7 @@ use Rattle.cell_base.specs.Histories.{requests_of}
 use Rattle.cell_base.specs.Rounds.{IsSession}
 use Rattle.cell_base.specs.Scripts.{Progress, HasFirstSteps, begin_at, granted_to, script_of, first_step}
 use Rattle.cell_base.specs.Starts.{AreFirstSteps, IsOtherShift}
-use Rattle.cell_sessions.specs.Starting.{AreBegun, IsReached, StandAtStart}
+use Rattle.cell_sessions.specs.Starting.{AreBegun, IsLed, IsReached, StandAtStart}
 use Rattle.solo_rounds.proofs.Counting.{script_at}
 use Rattle.solo_rounds.proofs.Ends.{same_everywhere}
 
@@ -197,7 +197,7 @@ module _ (shift : Shift) (before : List Grant) (grant : Grant) where
       pub next_there : AreFirstSteps shift more → slice_get script (get_or progress k d).step ≡ Some grant.request
       next_there started = sym there ∙ (was_next own started).step
 
--- ---- along the opening grants
+-- ---- along the grants
 
 -- no session has had a grant
 pub reached-none : (shift : Shift) (n : ℕ) (first : Progress) → first ≡ begin_at 0 → IsReached shift [] (replicate n first)
@@ -206,23 +206,43 @@ reached-none shift n first is = record {
   stand = λ k at there. sym (get_or_from_slice_get (replicate n first) k at first there) ∙ same_everywhere n k first ∙ is;
 }
 
-module _ (shift : Shift) (opening : List Grant) (i : ℕ) (d : Grant) (within : i < length opening) where
-  pub one_more : (progress : List Progress) → IsReached shift (take i opening ++ get_or opening i d ∷ []) progress
-      → IsReached shift (take (i + 1) opening) progress
-  one_more progress reached = rw (take_more opening i d within) reached
+-- a grant after which they are first steps no more, is a stray
+pub is_other_shift : (shift : Shift) (grants : List Grant) (grant : Grant) → AreFirstSteps shift grants
+    → (AreFirstSteps shift (grants ++ grant ∷ []) → ⊥) → IsOtherShift shift (grants ++ grant ∷ []) grant.session
+is_other_shift shift grants grant started strays = record {
+  before = grants;
+  stray = grant;
+  later = [];
+  parted = refl;
+  started = started;
+  strays = strays;
+  session_is = refl;
+}
 
-  pub is_other_shift : AreFirstSteps shift (take i opening)
-      → (AreFirstSteps shift (take i opening ++ get_or opening i d ∷ []) → ⊥)
-      → IsOtherShift shift opening (get_or opening i d).session
-  is_other_shift started strays = record {
-    before = take i opening;
-    stray = get_or opening i d;
-    later = drop (i + 1) opening;
-    parted = sym (take-append-drop i opening) ∙ ap (λ gs. take i opening ++ gs) (drop_more opening i d within);
-    started = started;
-    strays = strays;
-    session_is = refl;
-  }
+-- a stray is one after any later grant
+pub stays_other_shift : (shift : Shift) (grants : List Grant) (grant : Grant) (session : ℕ) → IsOtherShift shift grants session
+    → IsOtherShift shift (grants ++ grant ∷ []) session
+stays_other_shift shift grants grant session other = record {
+  before = other.before;
+  stray = other.stray;
+  later = other.later ++ grant ∷ [];
+  parted = ap (λ gs. gs ++ grant ∷ []) other.parted ∙ append_assoc other.before (other.stray ∷ other.later) (grant ∷ []);
+  started = other.started;
+  strays = other.strays;
+  session_is = other.session_is;
+}
+
+-- without a stray the sessions stand after the grants
+pub led_reached : (shift : Shift) (grants : List Grant) (progress : List Progress) (stray : Option ℕ) → is_some stray ≡ false
+    → IsLed shift grants progress stray → IsReached shift grants progress
+led_reached shift grants progress None none led = led
+led_reached shift grants progress (Some session) none led = cc
+
+-- with one, a grant more changes nothing
+pub stays_led : (shift : Shift) (grants : List Grant) (grant : Grant) (progress : List Progress) (stray : Option ℕ) → is_some stray ≡ true
+    → IsLed shift grants progress stray → IsLed shift (grants ++ grant ∷ []) progress stray
+stays_led shift grants grant progress None some led = cc
+stays_led shift grants grant progress (Some session) some led = stays_other_shift shift grants grant session led
 
 -- the front of the table is the sessions of the shift
 pub begun : (shift : Shift) (opening : List Grant) (table front : List Progress) → StandAtStart shift opening table

@@ -1,5 +1,5 @@
 -- Where the sessions of a shift start after the grants that a journal has.
-use Rattle.std.specs.Prelude.{◌≡◌, ℕ, ◌+◌, List, length, slice_get, Some, ⊤}
+use Rattle.std.specs.Prelude.{◌≡◌, ℕ, ◌+◌, List, length, slice_get, Option, None, Some, ⊤}
 use Rattle.cell_base.specs.declared.shifts.Grant.{Grant}
 use Rattle.cell_base.specs.declared.shifts.Shift.{Shift}
 use Rattle.cell_base.specs.Scripts.{Progress, begin_at, first_step}
@@ -26,3 +26,18 @@ pub record AreBegun (shift : Shift) (opening : List Grant) (progress : List Prog
 pub record IsReached (shift : Shift) (grants : List Grant) (progress : List Progress) : Type 0 where
   pub started : AreFirstSteps shift grants
   pub stand : StandAtStart shift grants progress
+
+-- these grants led the sessions there, or this session's grant is the first that is no next step
+abbrev pub IsLed : Shift → List Grant → List Progress → Option ℕ → Type 0
+IsLed shift grants progress None = IsReached shift grants progress
+IsLed shift grants progress (Some session) = IsOtherShift shift grants session
+
+-- a shift, the progress of its sessions, and the session of a grant that was no next step
+pub record StartState : Type 0 where
+  pub shift : Shift
+  pub reached : List Progress
+  pub stray : Option ℕ
+
+-- it stands so after these grants
+abbrev pub HasLed : List Grant → StartState → Type 0
+HasLed grants starts = IsLed starts.shift grants starts.reached starts.stray

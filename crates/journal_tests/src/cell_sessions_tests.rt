@@ -1,10 +1,14 @@
 //! That a whole shift runs, and where it begins after grants, on a cell of one machine with one job.
+ghost use Rattle.std.specs.Prelude.{◌≤◌, length};
+ghost use Rattle.cell_base.specs.declared.limits.TheConstants.{MAX_SESSIONS};
+
 use admission_core::Core;
 use cell_base::{
     Entry, Grant, JobId, List, NoMemory, Reply, Request, ResId, Shelf, Shift, Told, TypeId,
     cell_fits, shift_fits,
 };
-use cell_sessions::{BeginFault, begin, solo};
+use cell_sessions::{BeginFault, SessionStarts, solo};
+use shift_recovery::Taker;
 use small_cells::cell_of_one;
 use std::alloc::Global;
 use std::test::Fail;
@@ -43,6 +47,17 @@ fn granted(request: Request) -> Entry {
     }
 }
 
+/// Where the sessions of a shift stand after they took these grants.
+fn after<'a>(shift: &'a Shift, grants: &[Grant]) -> Result<SessionStarts<'a>, NoMemory>
+    requires { length shift.now.scripts ≤ MAX_SESSIONS }
+{
+    let mut starts = SessionStarts::of(shift);
+    for grant in grants {
+        starts.take(0, *grant)?;
+    }
+    Ok(starts)
+}
+
 #[test]
 fn one_job_from_load_to_unload(rt: HostRuntime) -> Result<(), Fail> {
     let alloc = rt.alloc();
@@ -74,12 +89,12 @@ fn begins_after_its_own_grants(rt: HostRuntime) -> Result<(), Fail> {
         request,
     };
     let opening = [grant(1, 1, load), grant(2, 1, unload), grant(1, 1, process)];
-    let progress = begin(alloc, &shift, &opening)?;
+    let progress = after(&shift, &opening)?.begin(alloc)?;
     assert!(rt; progress.len() == 1);
     assert_eq!(rt; progress.get(0).step(), 2);
 
     let strays = [grant(1, 1, load), grant(1, 2, process), grant(1, 1, load)];
-    let fault = begin(alloc, &shift, &strays).err();
+    let fault = after(&shift, &strays)?.begin(alloc).err();
     assert_eq!(rt; fault, Some(BeginFault::OtherShift { session: 2 }));
     Ok(())
 }

@@ -7,6 +7,7 @@ ghost use Rattle.run_command.specs.Clauses.{IsRunOnJournal, ShiftFits, run};
 
 use crate::sessions::start;
 use cell_base::Shift;
+use cell_sessions::SessionStarts;
 use cell_texts::{CellFile, CommandEnd, read_cell, read_shift};
 use cell_walks::leaves_only_now;
 use journal_texts::{Made, Recorded, open_journal, print_recorded};
@@ -88,8 +89,9 @@ fn run_journal<R: Threads + Wait + Sync, D: Disk + Send, P: Pace + Sync>(
     ensures fits { IfOk result.made EntriesFit }
 {
     let room = MAX_RUN_ROOM - steps_of(shift);
-    match open_journal(alloc, held, disk, room, asks_of(shift)) {
-        Ok(durable) => start(rt, alloc, durable, shift, pace),
+    let starts = SessionStarts::of(shift);
+    match open_journal(alloc, held, disk, room, asks_of(shift), starts) {
+        Ok(opened) => start(rt, alloc, opened.durable, &opened.kept, shift, pace),
         Err(unopened) => Made {
             made: Err(unopened.end),
             disk: unopened.disk,

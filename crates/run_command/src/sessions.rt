@@ -2,12 +2,12 @@
 ghost use Rattle.std.specs.Prelude.{◌≡◌, ◌*◌, IfOk, length};
 ghost use Rattle.cell_walks.specs.Clauses.{disk_told};
 ghost use Rattle.journal_texts.specs.Clauses.{EntriesFit, IsFresh, recorded_outcome};
-ghost use Rattle.run_command.specs.Clauses.{AreBegun, AreDue, AreFirstSteps, HasStarted, IsAfterSessions, IsShiftRun};
+ghost use Rattle.run_command.specs.Clauses.{AreBegun, AreDue, AreFirstSteps, HasLed, HasStarted, IsAfterSessions, IsShiftRun};
 ghost use Rattle.run_command.specs.Clauses.{ShiftFits, StandsForAdded, new_passes, opening_of, steps_of};
 
 use cell_base::{List, NoMemory, Shift};
 use cell_lock::{Pass, SharedCell};
-use cell_sessions::{BeginFault, Progress, begin, run_shift};
+use cell_sessions::{BeginFault, Progress, SessionStarts, run_shift};
 use cell_walks::EarlyEnd;
 use durable_cell::Durable;
 use journal_texts::{Closed, Made, Recorded, at_other_shift, give_back, record_of};
@@ -16,24 +16,28 @@ use std::alloc::Global;
 use std::sync::Wait;
 use std::thread::Threads;
 
-/// Finds where the sessions start, and runs them; or gives the disk back with the early end in the place of their record.
+/// Runs the sessions from where they start after the grants of the opening; or gives the disk back with the early end in the place of
+/// their record.
 pub fn start<R: Threads + Wait + Sync, D: Disk + Send, P: Pace + Sync>(
     rt: &R,
     alloc: Global,
     durable: Durable<D>,
+    starts: &SessionStarts<'_>,
     shift: &Shift,
     pace: &P,
 ) -> Made<Recorded, D>
     requires fresh { IsFresh durable }
     requires limit { durable.limit ≡ steps_of shift.now * shift.now.patience }
     requires shift { ShiftFits durable.cell shift.now }
+    requires own { starts.now.shift ≡ shift.now }
+    requires led { HasLed durable.opening starts.now }
     ensures started { HasStarted (disk_told D.reads_as D.may_leave D.moment D.left_since D.faults durable.entry result.disk)
         durable.cell durable.text shift.now durable.opening result.made }
     ensures due { AreDue durable.cell durable.opening }
     ensures fits { IfOk result.made EntriesFit }
 {
     let _kept = durable.core();
-    match begin(alloc, shift, durable.opening()) {
+    match starts.begin(alloc) {
         Ok(progress) => share(rt, alloc, durable, progress, shift, pace),
         Err(BeginFault::OtherShift { session }) => give_back(durable, at_other_shift(session)),
         Err(BeginFault::Memory) => give_back(durable, EarlyEnd::WantOfMemory),

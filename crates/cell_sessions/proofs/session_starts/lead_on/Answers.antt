@@ -4,8 +4,8 @@ use Rattle.std.proofs.lemmas.Bool.{false≢true}
 use Rattle.std.proofs.lemmas.Option.{slice_get_within}
 use Rattle.cell_base.specs.Scripts.{begin_at}
 use Rattle.cell_sessions.proofs.Starts.{lead_on, next_there}
-use Rattle.cell_sessions.proofs.beginning.lead_on.Goals as goal
-use Rattle.cell_sessions.proofs.beginning.lead_on.Goals.{else-step-len-via-then-step-len+else-is_step, else-step-len-via-else-step-len}
+use Rattle.cell_sessions.proofs.session_starts.lead_on.Goals as goal
+use Rattle.cell_sessions.proofs.session_starts.lead_on.Goals.{else-step-len-via-then-step-len+else-is_step, else-step-len-via-else-step-len}
 
 pub returns-then-is_step-clause-led : goal.returns-then-is_step-clause-led
 returns-then-is_step-clause-led c grants reached =
