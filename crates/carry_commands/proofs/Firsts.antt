@@ -1,11 +1,13 @@
 -- The grants of a journal beside those of a start.
-use Rattle.std.proofs.Common.{◌≡◌, ℕ, ◌+◌, ◌<◌, ◌≤◌, List, [], ◌∷◌, ◌++◌, length, map, take, drop, get_or, refl}
-use Rattle.std.proofs.Common.{sym, ap, ◌∙◌, subst, arith, append_assoc, length-append, length-take, true, Ok}
-use Rattle.std.proofs.lemmas.List.{drop-map, drop_more, length-map, take-append-drop, take-map, take_at, take_more}
+use Rattle.std.proofs.Common.{◌≡◌, ℕ, ◌+◌, ◌≤◌, Some, None, List, [], ◌∷◌, ◌++◌, length, map, take, drop, slice_get, refl}
+use Rattle.std.proofs.Common.{sym, ap, ◌∙◌, subst, arith, append_assoc, length-append, true, Ok}
+use Rattle.std.proofs.lemmas.List.{drop-map, drop_more, length-map, take-append-drop, take-map, take_at}
+use Rattle.std.proofs.lemmas.Option.{get_or_from_slice_get, slice_get_within}
 use Rattle.cell_base.specs.declared.cells.Cell.{Cell}
 use Rattle.cell_base.specs.declared.requests.Part.{Part}
 use Rattle.cell_base.specs.declared.requests.Request.{Request}
 use Rattle.cell_base.specs.declared.shifts.Grant.{Grant}
+use Rattle.cell_base.proofs.Elements.{none_past}
 use Rattle.cell_base.specs.Histories.{after_requests, all_granted, replay, requests_of}
 use Rattle.cell_texts.specs.Parting.{same_place}
 use Rattle.journal_texts.specs.AskedSteps.{step_grant}
@@ -34,58 +36,56 @@ module _ (requests : List Request) where
       )
 
   -- what comes after a prefix begins with the next one
-  next_is : (k : ℕ) (d : Request) → k < length requests
-      → drop k (start_grants requests) ≡ step_grant (get_or requests k d) ∷ start_grants (drop (k + 1) requests)
-  next_is k d within = drop-map step_grant k requests ∙ ap (map step_grant) (drop_more requests k d within)
+  next_is : (k : ℕ) (request : Request) → slice_get requests k ≡ Some request
+      → drop k (start_grants requests) ≡ step_grant request ∷ start_grants (drop (k + 1) requests)
+  next_is k request there =
+      drop-map step_grant k requests
+      ∙ ap (map step_grant) (drop_more requests k request (slice_get_within requests k request there)
+      ∙ ap (λ (r : Request). r ∷ drop (k + 1) requests) (get_or_from_slice_get requests k request request there))
 
-  module _ (opening : List Grant) (k : ℕ) (other : Grant) (inside : k < length opening) (first : ArePrefix requests (take k opening)) where
-    abbrev front : List Grant
-    front = take k opening
+  -- a grant after a prefix
+  module _ (front : List Grant) (first : ArePrefix requests front) (grant : Grant) where
+    abbrev next : ℕ
+    next = length front
 
-    abbrev here : Grant
-    here = get_or opening k other
+    abbrev behind : List Grant
+    behind = start_grants (drop (next + 1) requests)
 
-    front_is : length front ≡ k
-    front_is = omega (arith, length-take k opening, inside)
+    next_at : (request : Request) → slice_get requests next ≡ Some request
+        → start_grants requests ≡ front ++ step_grant request ∷ behind
+    next_at request there = parted front first ∙ ap (λ (grants : List Grant). front ++ grants) (next_is next request there)
 
-    behind : start_grants requests ≡ front ++ drop k (start_grants requests)
-    behind = parted front first ∙ ap (λ (n : ℕ). front ++ drop n (start_grants requests)) front_is
+    -- it is the next one of the start
+    pub one_more : (request : Request) → slice_get requests next ≡ Some request → grant ≡ step_grant request
+        → ArePrefix requests (front ++ grant ∷ [])
+    one_more request there same =
+        are_first (front ++ grant ∷ []) behind
+        (next_at request there ∙ ap (λ (g : Grant). front ++ g ∷ behind) (sym same) ∙ sym (append_assoc front (grant ∷ []) behind))
 
-    -- one more is first
-    pub one_more : (d : Request) → k < length requests → here ≡ step_grant (get_or requests k d) → ArePrefix requests (take (k + 1) opening)
-    one_more d within same =
-        subst (ArePrefix requests) (sym (take_more opening k other inside))
-        (are_first (front ++ here ∷ []) (start_grants (drop (k + 1) requests))
-        (behind ∙ ap (λ (grants : List Grant). front ++ grants)
-        (next_is k d within ∙ ap (λ (g : Grant). g ∷ start_grants (drop (k + 1) requests)) (sym same))
-        ∙ sym (append_assoc front (here ∷ []) (start_grants (drop (k + 1) requests)))))
-
-    stray_at : (ArePrefix requests (front ++ here ∷ []) → ⊥) → IsOtherStart requests opening k
+    stray_at : (ArePrefix requests (front ++ grant ∷ []) → ⊥) → IsOtherStart requests (front ++ grant ∷ []) next
     stray_at strays = record {
       before = front;
-      stray = here;
-      later = drop (k + 1) opening;
-      parted = sym (take-append-drop k opening) ∙ ap (λ (grants : List Grant). front ++ grants) (drop_more opening k other inside);
-      index = sym front_is;
+      stray = grant;
+      later = [];
+      parted = refl;
+      index = refl;
       first = first;
       strays = strays;
     }
 
-    more_than : ArePrefix requests (front ++ here ∷ []) → k < length requests
-    more_than is = omega (arith, within (front ++ here ∷ []) is, length-append front (here ∷ []), front_is)
-
     -- there are no more requests
-    pub too_many : length requests ≤ k → IsOtherStart requests opening k
-    too_many few = stray_at (λ is. omega (arith, few, more_than is))
+    pub too_many : slice_get requests next ≡ None → IsOtherStart requests (front ++ grant ∷ []) next
+    too_many none = stray_at (λ is. none_past requests next none
+        (omega (arith, within (front ++ grant ∷ []) is, length-append front (grant ∷ []))))
 
     -- it is another
-    pub another : (d : Request) → (here ≡ step_grant (get_or requests k d) → ⊥) → IsOtherStart requests opening k
-    another d other_one = stray_at (λ is.
-        let rest = drop (length (front ++ here ∷ [])) (start_grants requests) in
-        let both : front ++ here ∷ rest ≡ front ++ step_grant (get_or requests k d) ∷ start_grants (drop (k + 1) requests) =
-        sym (append_assoc front (here ∷ []) rest) ∙ sym (parted (front ++ here ∷ []) is) ∙ behind
-        ∙ ap (λ (grants : List Grant). front ++ grants) (next_is k d (more_than is)) in
-        other_one (same_place front front here (step_grant (get_or requests k d)) rest (start_grants (drop (k + 1) requests)) both refl))
+    pub another : (request : Request) → slice_get requests next ≡ Some request → (grant ≡ step_grant request → ⊥)
+        → IsOtherStart requests (front ++ grant ∷ []) next
+    another request there other_one = stray_at (λ is.
+        let rest = drop (length (front ++ grant ∷ [])) (start_grants requests) in
+        let both : front ++ grant ∷ rest ≡ front ++ step_grant request ∷ behind =
+        sym (append_assoc front (grant ∷ []) rest) ∙ sym (parted (front ++ grant ∷ []) is) ∙ next_at request there in
+        other_one (same_place front front grant (step_grant request) rest behind both refl))
 
   -- ---- what they leave
 

@@ -4,6 +4,7 @@ pub mod Began
 pub mod BeginTold
 pub mod CarriedParts
 pub mod CarryWalk
+pub mod Comparing
 pub mod Firsts
 pub mod Granting
 pub mod StartCuts

@@ -8,5 +8,5 @@ pub use Rattle.start_file.specs.declared.reading.TheConstants.{MAX_START_LINES}
 pub use Rattle.cell_walks.specs.Allowed.{StandsForAdded}
 pub use Rattle.carry_commands.specs.Begin.{begin}
 pub use Rattle.carry_commands.specs.Beginning.{EndsBeforeJournal, HasBegun, IsBegunOnJournal, IsGrantedStart, IsRefusedStart}
-pub use Rattle.carry_commands.specs.Starts.{ArePrefix, IsOtherStart, granted_start, start_file}
+pub use Rattle.carry_commands.specs.Starts.{ArePrefix, HasCompared, IsOtherStart, granted_start, start_file}
 pub use Rattle.journal_texts.specs.AskedSteps.{AreAsked, IsAskedIn, step_grant}

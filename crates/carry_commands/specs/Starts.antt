@@ -1,5 +1,5 @@
 -- Whether the requests of a start are granted in turn, and whether the grants of a journal are a prefix of them.
-use Rattle.std.proofs.Common.{inl, inr, ◌<◌, ◌≡◌, ℕ, ◌+◌, List, [], ◌∷◌, ◌++◌, length, map, take, Some, Result}
+use Rattle.std.proofs.Common.{inl, inr, ◌<◌, ◌≡◌, ℕ, ◌+◌, List, [], ◌∷◌, ◌++◌, length, map, take, Option, Some, None, Result}
 use Rattle.std.proofs.Common.{Ok, Err, refl, sym, ap, ◌∙◌, subst, arith, append_assoc, length-append, take-take}
 use Rattle.std.specs.Prelude.{⊤}
 use Rattle.std.proofs.lemmas.Bool.{cases_lt}
@@ -84,6 +84,11 @@ pub record IsOtherStart (requests : List Request) (opening : List Grant) (at : �
   pub index : at ≡ length before
   pub first : ArePrefix requests before
   pub strays : ArePrefix requests (before ++ stray ∷ []) → ⊥
+
+-- these grants were compared with the start: they are a prefix of it, and so many; or the first other one stands at this index
+abbrev pub HasCompared : List Request → List Grant → ℕ → Option ℕ → Type 0
+HasCompared requests opening held None = ArePrefix requests opening × (held ≡ length opening)
+HasCompared requests opening held (Some at) = IsOtherStart requests opening at
 
 -- a prefix of a prefix is one too
 pub first_front : (requests : List Request) (front rest : List Grant) → ArePrefix requests (front ++ rest) → ArePrefix requests front

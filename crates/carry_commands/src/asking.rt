@@ -1,34 +1,40 @@
 //! The requests of a start, asked of a durable cell.
-ghost use Rattle.std.specs.Prelude.{◌≡◌, ◌≤◌, length, true, IfOk};
+ghost use Rattle.std.specs.Prelude.{◌≡◌, ◌≤◌, length, true, IfOk, IfNone, IfSome};
 ghost use Rattle.std.specs.List.{All};
 ghost use Rattle.cell_walks.specs.Clauses.{disk_told};
 ghost use Rattle.journal_texts.specs.Clauses.{EntriesFit, IsFresh, recorded_outcome};
-ghost use Rattle.carry_commands.specs.BeginClauses.{AreAsked, AreDue, HasBegun, IsAskedIn, IsGrantedStart, IsPlacing, KeepsHistory};
-ghost use Rattle.carry_commands.specs.BeginClauses.{MAX_START_LINES, StandsForAdded, all_granted, first_parts};
+ghost use Rattle.carry_commands.specs.BeginClauses.{AreAsked, AreDue, ArePrefix, HasBegun, IsAskedIn, IsGrantedStart, IsOtherStart};
+ghost use Rattle.carry_commands.specs.BeginClauses.{IsPlacing, KeepsHistory, MAX_START_LINES, StandsForAdded, all_granted, first_parts};
 
 use crate::refusals::at_other_start;
-use crate::starts::first_other;
 use cell_base::Request;
 use durable_cell::Durable;
 use journal_texts::{Closed, Made, Recorded, give_back, record_of};
 use outside_io::Disk;
 
-/// Asks the requests that the journal does not hold yet; or gives the disk back with the early end, where the journal holds other grants.
-pub fn begin_opened<D: Disk>(durable: Durable<D>, requests: &[Request]) -> Made<Recorded, D>
+/// Asks the requests that the journal does not hold yet; or gives the disk back with the early end, where the journal holds other grants,
+/// the first of them at the index `other`.
+pub fn begin_opened<D: Disk>(
+    durable: Durable<D>,
+    requests: &[Request],
+    other: Option<u64>,
+) -> Made<Recorded, D>
     requires fresh { IsFresh durable }
     requires limit { durable.limit ≡ MAX_START_LINES }
     requires placing { All (IsPlacing durable.cell) requests.now }
     requires few { length requests.now ≤ MAX_START_LINES }
     requires granted { IsGrantedStart durable.cell requests.now }
+    requires none { IfNone other (ArePrefix requests.now durable.opening) }
+    requires some { IfSome other (IsOtherStart requests.now durable.opening) }
     ensures begun { HasBegun (disk_told D.reads_as D.may_leave D.moment D.left_since D.faults durable.entry result.disk)
         durable.cell durable.text requests.now durable.opening result.made }
     ensures due { AreDue durable.cell durable.opening }
     ensures fits { IfOk result.made EntriesFit }
 {
     let _kept = durable.core();
-    match first_other(requests, durable.opening()) {
+    match other {
         None => {
-            let held = durable.opening().len();
+            let held = durable.held() as usize;
             let Closed { recorded, disk } = ask_all(durable, &requests[held..]);
             Made {
                 made: Ok(recorded),

@@ -7,11 +7,12 @@ ghost use Rattle.journal_texts.specs.Clauses.{EntriesFit, recorded_or_early};
 ghost use Rattle.carry_commands.specs.BeginClauses.{IsBegunOnJournal, IsGrantedStart, IsPlacing, MAX_START_LINES, begin};
 
 use crate::asking::begin_opened;
+use crate::compared::Compared;
 use crate::starts::{check_start, read_start_file};
 use cell_base::Request;
 use cell_texts::{CellFile, CommandEnd, read_cell};
 use durable_cell::MAX_ROOM;
-use journal_texts::{Made, Recorded, open_journal, print_recorded};
+use journal_texts::{Made, OpenedJournal, Recorded, open_journal, print_recorded};
 use outside_io::{Disk, Files, Sink};
 use start_file::MAX_START_LINES;
 use std::alloc::Global;
@@ -84,8 +85,9 @@ fn begin_journal<D: Disk>(
         requests.now result.made }
     ensures fits { IfOk result.made EntriesFit }
 {
-    match open_journal(alloc, held, disk, MAX_ROOM, MAX_START_LINES) {
-        Ok(durable) => begin_opened(durable, requests),
+    let compared = Compared::new(requests);
+    match open_journal(alloc, held, disk, MAX_ROOM, MAX_START_LINES, compared) {
+        Ok(OpenedJournal { durable, kept }) => begin_opened(durable, requests, kept.other),
         Err(unopened) => Made {
             made: Err(unopened.end),
             disk: unopened.disk,

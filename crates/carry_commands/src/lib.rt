@@ -11,6 +11,7 @@ mod asking;
 mod begin;
 mod carry;
 mod carrying;
+mod compared;
 mod placing;
 mod refusals;
 mod starts;

@@ -1,14 +1,14 @@
-//! The start of a cell: its file read, its requests tried in turn, and the grants of a journal compared with them.
-ghost use Rattle.std.specs.Prelude.{◌≡◌, ◌↔◌, ◌≤◌, true, [], length, Ok, Err, IfOk, IfErr, IfNone, IfSome, OnOk};
+//! The start of a cell: its file read, and its requests tried in turn.
+ghost use Rattle.std.specs.Prelude.{◌≡◌, ◌≤◌, [], length, Ok, Err, IfOk, IfErr, IfNone, IfSome, OnOk};
 ghost use Rattle.std.specs.List.{All};
 ghost use Rattle.cell_walks.specs.Clauses.{IsEndedAt, ShowsFile, files_told};
 ghost use Rattle.cell_texts.specs.Clauses.{CellFits};
-ghost use Rattle.carry_commands.specs.BeginClauses.{ArePrefix, EndsBeforeJournal, IsGrantedStart, IsOtherStart, IsPlacing, IsRefusedStart};
-ghost use Rattle.carry_commands.specs.BeginClauses.{MAX_START_LINES, start_file, start_reads, step_grant};
+ghost use Rattle.carry_commands.specs.BeginClauses.{EndsBeforeJournal, IsGrantedStart, IsPlacing, IsRefusedStart};
+ghost use Rattle.carry_commands.specs.BeginClauses.{MAX_START_LINES, start_file, start_reads};
 
 use crate::refusals::{StartFault, at_file_fault, at_start_fault};
 use admission_core::Core;
-use cell_base::{Cell, Grant, List, Reply, Request};
+use cell_base::{Cell, List, Reply, Request};
 use cell_walks::EarlyEnd;
 use outside_io::{FileFail, Files};
 use refusal_reason::laws::refusal_is_present;
@@ -81,26 +81,4 @@ fn first_refused(core: &mut Core, requests: &[Request]) -> Option<StartFault>
         line += 1;
     }
     None
-}
-
-/// The index of the first grant that is another than the start's, or one too many.
-pub fn first_other(requests: &[Request], opening: &[Grant]) -> Option<u64>
-    ensures none { IfNone result (ArePrefix requests.now opening.now) }
-    ensures some { IfSome result (IsOtherStart requests.now opening.now) }
-{
-    let mut at = 0;
-    while at < opening.len() {
-        if at >= requests.len() || !is_grant_of(opening[at], requests[at]) {
-            return Some(at as u64);
-        }
-        at += 1;
-    }
-    None
-}
-
-// Whether it is the grant of a request to session 0 of shift 0.
-fn is_grant_of(grant: Grant, request: Request) -> bool
-    ensures { (result ≡ true) ↔ (grant ≡ step_grant request) }
-{
-    grant.shift == 0 && grant.session == 0 && grant.request == request
 }
