@@ -66,9 +66,9 @@ invariant_of-self-in-Err g c =
       any_moment = λ file grants is stands. c.in-Err.ensures.any_moment file i.text grants is stands running;
     } in
     let device = device_alone c.in-Err.field-0 i.journal.is_halted c.in-Err.ensures.halted_only running in
-    let more = seen_more i.entry i.found old.entry old.found i.core i.core i.text i.journal c.append.new.self i.opening.items i.history.items
-    c.push-in-Err.new.self.items i.added.items i.added.items i.unsure (Some grant) i.limit grant.shift e v.2.first v.2.second refl
-    (c.push-in-Err.ensures.items ∙ ap (λ (x : Entry). i.history.items ++ x ∷ []) c.entry-in-Err.ensures) (sym
+    let more = seen_more i.entry i.found old.entry old.found i.core i.core i.text i.journal c.append.new.self i.opening.items
+    i.history.items c.push-in-Err.new.self.items i.added.items i.added.items i.unsure (Some grant) i.limit grant.shift e v.2.first
+    v.2.second refl (c.push-in-Err.ensures.items ∙ ap (λ (x : Entry). i.history.items ++ x ∷ []) c.entry-in-Err.ensures) (sym
     (append-nil i.added.items)) refl in
     subst (λ (d : DurableState _). Keeps g.D.Disk.reads_as g.D.Disk.may_leave g.D.Disk.moment g.D.Disk.left_since g.D.Disk.faults d
     i.entry i.found i.core c.append.new.self c.push-in-Err.new.self.spare i.added.spare) (sym more) (
@@ -104,8 +104,8 @@ pub returns-in-Ok-clause-disk : goal.returns-in-Ok-clause-disk
 returns-in-Ok-clause-disk g c =
     let i = c.self.inside in let v = c.self.invariant in let grant = c.args.grant in
     let old = seen i.entry i.found i.core i.text i.journal i.opening.items i.history.items i.added.items i.unsure i.limit in
-    let new = seen i.entry i.found c.apply.new.self i.text c.append.new.self i.opening.items c.push-in-Ok.new.self.items c.push.new.self.items
-    i.unsure i.limit in
+    let new = seen i.entry i.found c.apply.new.self i.text c.append.new.self i.opening.items c.push-in-Ok.new.self.items
+    c.push.new.self.items i.unsure i.limit in
     let goes = goes_before old c.args.self.now grant.request v.0 c.self.view_is c.requires.goes_on c.requires.granted in
     let running = v.2.runs goes.none in
     subst (λ (d : DurableState _). MovesSafely g.D.Disk.reads_as g.D.Disk.may_leave g.D.Disk.moment g.D.Disk.left_since d new)
