@@ -8,7 +8,8 @@ ghost use Rattle.durable_cell.specs.Kept.{KeepsHistory, KeepsDisk};
 ghost use Rattle.durable_cell.specs.Openings.{IsNew, IsAnswer, IsFound, HasCause, HasTaken, Leaves};
 
 use crate::marks::mark_of;
-use crate::recalled::{Recalled, Recalling};
+use crate::recalled::Recalled;
+use crate::recalling::Recalling;
 use crate::{AskFault, Finished, MAX_ROOM, Opening, Resumed, resume};
 use admission_core::Core;
 use atomic_table::Badge;

@@ -31,6 +31,7 @@ mod finished;
 mod marks;
 mod opening;
 mod recalled;
+mod recalling;
 mod replays;
 mod resumed;
 mod stored;

@@ -3,8 +3,7 @@ ghost use base.Fml.{ftrue};
 ghost use Rattle.std.specs.Prelude.{◌≡◌, List, [], ◌∷◌, ◌++◌};
 ghost use Rattle.cell_base.specs.declared.shifts.Grant.{Grant as OneGrant};
 
-use cell_base::{Grant, NoMemory};
-use shift_recovery::Taker;
+use cell_base::Grant;
 use std::marker::{Model, PhantomData};
 
 /// Grants that were taken one after the other. It has no bytes: contracts alone read `items`.
@@ -46,32 +45,3 @@ impl Drop for Recalled {
 }
 
 unsafe impl Send for Recalled {}
-
-/// Recalls what it hands on.
-#[derive(Drop)]
-pub(crate) struct Recalling<K> {
-    pub(crate) grants: Recalled,
-    pub(crate) kept: K,
-}
-
-impl<K> Recalling<K> {
-    /// No grants yet.
-    pub(crate) fn of(kept: K) -> Recalling<K>
-        ensures none { result.grants.items ≡ [] }
-        ensures kept { result.kept ≡ kept }
-    {
-        Recalling {
-            grants: Recalled::none(),
-            kept,
-        }
-    }
-}
-
-impl<K: Taker> Taker for Recalling<K> {
-    ghost took = { λ start first grants now. (now.grants.items ≡ grants) × K.took start.kept first grants now.kept };
-
-    fn take(&mut self, at: u64, grant: Grant) -> Result<(), NoMemory> {
-        self.grants = Recalled::with(&self.grants, &grant);
-        self.kept.take(at, grant)
-    }
-}
