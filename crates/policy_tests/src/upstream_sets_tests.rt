@@ -20,5 +20,10 @@ fn neighborhoods_are_told(rt: HostRuntime) -> Result<(), Fail> {
     assert!(rt; first.as_slice() == [StageNo(0), StageNo(3)].as_slice());
     let second = upstream.members(rt.alloc(), ResId(1))?;
     assert!(rt; second.as_slice() == [StageNo(0), StageNo(1), StageNo(2)].as_slice());
+    let all = upstream.neighborhoods(rt.alloc())?;
+    assert!(rt; all.len() == 64);
+    assert!(rt; all[0].as_slice() == first.as_slice());
+    assert!(rt; all[1].as_slice() == second.as_slice());
+    assert!(rt; all[2].as_slice().is_empty());
     Ok(())
 }

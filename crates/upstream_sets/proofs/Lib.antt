@@ -1,2 +1,3 @@
 pub mod Stages
 pub mod Floors
+pub mod Adding

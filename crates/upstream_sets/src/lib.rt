@@ -10,6 +10,7 @@
 //! let upstream = Upstream::new(alloc, &table)?;
 //! let mask = upstream.mask(stage);                          // bit r: the stage is in the neighborhood of r
 //! let members = upstream.members(alloc, ResId(1))?;         // the neighborhood of resource 1, in the order of stages
+//! let all = upstream.neighborhoods(alloc)?;                 // those of all resources, found in one pass
 //! ```
 //!
 //! `laws` has the two laws of the policy over masks: what a step to a resource of no lesser order, and what a step to one of
@@ -17,6 +18,7 @@
 #![tactic(auto)]
 
 pub mod laws;
+mod neighborhoods;
 mod sweep;
 mod upstream;
 

@@ -4,8 +4,9 @@ ghost use Rattle.cell_base.specs.declared.limits.TheConstants.{MAX_RESOURCES};
 ghost use Rattle.cell_base.specs.Masks.{has_bit};
 ghost use Rattle.cell_base.specs.Neighborhoods.{masks_of};
 ghost use Rattle.upstream_sets.specs.Masks.{TellsLeads};
-ghost use Rattle.upstream_sets.specs.Members.{AreMembersOf, with_bit};
+ghost use Rattle.upstream_sets.specs.Members.{AreMembersOf, AreNeighborhoodsOf, with_bit};
 
+use crate::neighborhoods::neighborhoods;
 use crate::sweep::sweep;
 use cell_base::{List, NoMemory, ResId};
 use route_table::{StageNo, StageTable};
@@ -52,6 +53,13 @@ impl Upstream {
         ensures { IfOk result (λ list. AreMembersOf self.now r.0 list) }
     {
         members(alloc, &self.masks, r)
+    }
+
+    /// The neighborhoods of all resources, each as `members` gives it.
+    pub fn neighborhoods(&self, alloc: Global) -> Result<Vec<List<StageNo>>, NoMemory>
+        ensures { IfOk result (λ lists. AreNeighborhoodsOf self.now lists.items) }
+    {
+        neighborhoods(alloc, &self.masks)
     }
 }
 
