@@ -1,16 +1,17 @@
 -- How the outcomes of `show` come about.
-use Rattle.std.proofs.Common.{◌≡◌, ℕ, zero, suc, ◌+◌, ◌-◌, ◌<◌, Bool, true, false, cond, Option, List, [], ◌∷◌, ◌++◌, length, map}
+use Rattle.std.proofs.Common.{◌≡◌, ℕ, zero, suc, ◌+◌, ◌-◌, ◌<◌, Option, List, [], ◌++◌, length, map, get_or}
 use Rattle.std.proofs.Common.{Ok, ap, arith, refl, sym, subst, ◌∙◌, append_assoc, append-nil}
-use Rattle.std.specs.List.{filter, flat_map, range_with_len}
-use Rattle.std.proofs.lemmas.List.FromFn.{fill_by_all}
+use Rattle.std.specs.List.{flat_map, range_with_len}
+use Rattle.std.proofs.lemmas.List.{get_or_default}
 use Rattle.outside_io.specs.Puts.{SinkTold, TookAll, TookSome, sink_told}
 use Rattle.outside_io.specs.PutLaws.{failed_after, failed_before, took_more}
 use Rattle.cell_base.specs.declared.cells.Cell.{Cell}
-use Rattle.cell_base.specs.Neighborhoods.{leads, neighborhood}
-use Rattle.cell_base.specs.Numbers.{stage_numbered}
-use Rattle.cell_base.specs.Stages.{Stage, stage, stages}
+use Rattle.cell_base.specs.Fits.{CellFits}
+use Rattle.cell_base.specs.Neighborhoods.{masks_of, neighborhood}
 use Rattle.policy_laws.proofs.Growing.{join_next}
-use Rattle.refusal_reason.specs.Shown.{show_lines, stage_line, stage_lines}
+use Rattle.route_table.specs.declared.stage_table.StageNo.{StageNo}
+use Rattle.upstream_sets.specs.Members.{AreNeighborhoodsOf, stage_no}
+use Rattle.refusal_reason.specs.Shown.{show_lines}
 use Rattle.cell_walks.specs.Allowed.{IsAllowed, IsEndedAt, Passed, Unasked}
 use Rattle.cell_walks.specs.DiskTold.{no_disk}
 use Rattle.cell_walks.specs.Observed.{FilesTold, ShowsFile, observed}
@@ -18,7 +19,7 @@ use Rattle.cell_walks.specs.Outcomes.{done, early}
 use Rattle.cell_walks.specs.declared.early_end.EarlyEnd.{EarlyEnd}
 use Rattle.cell_walks.proofs.Steps.{ended_at, none_done}
 use Rattle.cell_texts.specs.Tests.{KnownCell, cell_file, cell_reads}
-use Rattle.cell_commands.specs.Show.{member_lines, show, shown}
+use Rattle.cell_commands.specs.Show.{show, shown}
 
 module _ (files : FilesTold) (cell : List ℕ) where
   -- the cell was not read
@@ -71,33 +72,13 @@ module _ {K : Type 0} (taken : K → Option (List ℕ)) (was_put : K → List �
 
 -- ---- a neighborhood
 
--- of each element its line, if it passes
-lines_of_passing : {X : Type 0} (passes : X → Bool) (line : X → List ℕ) (at : ℕ → X) (ks : List ℕ)
-    → flat_map (λ k. cond (passes (at k)) (line (at k) ∷ []) []) ks ≡ map line (filter passes (map at ks))
-lines_of_passing passes line at [] = refl
-lines_of_passing passes line at (k ∷ ks) = by_test (passes (at k)) (lines_of_passing passes line at ks)
-  where
-    by_test : (b : Bool) → flat_map (λ k. cond (passes (at k)) (line (at k) ∷ []) []) ks ≡ map line (filter passes (map at ks))
-        → cond b (line (at k) ∷ []) [] ++ flat_map (λ k. cond (passes (at k)) (line (at k) ∷ []) []) ks
-        ≡ map line (cond b (at k ∷ filter passes (map at ks)) (filter passes (map at ks)))
-    by_test true later = ap (λ (lines : List (List ℕ)). line (at k) ∷ lines) later
-    by_test false later = later
+module _ (table : Cell) (fits : CellFits table) (lists : List (List StageNo)) (are : AreNeighborhoodsOf (masks_of table) lists)
+    (r : ℕ) (within : r < length table.resources) where
+  -- there is a list for each resource of the cell
+  pub list_there : r < length lists
+  list_there = omega (arith, within, fits.resource_count.1, are.complete)
 
--- the lines of all stages that are of the neighborhood are those of the neighborhood
-pub all_members : (cell : Cell) (r : ℕ)
-    → flat_map (member_lines cell r) (range_with_len 0 (length (stages cell))) ≡ stage_lines cell (neighborhood cell r)
-all_members cell r =
-    lines_of_passing (λ s. leads cell s r) (stage_line cell) (stage_numbered cell) (range_with_len 0 (length (stages cell)))
-    ∙ ap (λ (ss : List Stage). map (stage_line cell) (filter (λ s. leads cell s r) ss))
-    (sym (fill_by_all (stage_numbered cell) (stages cell) (length (stages cell)) (stage 0 0) refl (λ k within. refl)))
-
--- what is printed of a stage
-module _ (cell : Cell) (r k : ℕ) where
-  pub member_is : (line : List ℕ) → leads cell (stage_numbered cell k) r ≡ true → line ≡ stage_line cell (stage_numbered cell k)
-      → line ∷ [] ≡ member_lines cell r k
-  member_is line member is =
-      ap (λ (l : List ℕ). l ∷ []) is
-      ∙ ap (λ (b : Bool). cond {A = List (List ℕ)} b (stage_line cell (stage_numbered cell k) ∷ []) []) (sym member)
-
-  pub member_none : leads cell (stage_numbered cell k) r ≡ false → [] ≡ member_lines cell r k
-  member_none none = ap (λ (b : Bool). cond {A = List (List ℕ)} b (stage_line cell (stage_numbered cell k) ∷ []) []) (sym none)
+  -- it has the members by their numbers
+  pub list_is : (default : List StageNo) → get_or lists r default ≡ map (stage_no table) (neighborhood table r)
+  list_is default =
+      get_or_default lists r default [] list_there ∙ are.each r (omega (arith, list_there, are.complete)) table fits refl

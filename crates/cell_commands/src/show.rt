@@ -1,28 +1,30 @@
 //! `show CELL`: the resources of a cell, each with the stages of its neighborhood.
-ghost use Rattle.std.specs.Prelude.{◌≡◌, ◌<◌, length, IfOk, OnErr, OnOk};
-ghost use Rattle.cell_base.specs.Neighborhoods.{masks_of, neighborhood};
+ghost use Rattle.std.specs.Prelude.{◌≡◌, ◌<◌, length, map, IfOk, OnErr, OnOk};
+ghost use Rattle.std.specs.List.{All};
+ghost use Rattle.cell_base.specs.Neighborhoods.{masks_of};
 ghost use Rattle.cell_base.specs.Numbers.{IsNumber};
 ghost use Rattle.cell_base.specs.Fits.{CellFits};
-ghost use Rattle.refusal_reason.specs.Shown.{resource_lines, show_lines, stage_lines};
+ghost use Rattle.upstream_sets.specs.Members.{AreNeighborhoodsOf};
+ghost use Rattle.refusal_reason.specs.Shown.{resource_lines, show_lines};
 ghost use Rattle.cell_walks.specs.Clauses.{Ends, HasCause, IsAllowed, IsDelivered, TookAll, TookSome};
 ghost use Rattle.cell_walks.specs.Clauses.{disk_told, files_told, no_disk, observed, sink_told};
-ghost use Rattle.cell_commands.specs.Show.{member_lines, show, shown_outcome};
+ghost use Rattle.cell_commands.specs.Show.{member_line, show, shown_outcome};
 
-use cell_base::{Cell, NoMemory, ResId};
+use cell_base::{Cell, List, NoMemory, ResId};
 use cell_texts::{CellFile, CommandEnd, print_line, read_cell};
 use cell_walks::{EarlyEnd, Status, finish_early};
 use outside_io::{Disk, Failed, Files, Sink};
 use record_text::Line;
-use refusal_reason::{resource_line, write_member};
+use refusal_reason::{resource_line, write_stage};
 use route_table::{StageNo, StageTable};
 use std::alloc::Global;
 use upstream_sets::Upstream;
 
-// What is shown: the stages of a cell, and to which resources they lead.
+// What is shown: the stages of a cell, and the neighborhood of each resource.
 #[derive(Drop)]
 struct Shown {
     table: StageTable,
-    upstream: Upstream,
+    neighborhoods: Vec<List<StageNo>>,
 }
 
 /// Runs `show CELL`. All memory is taken before the first line is printed, and each line is printed as it is made.
@@ -47,7 +49,7 @@ pub fn run_show<F: Files, K: Sink, D: Disk>(
 fn shown_of_files<F: Files>(alloc: Global, files: &mut F, cell: &str) -> Result<Shown, EarlyEnd>
     ensures allowed { let files = files_told F.holds F.is_sound F.faults files.old files.new in
         IsAllowed (observed files no_disk) (show cell.now) (shown_outcome result) }
-    ensures masks { IfOk result (λ shown. shown.upstream ≡ masks_of shown.table) }
+    ensures neighborhoods { IfOk result (λ shown. AreNeighborhoodsOf (masks_of shown.table) shown.neighborhoods.items) }
 {
     match read_cell(alloc, files, cell) {
         Ok(CellFile { cell, text: _ }) => match shown_of(alloc, cell) {
@@ -62,16 +64,19 @@ fn shown_of_files<F: Files>(alloc: Global, files: &mut F, cell: &str) -> Result<
 fn shown_of(alloc: Global, cell: Cell) -> Result<Shown, NoMemory>
     requires { CellFits cell }
     ensures cell { IfOk result (λ shown. shown.table ≡ cell) }
-    ensures masks { IfOk result (λ shown. shown.upstream ≡ masks_of shown.table) }
+    ensures neighborhoods { IfOk result (λ shown. AreNeighborhoodsOf (masks_of shown.table) shown.neighborhoods.items) }
 {
     let table = StageTable::of(alloc, cell)?;
-    let upstream = Upstream::new(alloc, &table)?;
-    Ok(Shown { table, upstream })
+    let neighborhoods = Upstream::new(alloc, &table)?.neighborhoods(alloc)?;
+    Ok(Shown {
+        table,
+        neighborhoods,
+    })
 }
 
 // Prints the lines, or the early end, and answers the status.
 fn print_made<K: Sink>(out: &mut K, made: Result<Shown, EarlyEnd>) -> Status
-    requires { IfOk made (λ shown. shown.upstream ≡ masks_of shown.table) }
+    requires { IfOk made (λ shown. AreNeighborhoodsOf (masks_of shown.table) shown.neighborhoods.items) }
     ensures { IsDelivered (sink_told K.taken K.was_put K.faults out.old out.new) (shown_outcome made) result }
 {
     match made {
@@ -85,7 +90,7 @@ fn print_made<K: Sink>(out: &mut K, made: Result<Shown, EarlyEnd>) -> Status
 
 // Prints each resource with its neighborhood, up to the first line that the sink doesn't take.
 fn print_shown<K: Sink>(out: &mut K, shown: &Shown) -> Result<(), Failed>
-    requires { shown.now.upstream ≡ masks_of shown.now.table }
+    requires { AreNeighborhoodsOf (masks_of shown.now.table) shown.now.neighborhoods.items }
     ensures whole { OnOk result (TookAll (sink_told K.taken K.was_put K.faults out.old out.new) (show_lines shown.now.table)) }
     ensures part { OnErr result (TookSome (sink_told K.taken K.was_put K.faults out.old out.new) (show_lines shown.now.table)) }
     ensures cause { HasCause (K.faults out.old) (K.faults out.new) result }
@@ -100,7 +105,7 @@ fn print_shown<K: Sink>(out: &mut K, shown: &Shown) -> Result<(), Failed>
 
 // Prints the line of a resource, and those of its neighborhood.
 fn print_resource<K: Sink>(out: &mut K, shown: &Shown, r: ResId) -> Result<(), Failed>
-    requires masks { shown.now.upstream ≡ masks_of shown.now.table }
+    requires neighborhoods { AreNeighborhoodsOf (masks_of shown.now.table) shown.now.neighborhoods.items }
     requires resource { r.0 < length shown.now.table.resources }
     ensures whole { OnOk result (TookAll (sink_told K.taken K.was_put K.faults out.old out.new) (resource_lines shown.now.table r.0)) }
     ensures part { OnErr result (TookSome (sink_told K.taken K.was_put K.faults out.old out.new) (resource_lines shown.now.table r.0)) }
@@ -109,48 +114,32 @@ fn print_resource<K: Sink>(out: &mut K, shown: &Shown, r: ResId) -> Result<(), F
     if let Err(failed) = print_line(out, &resource_line(shown.table.cell(), r)) {
         return Err(failed);
     }
-    print_members(out, shown, r)
+    print_members(
+        out,
+        &shown.table,
+        shown.neighborhoods[r.0 as usize].as_slice(),
+    )
 }
 
 // Prints the line of each stage of a neighborhood.
-fn print_members<K: Sink>(out: &mut K, shown: &Shown, r: ResId) -> Result<(), Failed>
-    requires masks { shown.now.upstream ≡ masks_of shown.now.table }
-    requires resource { r.0 < length shown.now.table.resources }
-    ensures whole { OnOk result (TookAll (sink_told K.taken K.was_put K.faults out.old out.new)
-        (stage_lines shown.now.table (neighborhood shown.now.table r.0))) }
-    ensures part { OnErr result (TookSome (sink_told K.taken K.was_put K.faults out.old out.new)
-        (stage_lines shown.now.table (neighborhood shown.now.table r.0))) }
+fn print_members<K: Sink>(
+    out: &mut K,
+    table: &StageTable,
+    members: &[StageNo],
+) -> Result<(), Failed>
+    requires { All (λ stage. IsNumber table.now stage.0) members.now }
+    ensures whole { OnOk result
+        (TookAll (sink_told K.taken K.was_put K.faults out.old out.new) (map (member_line table.now) members.now)) }
+    ensures part { OnErr result
+        (TookSome (sink_told K.taken K.was_put K.faults out.old out.new) (map (member_line table.now) members.now)) }
     ensures cause { HasCause (K.faults out.old) (K.faults out.new) result }
 {
     let mut line = Line::new();
-    for stage in 0..shown.table.stages() {
-        if let Err(failed) = print_member(out, &mut line, shown, StageNo(stage), r) {
+    for stage in members {
+        write_stage(&mut line, table, *stage);
+        if let Err(failed) = print_line(out, &line) {
             return Err(failed);
         }
     }
     Ok(())
-}
-
-// Prints the line of a stage, if it is of the neighborhood.
-fn print_member<K: Sink>(
-    out: &mut K,
-    line: &mut Line,
-    shown: &Shown,
-    stage: StageNo,
-    r: ResId,
-) -> Result<(), Failed>
-    requires masks { shown.now.upstream ≡ masks_of shown.now.table }
-    requires stage { IsNumber shown.now.table stage.0 }
-    requires resource { r.0 < length shown.now.table.resources }
-    ensures whole { OnOk result
-        (TookAll (sink_told K.taken K.was_put K.faults out.old out.new) (member_lines shown.now.table r.0 stage.0)) }
-    ensures part { OnErr result
-        (TookSome (sink_told K.taken K.was_put K.faults out.old out.new) (member_lines shown.now.table r.0 stage.0)) }
-    ensures cause { HasCause (K.faults out.old) (K.faults out.new) result }
-{
-    if write_member(line, &shown.table, &shown.upstream, stage, r) {
-        print_line(out, line)
-    } else {
-        Ok(())
-    }
 }

@@ -2,8 +2,7 @@
 //!
 //! A request that is refused for a full neighborhood is told the resource and two numbers. `explain` names the jobs that
 //! stand in that neighborhood, as many as the resource has units; each other refusal needs no job. `show_text` is the text
-//! of a cell's resources, each with the stages of its neighborhood; `resource_line`, `write_stage` and `write_member` make
-//! its lines alone:
+//! of a cell's resources, each with the stages of its neighborhood; `resource_line` and `write_stage` make its lines alone:
 //!
 //! ```text
 //! if let Reply::Refused(why) = core.decide(&request) {
@@ -18,4 +17,4 @@ mod reasons;
 mod shown;
 
 pub use reasons::explain;
-pub use shown::{resource_line, show_text, write_member, write_stage};
+pub use shown::{resource_line, show_text, write_stage};

@@ -53,7 +53,7 @@ fn leads(core: &Core, part: Part, r: ResId) -> bool
 }
 
 /// Whether a stage is in the neighborhood of a resource, by its mask.
-pub(crate) fn is_member(table: &StageTable, upstream: &Upstream, stage: StageNo, r: ResId) -> bool
+fn is_member(table: &StageTable, upstream: &Upstream, stage: StageNo, r: ResId) -> bool
     requires made { upstream.now ≡ masks_of table.now }
     requires stage { IsNumber table.now stage.0 }
     requires resource { r.0 < length table.now.resources }

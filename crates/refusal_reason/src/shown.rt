@@ -1,18 +1,14 @@
 //! The text that shows a cell's neighborhoods, and its lines.
 ghost use Rattle.std.specs.Prelude.{◌≡◌, ◌<◌, ◌++◌, length, map, OnOk, IfOk};
-ghost use Rattle.std.specs.Bool.{OnTrue};
 ghost use Rattle.std.specs.List.{All, concat};
-ghost use Rattle.cell_base.specs.Neighborhoods.{leads, masks_of};
 ghost use Rattle.cell_base.specs.Numbers.{IsNumber, stage_numbered};
 ghost use Rattle.refusal_reason.specs.Shown.{resource_line, stage_line, resource_lines, show_lines};
 
-use crate::reasons::is_member;
 use admission_core::Core;
 use cell_base::{Cell, List, NoMemory, ResId};
 use record_text::{Line, add_resource, add_type};
 use route_table::{StageNo, StageTable};
 use std::alloc::Global;
-use upstream_sets::Upstream;
 
 /// For each resource in order its line, and a line for each stage of its neighborhood.
 pub fn show_text(alloc: Global, core: &Core) -> Result<List<u8>, NoMemory>
@@ -70,25 +66,4 @@ pub fn write_stage(line: &mut Line, table: &StageTable, stage: StageNo)
     add_type(line, table.cell(), table.kind_of(stage));
     line.number(table.place_of(stage));
     line.close();
-}
-
-/// Whether a stage is in the neighborhood of a resource; where it is, its line comes in the place of what stood on a line.
-pub fn write_member(
-    line: &mut Line,
-    table: &StageTable,
-    upstream: &Upstream,
-    stage: StageNo,
-    r: ResId,
-) -> bool
-    requires made { upstream.now ≡ masks_of table.now }
-    requires stage { IsNumber table.now stage.0 }
-    requires resource { r.0 < length table.now.resources }
-    ensures member { result ≡ leads table.now (stage_numbered table.now stage.0) r.0 }
-    ensures line { OnTrue result (line.new ≡ stage_line table.now (stage_numbered table.now stage.0)) }
-{
-    let is = is_member(table, upstream, stage, r);
-    if is {
-        write_stage(line, table, stage);
-    }
-    is
 }
