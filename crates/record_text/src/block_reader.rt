@@ -11,6 +11,7 @@ use crate::stages::{Advance, Stage, on_line};
 use cell_base::Cell;
 use std::alloc::Global;
 use std::marker::Model;
+use step_text::IndexedCell;
 
 /// What is left of the bytes of a record. It gives one block after the other, and keeps none of them:
 ///
@@ -23,7 +24,7 @@ use std::marker::Model;
 #[derive(Drop)]
 pub struct BlockReader<'a> {
     alloc: Global,
-    cell: &'a Cell,
+    cell: IndexedCell<'a>,
     number: u32,
     rest: &'a [u8],
 }
@@ -36,9 +37,9 @@ impl<'a> Model for BlockReader<'a> {
 
     ghost Value = { Remains };
 
-    ghost view = { λ s. record { cell = s.cell.now; number = s.number; bytes = s.rest.now } };
+    ghost view = { λ s. record { cell = s.cell; number = s.number; bytes = s.rest.now } };
 
-    ghost invariant = { λ s. CellFits s.cell.now × (s.number + length s.rest.now ≤ MAX_RECORD_BYTES + 1) };
+    ghost invariant = { λ s. CellFits s.cell × (s.number + length s.rest.now ≤ MAX_RECORD_BYTES + 1) };
 }
 
 impl<'a> BlockReader<'a> {
@@ -58,7 +59,7 @@ impl<'a> BlockReader<'a> {
         }
         Ok(BlockReader {
             alloc,
-            cell,
+            cell: IndexedCell::new(cell),
             number: 1,
             rest: bytes,
         })
@@ -86,7 +87,7 @@ impl<'a> BlockReader<'a> {
             let Some(more) = more else {
                 return Err(RecordFault::Bad { line: number });
             };
-            stage = match on_line(self.alloc, self.cell, number, stage, line)? {
+            stage = match on_line(self.alloc, &self.cell, number, stage, line)? {
                 Some(Advance::Within(next)) => next,
                 Some(Advance::Whole(block)) => {
                     self.number = number + 1;

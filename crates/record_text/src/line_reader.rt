@@ -7,6 +7,7 @@ use crate::record::{MAX_RECORD_BYTES, RecordFault, cut_line};
 use crate::record_lines::{RecordLine, Turn, line_at, turn_after};
 use cell_base::Cell;
 use std::marker::Model;
+use step_text::IndexedCell;
 
 /// What is left of the bytes of a record. It gives one line after the other, and keeps none of them:
 ///
@@ -18,7 +19,7 @@ use std::marker::Model;
 /// ```
 #[derive(Drop)]
 pub struct LineReader<'a> {
-    cell: &'a Cell,
+    cell: IndexedCell<'a>,
     number: u32,
     rest: &'a [u8],
     turn: Turn,
@@ -33,9 +34,9 @@ impl<'a> Model for LineReader<'a> {
 
     ghost Value = { LinesLeft };
 
-    ghost view = { λ s. record { cell = s.cell.now; number = s.number; bytes = s.rest.now; turn = s.turn } };
+    ghost view = { λ s. record { cell = s.cell; number = s.number; bytes = s.rest.now; turn = s.turn } };
 
-    ghost invariant = { λ s. CellFits s.cell.now × (s.number + length s.rest.now ≤ MAX_RECORD_BYTES + 1) × IsTurn s.turn };
+    ghost invariant = { λ s. CellFits s.cell × (s.number + length s.rest.now ≤ MAX_RECORD_BYTES + 1) × IsTurn s.turn };
 }
 
 impl<'a> LineReader<'a> {
@@ -51,7 +52,7 @@ impl<'a> LineReader<'a> {
             return Err(RecordFault::Bad { line: 0 });
         }
         Ok(LineReader {
-            cell,
+            cell: IndexedCell::new(cell),
             number: 1,
             rest: bytes,
             turn: Turn::Between,
@@ -92,7 +93,7 @@ impl<'a> LineReader<'a> {
         let Some(rest) = rest else {
             return Err(RecordFault::Bad { line: self.number });
         };
-        let Some(found) = line_at(self.cell, self.turn, line) else {
+        let Some(found) = line_at(&self.cell, self.turn, line) else {
             return Err(RecordFault::Bad { line: self.number });
         };
         self.turn = turn_after(self.turn, &found);

@@ -1,15 +1,14 @@
 //! What the lines of a record say. Each reader reads what the definition of its name says.
 ghost use Rattle.std.specs.Prelude.{◌≡◌};
 ghost use Rattle.std.specs.Option.{option_map, option_copied};
-ghost use Rattle.cell_base.specs.Fits.{CellFits};
 ghost use Rattle.step_text.specs.Words.{words};
 ghost use Rattle.record_text.specs.Reading.{words_of_rest, told_after, asked_at, entry_at, head_at, left_at, placing_of, plan_at, step_at};
 
 use crate::requests_at::{place_at, three_at, two_at};
 use crate::told_at::told_at;
 use crate::words::{Rest, after_word, is_end, number_at};
-use cell_base::{Cell, Entry, Request, Told};
-use step_text::read_step;
+use cell_base::{Entry, Request, Told};
+use step_text::IndexedCell;
 
 const SHIFT: &[u8] = b"shift";
 
@@ -37,8 +36,7 @@ pub fn head_at(line: &[u8]) -> Option<(u32, u64)>
 
 /// The entry that a line is.
 #[tactic(auto, unfolding(crate::specs::Reading::entry_at))]
-pub fn entry_at(cell: &Cell, line: &[u8]) -> Option<Entry>
-    requires { CellFits cell.now }
+pub fn entry_at(cell: &IndexedCell<'_>, line: &[u8]) -> Option<Entry>
     ensures { result ≡ entry_at cell.now (words line.now) }
 {
     let (session, rest) = number_at(0, u16::MAX as u64, Some(line))?;
@@ -53,8 +51,7 @@ pub fn entry_at(cell: &Cell, line: &[u8]) -> Option<Entry>
 /// A request and what was told of it. A name may be any word, so the end of the request is found by trying: the words of
 /// one form are never those of another.
 #[tactic(auto, unfolding(crate::specs::Reading::asked_at))]
-fn asked_at(cell: &Cell, rest: Rest<'_>) -> Option<(Request, Told)>
-    requires { CellFits cell.now }
+fn asked_at(cell: &IndexedCell<'_>, rest: Rest<'_>) -> Option<(Request, Told)>
     ensures { result ≡ asked_at cell.now (words_of_rest (option_copied rest.entry)) }
 {
     if let Some(asked) = told_after(cell, two_at(cell, rest)) {
@@ -68,8 +65,7 @@ fn asked_at(cell: &Cell, rest: Rest<'_>) -> Option<(Request, Told)>
 
 #[tactic(auto, unfolding(crate::specs::Reading::told_after))]
 #[inline(always)]
-fn told_after(cell: &Cell, read: Option<(Request, Rest<'_>)>) -> Option<(Request, Told)>
-    requires { CellFits cell.now }
+fn told_after(cell: &IndexedCell<'_>, read: Option<(Request, Rest<'_>)>) -> Option<(Request, Told)>
     ensures { result ≡ told_after cell.now (option_map (λ x. (x.0, words_of_rest (option_copied x.1))) read.entry) }
 {
     let (request, rest) = read?;
@@ -103,17 +99,15 @@ pub fn plan_at(line: &[u8]) -> Option<u64>
 
 /// The step of a plan that a line is.
 #[tactic(auto, unfolding(crate::specs::Reading::step_at, step_text::specs::Steps::step_of))]
-pub fn step_at(cell: &Cell, line: &[u8]) -> Option<Request>
-    requires { CellFits cell.now }
+pub fn step_at(cell: &IndexedCell<'_>, line: &[u8]) -> Option<Request>
     ensures { result ≡ step_at cell.now (words line.now) }
 {
-    read_step(cell, line).ok()
+    cell.read(line).ok()
 }
 
 /// The request that a line without its newline places a part by. It fits the cell.
 #[tactic(auto, unfolding(crate::specs::Reading::placing_of))]
-pub fn placing_of(cell: &Cell, line: &[u8]) -> Option<Request>
-    requires { CellFits cell.now }
+pub fn placing_of(cell: &IndexedCell<'_>, line: &[u8]) -> Option<Request>
     ensures { result ≡ placing_of cell.now (words line.now) }
 {
     let (request, rest) = place_at(cell, Some(line))?;

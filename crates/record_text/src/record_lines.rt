@@ -1,12 +1,12 @@
 //! What a line of a record says, and which lines may come next.
 ghost use Rattle.std.specs.Prelude.{◌≡◌, IfSome};
-ghost use Rattle.cell_base.specs.Fits.{CellFits};
 ghost use Rattle.cell_base.specs.Histories.{was_halted};
 ghost use Rattle.step_text.specs.Words.{words};
 ghost use Rattle.record_text.specs.Turns.{IsTurn, LineFits, Suits, before_steps, line_at, turn_after};
 
 use crate::lines_at::{entry_at, head_at, left_at, plan_at, step_at};
-use cell_base::{Cell, Entry, Request, Told};
+use cell_base::{Entry, Request, Told};
+use step_text::IndexedCell;
 
 /// What a line of a record says.
 #[derive(Clone, Copy)]
@@ -35,8 +35,7 @@ pub enum Turn {
 }
 
 /// What a line says in its turn, and None where it is bad.
-pub fn line_at(cell: &Cell, turn: Turn, line: &[u8]) -> Option<RecordLine>
-    requires { CellFits cell.now }
+pub fn line_at(cell: &IndexedCell<'_>, turn: Turn, line: &[u8]) -> Option<RecordLine>
     ensures said { result ≡ line_at cell.now turn (words line.now) }
     ensures suits { IfSome result (Suits turn) }
     ensures fits { IfSome result (LineFits cell.now) }

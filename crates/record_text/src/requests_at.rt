@@ -1,20 +1,18 @@
 //! The requests of entries. Each reader reads what the definition of its name says.
 ghost use Rattle.std.specs.Prelude.{◌≡◌};
 ghost use Rattle.std.specs.Option.{option_map, option_copied};
-ghost use Rattle.cell_base.specs.Fits.{CellFits};
 ghost use Rattle.record_text.specs.Reading.{words_of_rest, two_at, three_at, place_fits, place_at};
 
 use crate::words::{Rest, after_word, done_at, number_at, type_at, word_at};
-use cell_base::{Cell, JobId, Request, TypeId, request_fits};
-use step_text::{step_of_three, step_of_two};
+use cell_base::{JobId, Request, TypeId, request_fits};
+use step_text::{IndexedCell, step_of_three, step_of_two};
 
 const PLACE: &[u8] = b"place";
 
 /// A step of two words.
 #[tactic(auto, unfolding(crate::specs::Reading::two_at))]
 #[inline(always)]
-pub fn two_at<'a>(cell: &Cell, rest: Rest<'a>) -> Option<(Request, Rest<'a>)>
-    requires { CellFits cell.now }
+pub fn two_at<'a>(cell: &IndexedCell<'_>, rest: Rest<'a>) -> Option<(Request, Rest<'a>)>
     ensures { option_map (λ x. (x.0, words_of_rest (option_copied x.1))) result
         ≡ two_at cell.now (words_of_rest (option_copied rest.entry)) }
 {
@@ -29,8 +27,7 @@ pub fn two_at<'a>(cell: &Cell, rest: Rest<'a>) -> Option<(Request, Rest<'a>)>
 /// A step of three words.
 #[tactic(auto, unfolding(crate::specs::Reading::three_at))]
 #[inline(always)]
-pub fn three_at<'a>(cell: &Cell, rest: Rest<'a>) -> Option<(Request, Rest<'a>)>
-    requires { CellFits cell.now }
+pub fn three_at<'a>(cell: &IndexedCell<'_>, rest: Rest<'a>) -> Option<(Request, Rest<'a>)>
     ensures { option_map (λ x. (x.0, words_of_rest (option_copied x.1))) result
         ≡ three_at cell.now (words_of_rest (option_copied rest.entry)) }
 {
@@ -43,7 +40,7 @@ pub fn three_at<'a>(cell: &Cell, rest: Rest<'a>) -> Option<(Request, Rest<'a>)>
     }
 }
 
-fn place_fits(cell: &Cell, job: u32, kind: u16, place: u16, done: bool) -> bool
+fn place_fits(cell: &IndexedCell<'_>, job: u32, kind: u16, place: u16, done: bool) -> bool
     ensures { result ≡ place_fits cell.now kind place done }
 {
     let request = Request::Place {
@@ -52,13 +49,12 @@ fn place_fits(cell: &Cell, job: u32, kind: u16, place: u16, done: bool) -> bool
         place,
         done,
     };
-    request_fits(cell, &request)
+    request_fits(cell.as_cell(), &request)
 }
 
 /// A place of a part at which one may stand.
 #[tactic(auto, unfolding(crate::specs::Reading::place_at))]
-pub fn place_at<'a>(cell: &Cell, rest: Rest<'a>) -> Option<(Request, Rest<'a>)>
-    requires { CellFits cell.now }
+pub fn place_at<'a>(cell: &IndexedCell<'_>, rest: Rest<'a>) -> Option<(Request, Rest<'a>)>
     ensures { option_map (λ x. (x.0, words_of_rest (option_copied x.1))) result
         ≡ place_at cell.now (words_of_rest (option_copied rest.entry)) }
 {

@@ -1,11 +1,11 @@
 //! What was told of a request, up to the end of the line.
 ghost use Rattle.std.specs.Prelude.{◌≡◌};
 ghost use Rattle.std.specs.Option.{option_copied};
-ghost use Rattle.cell_base.specs.Fits.{CellFits};
 ghost use Rattle.record_text.specs.Reading.{words_of_rest, saturated_at, plain_refusal, why_at, told_at};
 
 use crate::words::{Rest, after_word, is_end, number_at, resource_at, word_at};
-use cell_base::{Cell, Refusal, Reply, ResId, Told};
+use cell_base::{Refusal, Reply, ResId, Told};
+use step_text::IndexedCell;
 
 const GRANTED: &[u8] = b"granted";
 
@@ -34,8 +34,7 @@ const OF: &[u8] = b"of";
 /// What was told.
 #[tactic(auto, unfolding(crate::specs::Reading::told_at, crate::specs::Reading::told_of))]
 #[inline(always)]
-pub fn told_at(cell: &Cell, rest: Rest<'_>) -> Option<Told>
-    requires { CellFits cell.now }
+pub fn told_at(cell: &IndexedCell<'_>, rest: Rest<'_>) -> Option<Told>
     ensures { result ≡ told_at cell.now (words_of_rest (option_copied rest.entry)) }
 {
     let (word, rest) = word_at(rest)?;
@@ -61,8 +60,7 @@ pub fn told_at(cell: &Cell, rest: Rest<'_>) -> Option<Told>
 }
 
 #[tactic(auto, unfolding(crate::specs::Reading::why_at))]
-fn why_at(cell: &Cell, rest: Rest<'_>) -> Option<Refusal>
-    requires { CellFits cell.now }
+fn why_at(cell: &IndexedCell<'_>, rest: Rest<'_>) -> Option<Refusal>
     ensures { result ≡ why_at cell.now (words_of_rest (option_copied rest.entry)) }
 {
     let (word, rest) = word_at(rest)?;
@@ -102,8 +100,7 @@ fn plain_refusal(word: &[u8]) -> Option<Refusal>
 }
 
 #[tactic(auto, unfolding(crate::specs::Reading::saturated_at))]
-fn saturated_at(cell: &Cell, rest: Rest<'_>) -> Option<Refusal>
-    requires { CellFits cell.now }
+fn saturated_at(cell: &IndexedCell<'_>, rest: Rest<'_>) -> Option<Refusal>
     ensures { result ≡ saturated_at cell.now (words_of_rest (option_copied rest.entry)) }
 {
     let (at, rest) = resource_at(cell, rest)?;

@@ -3,11 +3,9 @@
 //! Each reader takes what is left of the line, and gives what it has read with what is left after it.
 ghost use Rattle.std.specs.Prelude.{◌≡◌, ◌<◌, ◌≤◌, length, IfSome};
 ghost use Rattle.std.specs.Option.{option_map, option_copied};
-ghost use Rattle.cell_base.specs.Fits.{CellFits};
 ghost use Rattle.record_text.specs.Reading.{words_of_rest, word_at, is_end, after_word, number_at, type_at, resource_at, done_at};
 
-use cell_base::Cell;
-use step_text::{cut, number_of, resource_named, type_named};
+use step_text::{IndexedCell, cut, number_of, resource_named, type_named};
 
 const DONE: &[u8] = b"done";
 
@@ -63,8 +61,7 @@ pub fn number_at(low: u64, high: u64, rest: Rest<'_>) -> Option<(u64, Rest<'_>)>
 
 /// The number of a type of the cell, by its name.
 #[tactic(auto, unfolding(crate::specs::Reading::type_at))]
-pub fn type_at<'a>(cell: &Cell, rest: Rest<'a>) -> Option<(u16, Rest<'a>)>
-    requires { CellFits cell.now }
+pub fn type_at<'a>(cell: &IndexedCell<'_>, rest: Rest<'a>) -> Option<(u16, Rest<'a>)>
     ensures kind { option_map (λ x. (x.0, words_of_rest (option_copied x.1))) result
         ≡ type_at cell.now (words_of_rest (option_copied rest.entry)) }
     ensures within { IfSome result (λ x. x.0 < length cell.now.types) }
@@ -78,8 +75,7 @@ pub fn type_at<'a>(cell: &Cell, rest: Rest<'a>) -> Option<(u16, Rest<'a>)>
 
 /// The number of a resource of the cell, by its name.
 #[tactic(auto, unfolding(crate::specs::Reading::resource_at))]
-pub fn resource_at<'a>(cell: &Cell, rest: Rest<'a>) -> Option<(u16, Rest<'a>)>
-    requires { CellFits cell.now }
+pub fn resource_at<'a>(cell: &IndexedCell<'_>, rest: Rest<'a>) -> Option<(u16, Rest<'a>)>
     ensures resource { option_map (λ x. (x.0, words_of_rest (option_copied x.1))) result
         ≡ resource_at cell.now (words_of_rest (option_copied rest.entry)) }
     ensures within { IfSome result (λ x. x.0 < length cell.now.resources) }

@@ -10,6 +10,7 @@ ghost use Rattle.start_file.specs.StartFiles.{IsStartOf, StartRefusedAt};
 use cell_base::{Cell, List, Request};
 use record_text::{RecordFault, cut_line, placing_of};
 use std::alloc::Global;
+use step_text::IndexedCell;
 
 /// The most bytes of a start file.
 pub const MAX_START_BYTES: u64 = 262_144;
@@ -28,12 +29,15 @@ pub fn read_start(alloc: Global, cell: &Cell, bytes: &[u8]) -> Result<List<Reque
     if bytes.len() as u64 > MAX_START_BYTES {
         return Err(RecordFault::Bad { line: 0 });
     }
-    read_lines(alloc, cell, bytes)
+    read_lines(alloc, &IndexedCell::new(cell), bytes)
 }
 
 // The requests of all lines.
-fn read_lines(alloc: Global, cell: &Cell, bytes: &[u8]) -> Result<List<Request>, RecordFault>
-    requires cell { CellFits cell.now }
+fn read_lines(
+    alloc: Global,
+    cell: &IndexedCell<'_>,
+    bytes: &[u8],
+) -> Result<List<Request>, RecordFault>
     ensures { GivesStart result (read_from cell.now [] (pieces bytes.now)) }
 {
     let mut found: List<Request> = List::new(alloc);
@@ -55,8 +59,7 @@ fn read_lines(alloc: Global, cell: &Cell, bytes: &[u8]) -> Result<List<Request>,
 }
 
 // The request of a line after those that were found.
-fn next_request(cell: &Cell, found: &List<Request>, line: &[u8]) -> Option<Request>
-    requires { CellFits cell.now }
+fn next_request(cell: &IndexedCell<'_>, found: &List<Request>, line: &[u8]) -> Option<Request>
     ensures request { result ≡ next_request cell.now found.now line.now }
     ensures room { IfSome result (λ request. length found.now < MAX_START_LINES) }
 {

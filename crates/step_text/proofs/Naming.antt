@@ -51,14 +51,16 @@ name_again names k are within =
     rw (test_passes (get_or names k []) (are.spelled k within), found_at names (get_or names k []) k are within refl) refl
 
 -- a word that stands among names is a name
+name_among : (names : List (List ℕ)) (word : List ℕ) (k : ℕ) → AreNames names → position (bytes_eq word) names ≡ Some k → IsName word
+name_among names word k are found =
+    let at = position-Some (bytes_eq word) names k [] found in
+    subst IsName (sym ((bytes_eq-Decides word (get_or names k [])).0 at.1)) (are.spelled k at.0)
+
+-- its number is the number of that name
 found_name : (names : List (List ℕ)) (word : List ℕ) (k : ℕ) → AreNames names → position (bytes_eq word) names ≡ Some k
     → number_of_name names word ≡ Ok k
 unfolding number_of_name
-found_name names word k are found =
-    let at = position-Some (bytes_eq word) names k [] found in
-    let is : word ≡ get_or names k [] = (bytes_eq-Decides word (get_or names k [])).0 at.1 in
-    let name : IsName word = subst IsName (sym is) (are.spelled k at.0) in
-    rw (test_passes word name, found) refl
+found_name names word k are found = rw (test_passes word (name_among names word k are found), found) refl
 
 -- a word that is read as a number is the name of that number
 pub record IsNameAt (names : List (List ℕ)) (k : ℕ) (word : List ℕ) : Type 0 where
@@ -104,6 +106,10 @@ module _ {A : Type 0} (name : A → List ℕ) where
       → number_of_name (map name xs) (option_map_or name (slice_get xs k) []) ≡ Ok k
   listed_again xs k are within = rw (name_listed xs k) (name_again (map name xs) k are (rw length-map within))
 
+  listed_at : (xs : List A) (word : List ℕ) (k : ℕ) → AreNames (map name xs) → k < length xs
+      → option_map_or name (slice_get xs k) [] ≡ word → position (bytes_eq word) (map name xs) ≡ Some k
+  listed_at xs word k are within is = found_at (map name xs) word k are (rw length-map within) (sym (name_listed xs k) ∙ is)
+
   listed_back : (xs : List A) (word : List ℕ) (k : ℕ)
       → number_of_name (map name xs) word ≡ Ok k → (k < length xs) × (option_map_or name (slice_get xs k) [] ≡ word)
   listed_back xs word k e =
@@ -124,6 +130,17 @@ module _ (cell : Cell) (fits : CellFits cell) where
 
   pub type_named : (k : ℕ) → k < length cell.types → IsName (type_name cell k)
   type_named k within = spelled_at (λ (t : JobType). t.name) cell.types k types_are within
+
+  pub resource_at : (word : List ℕ) (k : ℕ) → k < length cell.resources → resource_name cell k ≡ word
+      → position (bytes_eq word) (resource_names cell.resources) ≡ Some k
+  resource_at word k within is = listed_at (λ (r : Resource). r.name) cell.resources word k resources_are within is
+
+  pub type_at : (word : List ℕ) (k : ℕ) → k < length cell.types → type_name cell k ≡ word
+      → position (bytes_eq word) (type_names cell.types) ≡ Some k
+  type_at word k within is = listed_at (λ (t : JobType). t.name) cell.types word k types_are within is
+
+  pub type_among : (word : List ℕ) (k : ℕ) → position (bytes_eq word) (type_names cell.types) ≡ Some k → IsName word
+  type_among word k found = name_among _ word k types_are found
 
   pub resource_found : (word : List ℕ) (k : ℕ) → position (bytes_eq word) (resource_names cell.resources) ≡ Some k
       → number_of_name (resource_names cell.resources) word ≡ Ok k

@@ -1,30 +1,18 @@
 -- Texts that are cut at the first byte that passes a test.
 use Rattle.std.proofs.Common.{◌≡◌, ℕ, ◌+◌, ◌<◌, ◌≤◌, cond, Bool, List, [], ◌∷◌, take, drop, length}
-use Rattle.std.proofs.Common.{Option, Some, None, position, sym, ap, ◌∙◌, arith, inl, inr}
+use Rattle.std.proofs.Common.{Some, None, position, ap, ◌∙◌, arith, inl, inr}
 use Rattle.std.specs.List.{position_or_len, slice_split}
-use Rattle.std.proofs.lemmas.Bool.{cases_lt, lt-ltb, le-ltb, false_from_ne_true}
+use Rattle.std.proofs.lemmas.Bool.{cases_lt, lt-ltb, le-ltb}
 use Rattle.std.proofs.lemmas.List.Splits.{slice_split_first, slice_split_none}
-use Rattle.std.proofs.lemmas.List.Sums.{fails_before_first, position_or_len_is}
-use Rattle.memchr.specs.Find.{IsFirstByte}
+use Rattle.std.proofs.lemmas.List.Sums.{fails_before_first}
 
-there : (test : ℕ → Bool) (text : List ℕ) → position_or_len test text < length text → position test text ≡ Some (position_or_len test text)
+-- where a byte passes the test, the first of them is the place
+pub there : (test : ℕ → Bool) (text : List ℕ) → position_or_len test text < length text → position test text ≡ Some (position_or_len test text)
 there test text lt = ap (λ b. cond b (Some (position_or_len test text)) None) (lt-ltb (position_or_len test text) (length text) lt)
 
-nowhere : (test : ℕ → Bool) (text : List ℕ) → length text ≤ position_or_len test text → position test text ≡ None
+-- where none does, there is no place
+pub nowhere : (test : ℕ → Bool) (text : List ℕ) → length text ≤ position_or_len test text → position test text ≡ None
 nowhere test text le = ap (λ b. cond b (Some (position_or_len test text)) None) (le-ltb (position_or_len test text) (length text) le)
-
--- what a search of the first byte finds is its place
-pub first_place : (test : ℕ → Bool) (text : List ℕ) (found : Option ℕ) → IsFirstByte test text found → found ≡ position test text
-first_place test text None none =
-    let end : position_or_len test text ≡ length text =
-    position_or_len_is test text (length text) 0 (omega arith)
-    (λ k lt. false_from_ne_true _ (none k (omega arith) lt)) (λ lt. absurd (omega (arith, lt))) in
-    sym (nowhere test text (omega (arith, end)))
-first_place test text (Some at) first =
-    let place : position_or_len test text ≡ at =
-    position_or_len_is test text at 0 (omega (arith, first.0.high))
-    (λ k lt. false_from_ne_true _ (first.0.before k (omega arith) lt)) (λ lt. first.1) in
-    sym (there test text (omega (arith, place, first.0.high)) ∙ ap Some place)
 
 -- the first piece ends at the first place
 pub split_at : (test : ℕ → Bool) (text : List ℕ) (at : ℕ) → Some at ≡ position test text

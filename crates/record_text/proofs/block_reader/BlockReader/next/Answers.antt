@@ -30,7 +30,7 @@ loop-more-init c =
       shorter = omega (arith, ap (λ (left : Remains). length left.bytes) c.self.view_is);
       read =
           subst (λ (left : Remains). IsReadOn left.cell left.number left.bytes here.number ([], Between) here.rest.now) c.self.view_is
-          (none_read here.cell.now here.number here.rest.now);
+          (none_read here.cell here.number here.rest.now);
     }
 
 pub invariant_of-self : goal.invariant_of-self
@@ -46,9 +46,6 @@ returns-in_default-clause-refused c = λ bytes given is.
 
 pub returns-in_default-clause-cell : goal.returns-in_default-clause-cell
 returns-in_default-clause-cell c = c.loop-more.invariant.cell
-
-pub on_line-requires-clause-cell : goal.on_line-requires-clause-cell
-on_line-requires-clause-cell c = subst CellFits (sym c.loop-more.invariant.cell) c.loop-more.invariant.fits
 
 pub invariant_of-self-in_err-next : goal.invariant_of-self-in_err-next
 invariant_of-self-in_err-next c =

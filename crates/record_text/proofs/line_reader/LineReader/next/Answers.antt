@@ -22,7 +22,7 @@ returns-then-is_at_end-clause-formed c = λ bytes so_far is ended.
 pub returns-in_default-clause-refused : goal.returns-in_default-clause-refused
 returns-in_default-clause-refused c = λ bytes so_far is.
     let here = c.self.inside in
-    let left : LinesLeft = record { cell = here.cell.now; number = here.number; bytes = here.rest.now; turn = here.turn } in
+    let left : LinesLeft = record { cell = here.cell; number = here.number; bytes = here.rest.now; turn = here.turn } in
     let same : left ≡ c.args.self.now = c.self.view_is in
     subst (λ (left : LinesLeft). RefusedAt left.cell bytes (Bad here.number)) same
     (refused_end left bytes so_far (subst (λ (left : LinesLeft). AreRead left bytes so_far) (sym same) is) c.self.invariant.0
@@ -33,7 +33,7 @@ returns-in_default-clause-refused c = λ bytes so_far is.
 pub returns-in_default-line_at-clause-refused : goal.returns-in_default-line_at-clause-refused
 returns-in_default-line_at-clause-refused c = λ bytes so_far is.
     let here = c.self.inside in
-    let left : LinesLeft = record { cell = here.cell.now; number = here.number; bytes = here.rest.now; turn = here.turn } in
+    let left : LinesLeft = record { cell = here.cell; number = here.number; bytes = here.rest.now; turn = here.turn } in
     let same : left ≡ c.args.self.now = c.self.view_is in
     subst (λ (left : LinesLeft). RefusedAt left.cell bytes (Bad here.number)) same
     (refused_line left bytes so_far (subst (λ (left : LinesLeft). AreRead left bytes so_far) (sym same) is) c.self.invariant.0
@@ -43,7 +43,7 @@ returns-in_default-line_at-clause-refused c = λ bytes so_far is.
 pub returns-clause-line : goal.returns-clause-line
 returns-clause-line c = λ bytes so_far is.
     let here = c.self.inside in
-    let left : LinesLeft = record { cell = here.cell.now; number = here.number; bytes = here.rest.now; turn = here.turn } in
+    let left : LinesLeft = record { cell = here.cell; number = here.number; bytes = here.rest.now; turn = here.turn } in
     let same : left ≡ c.args.self.now = c.self.view_is in
     let said = c.in-Some-line_at.found in
     let after = c.turn_after-self-inside in

@@ -4,7 +4,7 @@ use Rattle.std.specs.Str.Parse.{digits_value}
 use Rattle.std.proofs.lemmas.List.{drop_more, take-append-drop, take_all, length-drop}
 use Rattle.step_text.specs.Steps.{BeginsWithJob}
 use Rattle.step_text.proofs.JobWords.{begins_with}
-use Rattle.step_text.proofs.step_reader.job_before.Goals as goal
+use Rattle.step_text.proofs.loads.job_before.Goals as goal
 
 pub returns-in-Ok : goal.returns-in-Ok
 returns-in-Ok c =

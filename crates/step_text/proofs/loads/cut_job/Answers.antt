@@ -8,7 +8,7 @@ use Rattle.std.proofs.lemmas.Int.Digits.{digits_value_more}
 use Rattle.std.proofs.lemmas.List.{length-take-le}
 use Rattle.std.proofs.lemmas.List.Folds.{list_all_more}
 use Rattle.step_text.proofs.Numbers.{few_digits}
-use Rattle.step_text.proofs.step_reader.cut_job.Goals as goal
+use Rattle.step_text.proofs.loads.cut_job.Goals as goal
 
 -- the value of so few digits
 small : (text : List ℕ) (i value : ℕ) → i < length text → i ≤ 10 → list_all is_ascii_digit (take i text) ≡ true

@@ -7,13 +7,13 @@ use Rattle.std.specs.Str.{bytes_eq}
 use Rattle.std.proofs.lemmas.Option.{slice_get_read}
 use Rattle.std.proofs.lemmas.Slice.Eq.{bytes_eq-Decides}
 use Rattle.cell_base.specs.declared.cells.JobType.{JobType}
-use Rattle.step_text.proofs.step_reader.StepReader.guess.Goals as goal
+use Rattle.step_text.proofs.indexed_cell.IndexedCell.guessed_type.Goals as goal
 
 pub returns-in-Some-clause-name : goal.returns-in-Some-clause-name
 returns-in-Some-clause-name c =
     let cell = c.self.inside.cell.now in
-    let word = c.args.word.now in
-    let found = c.in-Some.found.now in
+    let word = c.args.name.now in
+    let found = c.in-Some.job_type.now in
     let lookup = c.in-Some.ensures.lookup in
     let at : slice_get c.as_slice.result.now c.from-2.result ≡ Some found =
     slice_get_read c.as_slice.result.now _ c.from-2.result found refl lookup.3.0 lookup.1 in

@@ -1,0 +1,128 @@
+//! A cell in which a name is found at once, where `type_of` and `resource_of` compare name after name.
+ghost use Rattle.std.specs.Prelude.{◌≡◌, ◌<◌, length, position, IfSome};
+ghost use Rattle.std.specs.Str.{bytes_eq};
+ghost use Rattle.cell_base.specs.Fits.{CellFits};
+ghost use Rattle.cell_base.specs.Named.{resource_name, resource_names, type_name, type_names};
+
+use crate::names::{are_same, resource_of, type_of};
+use cell_base::Cell;
+use std::marker::Model;
+
+/// A cell with an index of its names: for each key of a name it has a guess which type, and which resource, that is. No two types and no
+/// two resources have one name, so a guess that has the name is right, and any other costs time alone. Contracts see it as the cell.
+#[derive(Drop)]
+pub struct IndexedCell<'a> {
+    cell: &'a Cell,
+    types: [u8; 256],
+    resources: [u8; 256],
+}
+
+impl<'a> Model for IndexedCell<'a> {
+    ghost use Rattle.cell_base.specs.declared.cells.Cell.{Cell};
+    ghost use Rattle.cell_base.specs.Fits.{CellFits};
+
+    ghost Value = { Cell };
+
+    ghost view = { λ s. s.cell.now };
+
+    ghost invariant = { λ s. CellFits s.cell.now };
+}
+
+// Where a name is looked up: names of one length mostly differ in their last two bytes.
+fn key_of(name: &[u8]) -> u8 {
+    match name {
+        [.., second, last] => second.wrapping_mul(16).wrapping_add(*last),
+        [last] => *last,
+        [] => 0,
+    }
+}
+
+impl<'a> IndexedCell<'a> {
+    /// This cell, indexed.
+    pub fn new(cell: &'a Cell) -> IndexedCell<'a>
+        requires { CellFits cell.now }
+        ensures { result ≡ cell.now }
+    {
+        let mut types = [0; 256];
+        for (k, job_type) in cell.types.as_slice().iter().enumerate() {
+            types[usize::from(key_of(job_type.name.bytes()))] = k as u8;
+        }
+        let mut resources = [0; 256];
+        for (k, resource) in cell.resources.as_slice().iter().enumerate() {
+            resources[usize::from(key_of(resource.name.bytes()))] = k as u8;
+        }
+        IndexedCell {
+            cell,
+            types,
+            resources,
+        }
+    }
+
+    /// The same with an empty index, for one step: the index of a large cell takes longer than a look through its names.
+    pub(crate) fn for_one(cell: &'a Cell) -> IndexedCell<'a>
+        requires { CellFits cell.now }
+        ensures { result ≡ cell.now }
+    {
+        IndexedCell {
+            cell,
+            types: [0; 256],
+            resources: [0; 256],
+        }
+    }
+
+    /// The cell.
+    pub fn as_cell(&self) -> &Cell
+        ensures value { result.now ≡ self.now }
+        ensures fits { CellFits self.now }
+    {
+        self.cell
+    }
+
+    /// The number of the type of a name, where the cell has one.
+    pub fn type_of(&self, name: &[u8]) -> Option<u16>
+        ensures number { result ≡ position (bytes_eq name.now) (type_names self.now.types) }
+        ensures within { IfSome result (λ number. number < length self.now.types) }
+        ensures fits { CellFits self.now }
+    {
+        match self.guessed_type(name) {
+            Some(number) => Some(number),
+            None => type_of(self.cell, name),
+        }
+    }
+
+    /// The number of the resource of a name, where the cell has one.
+    pub fn resource_of(&self, name: &[u8]) -> Option<u16>
+        ensures number { result ≡ position (bytes_eq name.now) (resource_names self.now.resources) }
+        ensures within { IfSome result (λ number. number < length self.now.resources) }
+        ensures fits { CellFits self.now }
+    {
+        match self.guessed_resource(name) {
+            Some(number) => Some(number),
+            None => resource_of(self.cell, name),
+        }
+    }
+
+    // The number of the type of a name, where the guess is right.
+    fn guessed_type(&self, name: &[u8]) -> Option<u16>
+        ensures name { IfSome result (λ number. type_name self.now number ≡ name.now) }
+        ensures within { IfSome result (λ number. number < length self.now.types) }
+    {
+        let guess = self.types[usize::from(key_of(name))];
+        match self.cell.types.as_slice().get(usize::from(guess)) {
+            Some(job_type) if are_same(name, job_type.name.bytes()) => Some(u16::from(guess)),
+            _ => None,
+        }
+    }
+
+    // The number of the resource of a name, where the guess is right.
+    fn guessed_resource(&self, name: &[u8]) -> Option<u16>
+        ensures name { IfSome result (λ number. resource_name self.now number ≡ name.now) }
+        ensures within { IfSome result (λ number. number < length self.now.resources) }
+    {
+        let guess = self.resources[usize::from(key_of(name))];
+        match self.cell.resources.as_slice().get(usize::from(guess)) {
+            Some(resource) if are_same(name, resource.name.bytes()) => Some(u16::from(guess)),
+            _ => None,
+        }
+    }
+}
