@@ -1,14 +1,17 @@
 //! What the lines of a record say. Each reader reads what the definition of its name says.
 ghost use Rattle.std.specs.Prelude.{◌≡◌};
-ghost use Rattle.std.specs.Option.{option_map, option_copied};
+ghost use Rattle.std.specs.Option.{option_and_then, option_map, option_copied, option_or};
+ghost use Rattle.std.specs.Result.{result_ok};
 ghost use Rattle.step_text.specs.Words.{words};
-ghost use Rattle.record_text.specs.Reading.{words_of_rest, told_after, asked_at, entry_at, head_at, left_at, placing_of, plan_at, step_at};
+ghost use Rattle.step_text.specs.Steps.{step_of_three, step_of_two};
+ghost use Rattle.record_text.specs.Reading.{asked_at, entry_at, head_at, left_at, placing_of, plan_at, step_at};
+ghost use Rattle.record_text.specs.Reading.{three_at, told_after, two_at, word_at, words_of_rest};
 
-use crate::requests_at::{place_at, three_at, two_at};
+use crate::placing_at::place_at;
 use crate::told_at::told_at;
-use crate::words::{Rest, after_word, is_end, number_at};
+use crate::words::{Rest, after_word, is_end, number_at, word_at};
 use cell_base::{Entry, Request, Told};
-use step_text::IndexedCell;
+use step_text::{IndexedCell, step_of_three, step_of_two};
 
 const SHIFT: &[u8] = b"shift";
 
@@ -54,13 +57,60 @@ pub fn entry_at(cell: &IndexedCell<'_>, line: &[u8]) -> Option<Entry>
 fn asked_at(cell: &IndexedCell<'_>, rest: Rest<'_>) -> Option<(Request, Told)>
     ensures { result ≡ asked_at cell.now (words_of_rest (option_copied rest.entry)) }
 {
-    if let Some(asked) = told_after(cell, two_at(cell, rest)) {
-        return Some(asked);
+    match step_told(cell, rest) {
+        Some(asked) => Some(asked),
+        None => told_after(cell, place_at(cell, rest)),
     }
-    if let Some(asked) = told_after(cell, three_at(cell, rest)) {
-        return Some(asked);
+}
+
+// The same of a step. Its first two words are cut once, whether it has two or three.
+#[tactic(auto, unfolding(crate::specs::Reading::two_at, crate::specs::Reading::three_at, crate::specs::Reading::told_after))]
+fn step_told(cell: &IndexedCell<'_>, rest: Rest<'_>) -> Option<(Request, Told)>
+    ensures { result ≡ option_or (told_after cell.now (two_at cell.now (words_of_rest (option_copied rest.entry))))
+        (told_after cell.now (three_at cell.now (words_of_rest (option_copied rest.entry)))) }
+{
+    let (verb, rest) = word_at(rest)?;
+    let (word, rest) = word_at(rest)?;
+    match two_told(cell, verb, word, rest) {
+        Some(asked) => Some(asked),
+        None => three_told(cell, verb, word, rest),
     }
-    told_after(cell, place_at(cell, rest))
+}
+
+// A step of two words, which are cut.
+#[tactic(auto, unfolding(crate::specs::Reading::told_after))]
+#[inline(always)]
+fn two_told(
+    cell: &IndexedCell<'_>,
+    verb: &[u8],
+    word: &[u8],
+    rest: Rest<'_>,
+) -> Option<(Request, Told)>
+    ensures { result ≡ told_after cell.now (option_map (λ request. (request, words_of_rest (option_copied rest.entry)))
+        (result_ok (step_of_two cell.now verb.now word.now))) }
+{
+    let request = step_of_two(cell, verb, word).ok()?;
+    let told = told_at(cell, rest)?;
+    Some((request, told))
+}
+
+// A step of three words, of which two are cut.
+#[tactic(auto, unfolding(crate::specs::Reading::told_after))]
+#[inline(always)]
+fn three_told(
+    cell: &IndexedCell<'_>,
+    verb: &[u8],
+    word: &[u8],
+    rest: Rest<'_>,
+) -> Option<(Request, Told)>
+    ensures { result ≡ told_after cell.now (option_and_then (λ last.
+        option_map (λ request. (request, last.1)) (result_ok (step_of_three cell.now verb.now word.now last.0)))
+        (word_at (words_of_rest (option_copied rest.entry)))) }
+{
+    let (last, rest) = word_at(rest)?;
+    let request = step_of_three(cell, verb, word, last).ok()?;
+    let told = told_at(cell, rest)?;
+    Some((request, told))
 }
 
 #[tactic(auto, unfolding(crate::specs::Reading::told_after))]
