@@ -11,7 +11,8 @@ use Rattle.cell_base.specs.Neighborhoods.{masks_of, neighborhood}
 use Rattle.policy_laws.proofs.Growing.{join_next}
 use Rattle.route_table.specs.declared.stage_table.StageNo.{StageNo}
 use Rattle.upstream_sets.specs.Members.{AreNeighborhoodsOf, stage_no}
-use Rattle.refusal_reason.specs.Shown.{show_lines}
+use Rattle.refusal_reason.specs.Shown.{show_lines, stage_lines}
+use Rattle.refusal_reason.proofs.Texts.{members_lines}
 use Rattle.cell_walks.specs.Allowed.{IsAllowed, IsEndedAt, Passed, Unasked}
 use Rattle.cell_walks.specs.DiskTold.{no_disk}
 use Rattle.cell_walks.specs.Observed.{FilesTold, ShowsFile, observed}
@@ -19,7 +20,7 @@ use Rattle.cell_walks.specs.Outcomes.{done, early}
 use Rattle.cell_walks.specs.declared.early_end.EarlyEnd.{EarlyEnd}
 use Rattle.cell_walks.proofs.Steps.{ended_at, none_done}
 use Rattle.cell_texts.specs.Tests.{KnownCell, cell_file, cell_reads}
-use Rattle.cell_commands.specs.Show.{show, shown}
+use Rattle.cell_commands.specs.Show.{member_line, show, shown}
 
 module _ (files : FilesTold) (cell : List ℕ) where
   -- the cell was not read
@@ -82,3 +83,8 @@ module _ (table : Cell) (fits : CellFits table) (lists : List (List StageNo)) (a
   pub list_is : (default : List StageNo) → get_or lists r default ≡ map (stage_no table) (neighborhood table r)
   list_is default =
       get_or_default lists r default [] list_there ∙ are.each r (omega (arith, list_there, are.complete)) table fits refl
+
+  -- so the lines of what is read of it are those of the neighborhood
+  pub lines_are : (stages default : List StageNo) → stages ≡ get_or lists r default
+      → map (member_line table) stages ≡ stage_lines table (neighborhood table r)
+  lines_are stages default is = ap (map (member_line table)) (is ∙ list_is default) ∙ members_lines table r

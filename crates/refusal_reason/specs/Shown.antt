@@ -1,6 +1,6 @@
 -- The text that shows a cell's neighborhoods.
 use Rattle.std.specs.Prelude.{codes, ◌≡◌, ℕ, false, List, [], ◌∷◌, ◌++◌, map}
-use Rattle.std.specs.List.{All, concat, flat_map}
+use Rattle.std.specs.List.{All, flat_map}
 use Rattle.std.specs.Fmt.{decimal}
 use Rattle.cell_base.specs.declared.cells.Cell.{Cell}
 use Rattle.cell_base.specs.Named.{resource_name, type_name}

@@ -8,10 +8,9 @@ use Rattle.cell_base.specs.Numbers.{IsNumber}
 use Rattle.route_table.specs.declared.stage_table.StageNo.{StageNo}
 use Rattle.upstream_sets.specs.Members.{stage_no}
 use Rattle.refusal_reason.specs.Shown.{resource_line, resource_lines, stage_lines}
-use Rattle.refusal_reason.proofs.Texts.{members_lines, members_numbered}
+use Rattle.refusal_reason.proofs.Texts.{members_numbered}
 use Rattle.cell_texts.proofs.Delivered.{failed_first, failed_then, took_both}
-use Rattle.cell_commands.specs.Show.{member_line}
-use Rattle.cell_commands.proofs.Showing.{list_is}
+use Rattle.cell_commands.proofs.Showing.{lines_are, list_is}
 use Rattle.cell_commands.proofs.show.print_resource.Goals as goal
 
 pub returns-in-Err-clause-part : goal.returns-in-Err-clause-part
@@ -39,15 +38,13 @@ returns-clause-part g c =
     let r = c.args.r.0 in
     let told = sink_told g.K.Sink.taken g.K.Sink.was_put g.K.Sink.faults c.print_line.new.out c.print_members.new.out in
     let lines = stage_lines cell (neighborhood cell r) in
-    let members : c.as_slice.result.now ≡ map (stage_no cell) (neighborhood cell r) =
-    c.as_slice.ensures ∙ c.index.ensures
-    ∙ list_is cell c.cell.ensures.fits c.args.shown.now.neighborhoods.items c.requires.neighborhoods r c.requires.resource
-    c.index.result.now in
+    let read = lines_are cell c.cell.ensures.fits c.args.shown.now.neighborhoods.items c.requires.neighborhoods r c.requires.resource
+    c.as_slice.result.now c.index.result.now (c.as_slice.ensures ∙ c.index.ensures) in
     on_err_weaker _
     (λ taken. failed_then g.K.Sink.taken g.K.Sink.was_put g.K.Sink.faults (c.resource_line.result ∷ []) lines (resource_lines cell r)
     (ap (λ (line : List ℕ). line ∷ lines) (c.resource_line.ensures ∙ ap (λ (on : Cell). resource_line on r) c.cell.ensures.value))
     c.args.out.now c.print_line.new.out c.print_members.new.out c.in_default.ensures.whole
-    (subst (TookSome told) (ap (map (member_line cell)) members ∙ members_lines cell r) taken))
+    (subst (TookSome told) read taken))
     c.print_members.ensures.part
 
 pub returns-clause-whole : goal.returns-clause-whole
@@ -56,13 +53,11 @@ returns-clause-whole g c =
     let r = c.args.r.0 in
     let told = sink_told g.K.Sink.taken g.K.Sink.was_put g.K.Sink.faults c.print_line.new.out c.print_members.new.out in
     let lines = stage_lines cell (neighborhood cell r) in
-    let members : c.as_slice.result.now ≡ map (stage_no cell) (neighborhood cell r) =
-    c.as_slice.ensures ∙ c.index.ensures
-    ∙ list_is cell c.cell.ensures.fits c.args.shown.now.neighborhoods.items c.requires.neighborhoods r c.requires.resource
-    c.index.result.now in
+    let read = lines_are cell c.cell.ensures.fits c.args.shown.now.neighborhoods.items c.requires.neighborhoods r c.requires.resource
+    c.as_slice.result.now c.index.result.now (c.as_slice.ensures ∙ c.index.ensures) in
     on_ok_weaker _
     (λ taken. took_both g.K.Sink.taken g.K.Sink.was_put g.K.Sink.faults (c.resource_line.result ∷ []) lines (resource_lines cell r)
     (ap (λ (line : List ℕ). line ∷ lines) (c.resource_line.ensures ∙ ap (λ (on : Cell). resource_line on r) c.cell.ensures.value))
     c.args.out.now c.print_line.new.out c.print_members.new.out c.in_default.ensures.whole
-    (subst (TookAll told) (ap (map (member_line cell)) members ∙ members_lines cell r) taken))
+    (subst (TookAll told) read taken))
     c.print_members.ensures.whole
