@@ -55,11 +55,10 @@ fn step_of_text(place: Place, names: &IndexSet<&[u8]>, text: &[u8]) -> Result<St
     ensures fits { IfOk result (λ step. step.on.0 < length names.now.keys) }
 {
     let (resource, works) = split_hold(text);
-    let name = match Name::read(resource) {
-        Some(name) => name,
-        None => return Err(CellFault::BadName { place }),
-    };
-    match number_of_name(names, name.bytes()) {
+    if Name::read(resource).is_none() {
+        return Err(CellFault::BadName { place });
+    }
+    match number_of_name(names, resource) {
         Some(number) => Ok(Step {
             on: ResId(number),
             works,

@@ -7,7 +7,8 @@ use Rattle.std.proofs.lemmas.List.Splits.{slice_split_first, slice_split_none}
 use Rattle.std.proofs.lemmas.List.Sums.{fails_before_first}
 
 -- where a byte passes the test, the first of them is the place
-pub there : (test : ℕ → Bool) (text : List ℕ) → position_or_len test text < length text → position test text ≡ Some (position_or_len test text)
+pub there : (test : ℕ → Bool) (text : List ℕ) → position_or_len test text < length text
+    → position test text ≡ Some (position_or_len test text)
 there test text lt = ap (λ b. cond b (Some (position_or_len test text)) None) (lt-ltb (position_or_len test text) (length text) lt)
 
 -- where none does, there is no place

@@ -28,11 +28,15 @@ impl<'a> Model for IndexedCell<'a> {
     ghost invariant = { λ s. CellFits s.cell.now };
 }
 
-// Where a name is looked up: names of one length mostly differ in their last two bytes.
+// Where a name is looked up: names mostly differ in their first byte and in their last two.
 fn key_of(name: &[u8]) -> u8 {
     match name {
-        [.., second, last] => second.wrapping_mul(16).wrapping_add(*last),
-        [last] => *last,
+        [first, .., second, last] => first
+            .wrapping_mul(32)
+            .wrapping_add(second.wrapping_mul(16))
+            .wrapping_add(*last),
+        [first, last] => first.wrapping_mul(16).wrapping_add(*last),
+        [only] => *only,
         [] => 0,
     }
 }
