@@ -32,6 +32,23 @@ fn each_kind_is_read_back(rt: HostRuntime) {
     let bytes = [3, 0, 0, 1, 0, 0, 0, 1, 0, 0, 0, 7, 0, 0, 0, 0];
     assert!(rt; decode(&bytes) == Some(moved));
     assert!(rt; encode(&moved) == bytes);
+    let branched = granted(1, 1, Request::Move { job, branch: 1 });
+    let bytes = [3, 0, 0, 1, 0, 0, 0, 1, 0, 0, 0, 7, 0, 0, 0, 1];
+    assert!(rt; decode(&bytes) == Some(branched));
+    assert!(rt; encode(&branched) == bytes);
+    let placed = granted(
+        0,
+        0,
+        Request::Place {
+            job,
+            kind: TypeId(0),
+            place: 1,
+            done: false,
+        },
+    );
+    let bytes = [5, 0, 0, 0, 0, 0, 0, 0, 0, 0, 0, 7, 0, 0, 0, 1];
+    assert!(rt; decode(&bytes) == Some(placed));
+    assert!(rt; encode(&placed) == bytes);
 }
 
 #[test]
