@@ -3,6 +3,7 @@
 use crate::command::runs_at_once;
 use crate::cut::Cut;
 use anyhow::{Result, bail};
+use cell_program::usage;
 use std::alloc::Global;
 use std::str;
 
@@ -48,13 +49,18 @@ impl Conversation {
         Ok(())
     }
 
-    /// Adds a line of what is to be printed; `...` stands for any lines, and `\hex DIGITS` for these bytes, which are a text.
+    /// Adds a line of what is to be printed; `...` stands for any lines, `\hex DIGITS` for these bytes, which are a text, and `{usage}`
+    /// for the line that lists the commands.
     pub fn add_printed(&mut self, line: &str) -> Result<()> {
         if let Some(digits) = line.strip_prefix("\\hex ") {
             let Ok(bytes) = hex::decode(self.alloc, digits) else {
                 bail!("no hexadecimal bytes");
             };
             self.printed.push_str(str::from_utf8(bytes.as_slice())?)?;
+            return Ok(());
+        }
+        if line == "{usage}" {
+            self.printed.push_str(str::from_utf8(usage())?)?;
             return Ok(());
         }
         if line == "..." {

@@ -11,7 +11,8 @@
 //! | `= STATUS` | the exit status: the conversation is whole |
 //! | `= STATUS leaves FILE` | the same, and it leaves its journal as this file is |
 //!
-//! Files stay from one conversation to the next. In what is printed a line `...` stands for any lines.
+//! Files stay from one conversation to the next. In what is printed a line `...` stands for any lines, and `{usage}` for the line that lists
+//! the commands.
 
 use crate::call_end::CallEnd;
 use crate::conversation::Conversation;
