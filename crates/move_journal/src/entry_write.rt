@@ -11,12 +11,13 @@
 //! written open. The closed gate after them is part of the same write: after a gate that is opened later, what was there
 //! before would count. When all of it is stable, a write of one byte opens the first gate: a crash leaves it open or not, and
 //! with it all of the new records or none.
-ghost use Rattle.std.specs.Prelude.{◌≡◌, ◌+◌, ◌^◌, ◌<◌, ◌≤◌, Some, [], ◌∷◌, ◌++◌, length, OnOk, ⊤};
+ghost use Rattle.std.specs.Prelude.{◌≡◌, ◌+◌, ◌^◌, ◌<◌, ◌≤◌, Some, [], ◌∷◌, ◌++◌, length, drop, OnOk, ⊤};
 ghost use Rattle.std.specs.Option.{ForSome};
 ghost use Rattle.outside_io.specs.Causes.{HasCause};
-ghost use Rattle.outside_io.specs.Disk.{Turns, Only, LeavesOnly};
+ghost use Rattle.outside_io.specs.Disk.{overwritten, Turns, Only, LeavesOnly};
 ghost use Rattle.move_journal.specs.Disks.{Rests};
 ghost use Rattle.move_journal.specs.Journals.{IsJournal, HoldsRecords, Staged, WithOrWithout, gate_of};
+ghost use Rattle.move_journal.specs.Written.{after_append};
 
 use crate::stable_write::write_through;
 use entry_codec::ENTRY_SIZE;
@@ -28,6 +29,8 @@ pub(crate) fn write_entries<D: Disk>(disk: &mut D, gate: u64, bytes: &[u8]) -> R
     requires some { 1 ≤ length bytes.now }
     requires within { ForSome (D.reads_as disk.old) (λ file. gate + 1 ≤ length file) }
     ensures tells { Turns (D.reads_as disk.old) (D.reads_as disk.new) (λ _ _. ⊤) }
+    ensures bytes { OnOk result (Turns (D.reads_as disk.old) (D.reads_as disk.new)
+        (λ old new. new ≡ after_append old gate (drop 1 bytes.now))) }
     ensures stored { (file text : _) (grants more : _)
         → D.reads_as disk.old ≡ Some file → Only file (D.may_leave disk.old)
         → HoldsRecords file text grants gate more bytes.now
@@ -53,6 +56,8 @@ fn write_records<D: Disk>(disk: &mut D, gate: u64, bytes: &[u8]) -> Result<(), F
     requires within { ForSome (D.reads_as disk.old) (λ file. gate + 1 ≤ length file) }
     ensures tells { Turns (D.reads_as disk.old) (D.reads_as disk.new) (λ _ _. ⊤) }
     ensures longer { OnOk result (ForSome (D.reads_as disk.new) (λ new. gate ≤ length new)) }
+    ensures written { OnOk result (Turns (D.reads_as disk.old) (D.reads_as disk.new)
+        (λ old new. new ≡ overwritten old (gate + 1) (drop 1 bytes.now))) }
     ensures staged { (file text : _) (grants more : _)
         → D.reads_as disk.old ≡ Some file → Only file (D.may_leave disk.old)
         → HoldsRecords file text grants gate more bytes.now
@@ -84,6 +89,8 @@ pub(crate) fn with_gates(bytes: &[u8; 16]) -> [u8; 18]
 fn open_gate<D: Disk>(disk: &mut D, gate: u64) -> Result<(), Failed>
     requires { ForSome (D.reads_as disk.old) (λ file. gate ≤ length file) }
     ensures tells { Turns (D.reads_as disk.old) (D.reads_as disk.new) (λ _ _. ⊤) }
+    ensures written { OnOk result (Turns (D.reads_as disk.old) (D.reads_as disk.new)
+        (λ old new. new ≡ overwritten old gate (1 ∷ []))) }
     ensures opened { (file text : _) (grants more : _)
         → D.reads_as disk.old ≡ Some file → Only file (D.may_leave disk.old)
         → Staged text grants more file → gate ≡ gate_of text grants

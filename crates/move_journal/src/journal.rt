@@ -1,12 +1,13 @@
 //! A journal of grants, to which one more is added at a time.
-ghost use Rattle.std.specs.Prelude.{◌≡◌, ℕ, ◌+◌, ◌*◌, ◌^◌, ◌<◌, ◌≤◌, List, true, false, Some, Ok, Err, [], ◌∷◌, ◌++◌, length, OnOk, ⊤};
+ghost use Rattle.std.specs.Prelude.{◌≡◌, ℕ, ◌+◌, ◌*◌, ◌^◌, ◌<◌, ◌≤◌, List, true, false, Some, Ok, Err, [], ◌∷◌, ◌++◌, length, drop, OnOk, ⊤};
 ghost use Rattle.cell_base.specs.declared.shifts.Grant.{Grant};
-ghost use Rattle.entry_codec.specs.Records.{HasRecord};
+ghost use Rattle.entry_codec.specs.Records.{HasRecord, record_of};
 ghost use Rattle.outside_io.specs.Causes.{Rose};
 ghost use Rattle.outside_io.specs.Disk.{Turns, LeavesOnly};
 ghost use Rattle.move_journal.specs.Disks.{Rests, Shows};
-ghost use Rattle.move_journal.specs.Journals.{StandsFor, IsBeforeOrAfter, IsBeforeOrAfterAll};
+ghost use Rattle.move_journal.specs.Journals.{StandsFor, IsBeforeOrAfter, IsBeforeOrAfterAll, gate_of, group_bytes};
 ghost use Rattle.move_journal.specs.Kept.{IsOpen};
+ghost use Rattle.move_journal.specs.Written.{after_append};
 
 use crate::Group;
 use crate::entry_write::{with_gates, write_entries};
@@ -80,6 +81,9 @@ impl<D: Disk> Journal<D> {
         ensures stored { (file text : List ℕ) (grants : List Grant)
             → D.reads_as self.old.disk ≡ Some file → StandsFor file text grants
             → OnOk result (Shows D.reads_as D.may_leave self.new.disk (λ new. StandsFor new text (grants ++ grant.now ∷ []))) }
+        ensures bytes { (file text : List ℕ) (grants : List Grant)
+            → D.reads_as self.old.disk ≡ Some file → StandsFor file text grants
+            → OnOk result (D.reads_as self.new.disk ≡ Some (after_append file (gate_of text grants) (record_of grant.now ++ 0 ∷ []))) }
         ensures kept { (file text : List ℕ) (grants : List Grant)
             → D.reads_as self.old.disk ≡ Some file → StandsFor file text grants → self.old.is_halted ≡ false
             → Shows D.reads_as D.may_leave self.new.disk (IsBeforeOrAfter text grants grant.now) }
@@ -125,6 +129,10 @@ impl<D: Disk> Journal<D> {
         ensures stored { (file text : List ℕ) (grants : List Grant)
             → D.reads_as self.old.disk ≡ Some file → StandsFor file text grants
             → OnOk result (Shows D.reads_as D.may_leave self.new.disk (λ new. StandsFor new text (grants ++ group.now.grants))) }
+        ensures bytes { (file text : List ℕ) (grants : List Grant)
+            → D.reads_as self.old.disk ≡ Some file → StandsFor file text grants
+            → OnOk result (D.reads_as self.new.disk
+            ≡ Some (after_append file (gate_of text grants) (drop 1 (group_bytes group.now.grants)))) }
         ensures kept { (file text : List ℕ) (grants : List Grant)
             → D.reads_as self.old.disk ≡ Some file → StandsFor file text grants → self.old.is_halted ≡ false
             → Shows D.reads_as D.may_leave self.new.disk (IsBeforeOrAfterAll text grants group.now.grants) }

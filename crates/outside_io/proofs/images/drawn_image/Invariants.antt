@@ -1,12 +1,13 @@
--- So many bytes are drawn, and those outside of the written spans are as they read.
-use Rattle.std.proofs.Common.{◌≡◌, ◌<◌, ℕ, length, get_or, false}
-use Rattle.outside_io.specs.Replayed.{spans_of}
-use Rattle.outside_io.specs.Images.{is_written}
+-- The bytes so far are drawn, by as many draws as there are written offsets among theirs.
+use Rattle.std.proofs.Common.{◌≡◌, ◌+◌, ℕ, length, map}
+use Rattle.std.specs.List.{range_with_len}
+use Rattle.outside_io.specs.Draws.{number_after}
+use Rattle.outside_io.specs.DrawnImages.{drawn_byte, written_below}
+use Rattle.outside_io.specs.Replayed.{state_of}
 use Rattle.outside_io.proofs.images.drawn_image.Given as goal
 
 abbrev pub invariant-loop-k : goal.invariant-loop-k
 invariant-loop-k l = record {
-  size : length l.image.items ≡ l.k;
-  kept : (j : ℕ) → j < l.k → is_written (spans_of l.state.written.items) j ≡ false
-      → get_or l.image.items j 0 ≡ get_or l.state.seen.items j 0;
+  bytes : l.image.items ≡ map (drawn_byte (state_of l.state) l.number) (range_with_len 0 l.k);
+  number : l.x ≡ number_after l.number (1 + written_below (state_of l.state).written l.k);
 }

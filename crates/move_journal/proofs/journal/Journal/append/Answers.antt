@@ -1,12 +1,13 @@
 -- The disk rests at an open journal, which is the one that the file stands for; the record of the new grant goes after its gate.
-use Rattle.std.proofs.Common.{inr, [], ◌∷◌, ◌∙◌, ap, subst, arith}
+use Rattle.std.proofs.Common.{inr, ◌≡◌, List, ℕ, [], ◌∷◌, ◌++◌, drop, ◌∙◌, ap, subst, arith}
+use Rattle.entry_codec.specs.Records.{record_of}
 use Rattle.outside_io.specs.Disk.{LeavesOnly}
 use Rattle.outside_io.specs.Moments.{widened}
 use Rattle.outside_io.specs.Telling.{where_told, told, turned_back}
 use Rattle.move_journal.specs.Journals.{IsBeforeOrAfterAll}
 use Rattle.move_journal.specs.Kept.{JournalState}
 use Rattle.move_journal.proofs.Turning.{rests_show, leaves_show}
-use Rattle.move_journal.proofs.Appends.{open_within, open_more, open_holds_one, stands_either}
+use Rattle.move_journal.proofs.Appends.{open_within, open_more, open_holds_one, read_after, stands_either}
 use Rattle.move_journal.proofs.journal.Journal.append.Goals as goal
 
 pub write_entries-requires-clause-within : goal.write_entries-requires-clause-within
@@ -35,6 +36,17 @@ returns-in-Ok-clause-stored g c file text grants is stands =
     let holds = open_holds_one _ _ file rests.0 text grants grant c.encode.result c.with_gates.result stands
     c.with_gates.ensures c.encode.ensures.record c.encode.ensures.read_back in
     rests_show _ _ _ _ (λ f journal. inr journal) (c.in-Ok.ensures.stored file text grants (grant ∷ []) was rests.1 holds)
+
+pub returns-in-Ok-clause-bytes : goal.returns-in-Ok-clause-bytes
+returns-in-Ok-clause-bytes g c file text grants is stands =
+    let grant = c.args.grant.now in
+    let was = ap (λ (j : JournalState _). g.D.Disk.reads_as j.disk) c.self.view_is ∙ is in
+    let rests = told _ _ file was (c.self.invariant.rests c.if-self.false) in
+    let holds = open_holds_one _ _ file rests.0 text grants grant c.encode.result c.with_gates.result stands
+    c.with_gates.ensures c.encode.ensures.record c.encode.ensures.read_back in
+    let piece_is : drop 1 c.with_gates.result ≡ record_of grant ++ 0 ∷ [] =
+    ap (λ (l : List ℕ). drop 1 l) c.with_gates.ensures ∙ ap (λ (l : List ℕ). l ++ 0 ∷ []) c.encode.ensures.record in
+    read_after _ _ file _ _ _ _ was c.in-Ok.ensures.bytes holds.gate_is piece_is
 
 pub returns-in-Ok-clause-kept : goal.returns-in-Ok-clause-kept
 returns-in-Ok-clause-kept g c file text grants is stands running =

@@ -1,5 +1,5 @@
 -- The disk rests at an open journal, which is the one that the file stands for; the records of the new grants go after its gate.
-use Rattle.std.proofs.Common.{inr, ◌+◌, ◌*◌, List, length, sym, ◌∙◌, ap, subst, arith}
+use Rattle.std.proofs.Common.{inr, ◌+◌, ◌*◌, ℕ, List, length, drop, sym, ◌∙◌, ap, subst, arith}
 use Rattle.cell_base.specs.declared.shifts.Grant.{Grant}
 use Rattle.entry_codec.specs.declared.encoder.TheConstants.{ENTRY_SIZE}
 use Rattle.outside_io.specs.Disk.{LeavesOnly}
@@ -8,7 +8,7 @@ use Rattle.outside_io.specs.Telling.{where_told, told, turned_back}
 use Rattle.move_journal.specs.Journals.{IsBeforeOrAfterAll}
 use Rattle.move_journal.specs.Kept.{JournalState, IsOpen}
 use Rattle.move_journal.proofs.Turning.{rests_show, leaves_show}
-use Rattle.move_journal.proofs.Appends.{open_within, open_more, open_holds, stands_either}
+use Rattle.move_journal.proofs.Appends.{open_within, open_more, open_holds, read_after, stands_either}
 use Rattle.move_journal.proofs.journal.Journal.append_all.Goals as goal
 
 pub write_entries-requires-clause-within : goal.write_entries-requires-clause-within
@@ -39,6 +39,14 @@ returns-in-Ok-clause-stored g c file text grants is stands =
     let rests = told _ _ file was (c.self.invariant.rests c.if-self.false) in
     let holds = open_holds _ _ file rests.0 text grants more _ stands c.bytes.ensures.bytes c.requires.some c.bytes.ensures.are_read in
     rests_show _ _ _ _ (λ f journal. inr journal) (c.in-Ok.ensures.stored file text grants more was rests.1 holds)
+
+pub returns-in-Ok-clause-bytes : goal.returns-in-Ok-clause-bytes
+returns-in-Ok-clause-bytes g c file text grants is stands =
+    let more = c.args.group.now.grants in
+    let was = ap (λ (j : JournalState _). g.D.Disk.reads_as j.disk) c.self.view_is ∙ is in
+    let rests = told _ _ file was (c.self.invariant.rests c.if-self.false) in
+    let holds = open_holds _ _ file rests.0 text grants more _ stands c.bytes.ensures.bytes c.requires.some c.bytes.ensures.are_read in
+    read_after _ _ file _ _ _ _ was c.in-Ok.ensures.bytes holds.gate_is (ap (λ (l : List ℕ). drop 1 l) c.bytes.ensures.bytes)
 
 pub returns-in-Ok-clause-kept : goal.returns-in-Ok-clause-kept
 returns-in-Ok-clause-kept g c file text grants is stands running =
