@@ -8,7 +8,7 @@ use Rattle.durable_cell.specs.DurableState.{DurableState}
 use Rattle.durable_cell.specs.Openings.{fresh}
 use Rattle.shift_recovery.specs.Replayed.{AreDue, opened_as}
 use Rattle.durable_cell.specs.declared.replays.TheConstants.{MAX_ROOM}
-use Rattle.start_file.specs.StartFiles.{start_reads}
+use Rattle.record_text.specs.StartFiles.{start_reads}
 use Rattle.cell_walks.specs.Allowed.{AllowsFrom, ByMemory, ByRefusal, IsAllowed, IsEndedAt, JournalOpened}
 use Rattle.cell_walks.specs.Allowed.{NotOpened, Opened, Passed, Stopped, Unasked}
 use Rattle.cell_walks.specs.DiskTold.{DiskTold, IsUntouched, disk_told}

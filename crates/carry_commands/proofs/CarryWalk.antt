@@ -9,8 +9,8 @@ use Rattle.cell_base.specs.declared.requests.Request.{Request}
 use Rattle.cell_base.specs.declared.shifts.Grant.{Grant}
 use Rattle.cell_base.specs.Fits.{CellFits}
 use Rattle.cell_base.specs.Histories.{replay}
-use Rattle.start_file.specs.StartFiles.{IsStartOf, place_line, start_text}
-use Rattle.start_file.proofs.Lengths.{is_start}
+use Rattle.record_text.specs.StartFiles.{IsStartOf, place_line, start_text}
+use Rattle.record_text.proofs.StartLengths.{is_start}
 use Rattle.cell_walks.specs.Allowed.{AllowsFrom, ByMemory, ByRefusal, IsAllowed, IsEndedAt}
 use Rattle.cell_walks.specs.Allowed.{JournalOpened, NotOpened, Passed, Stopped, Unasked}
 use Rattle.cell_walks.specs.DiskTold.{DiskTold, IsOnlyRead, IsUntouched}

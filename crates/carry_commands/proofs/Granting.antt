@@ -17,7 +17,7 @@ use Rattle.cell_base.specs.Neighborhoods.{count}
 use Rattle.cell_base.specs.Outcomes.{admit, refuse, reply_to, state_after}
 use Rattle.cell_base.specs.Policy.{first_over, is_loaded}
 use Rattle.cell_base.specs.Stages.{capacity_of}
-use Rattle.start_file.specs.StartFiles.{IsPlacing}
+use Rattle.record_text.specs.StartFiles.{IsPlacing}
 use Rattle.carry_commands.specs.Refusals.{IsOfPlace}
 use Rattle.carry_commands.specs.Starts.{granted_from, unless_refused}
 

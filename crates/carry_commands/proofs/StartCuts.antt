@@ -8,8 +8,8 @@ use Rattle.cell_base.specs.declared.requests.Request.{Request}
 use Rattle.cell_base.specs.Fits.{CellFits}
 use Rattle.record_text.specs.declared.record.RecordFault.{RecordFault}
 use Rattle.record_text.specs.declared.record.RecordFault.TheVariants.{Bad, Memory}
-use Rattle.start_file.specs.StartFiles.{IsStartOf, StartRefusedAt, start_reads}
-use Rattle.start_file.specs.declared.reading.TheConstants.{MAX_START_BYTES}
+use Rattle.record_text.specs.StartFiles.{IsStartOf, StartRefusedAt, start_reads}
+use Rattle.record_text.specs.declared.start.TheConstants.{MAX_START_BYTES}
 use Rattle.cell_walks.specs.Allowed.{ByMemory, IsEndedAt}
 use Rattle.cell_walks.specs.Observed.{FilesTold, ShowsFile}
 use Rattle.cell_walks.specs.Walks.{end_with}

@@ -6,7 +6,7 @@ use Rattle.cell_base.specs.declared.requests.Part.{Part}
 use Rattle.cell_base.specs.declared.requests.Request.{Request}
 use Rattle.cell_base.specs.declared.shifts.Grant.{Grant}
 use Rattle.cell_base.specs.Histories.{replay}
-use Rattle.start_file.specs.StartFiles.{place_line}
+use Rattle.record_text.specs.StartFiles.{place_line}
 use Rattle.cell_walks.specs.Observed.{Known}
 use Rattle.cell_walks.specs.Outcomes.{Outcome, done}
 use Rattle.cell_walks.specs.Walks.{Test, Walk, Tests, Opens, Answers}

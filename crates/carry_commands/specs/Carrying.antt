@@ -7,8 +7,8 @@ use Rattle.cell_base.specs.declared.requests.Part.{Part}
 use Rattle.cell_base.specs.declared.requests.Request.{Request}
 use Rattle.cell_base.specs.declared.shifts.Grant.{Grant}
 use Rattle.cell_base.specs.Histories.{replay}
-use Rattle.start_file.specs.StartFiles.{IsPlacing, place_line}
-use Rattle.start_file.specs.declared.reading.TheConstants.{MAX_START_LINES}
+use Rattle.record_text.specs.StartFiles.{IsPlacing, place_line}
+use Rattle.record_text.specs.declared.start.TheConstants.{MAX_START_LINES}
 use Rattle.cell_walks.specs.Allowed.{IsNotOpened, IsOpenedAs}
 use Rattle.cell_walks.specs.DiskTold.{DiskTold}
 use Rattle.cell_walks.specs.Outcomes.{Outcome, done, early}

@@ -12,8 +12,8 @@ use Rattle.cell_base.specs.declared.requests.Request.{Request}
 use Rattle.cell_base.specs.declared.shifts.Grant.{Grant}
 use Rattle.cell_base.specs.Outcomes.{reply_to, state_after}
 use Rattle.record_text.specs.declared.record.RecordFault.{RecordFault}
-use Rattle.start_file.specs.StartFiles.{start_reads}
-use Rattle.start_file.proofs.Exact.{start_once}
+use Rattle.record_text.specs.StartFiles.{start_reads}
+use Rattle.record_text.proofs.StartExact.{start_once}
 use Rattle.cell_walks.specs.Observed.{File, Known}
 use Rattle.cell_walks.specs.Walks.{Test}
 use Rattle.cell_walks.specs.declared.early_end.Subject.TheVariants.{Command, Input, Journal}

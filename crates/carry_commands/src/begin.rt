@@ -14,7 +14,7 @@ use cell_texts::{CellFile, CommandEnd, read_cell};
 use durable_cell::MAX_ROOM;
 use journal_texts::{Made, OpenedJournal, Recorded, open_journal, print_recorded};
 use outside_io::{Disk, Files, Sink};
-use start_file::MAX_START_LINES;
+use record_text::MAX_START_LINES;
 use std::alloc::Global;
 
 /// Runs `begin CELL START JOURNAL`. All requests are asked before the first line is printed.

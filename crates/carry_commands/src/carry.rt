@@ -13,7 +13,7 @@ use cell_texts::{CellFile, CommandEnd, print_line, read_cell};
 use cell_walks::{EarlyEnd, Status, finish_early};
 use journal_texts::{Made, read_journal};
 use outside_io::{Disk, Failed, Files, Sink};
-use start_file::place_line;
+use record_text::place_line;
 use std::alloc::Global;
 
 /// Runs `carry CELL1 JOURNAL CELL2`. All memory is taken before the first line is printed.

@@ -11,8 +11,8 @@ use admission_core::Core;
 use cell_base::{Cell, List, Reply, Request};
 use cell_walks::EarlyEnd;
 use outside_io::{FileFail, Files};
+use record_text::{MAX_START_BYTES, read_start};
 use refusal_reason::laws::refusal_is_present;
-use start_file::{MAX_START_BYTES, read_start};
 use std::alloc::Global;
 
 /// The requests of a start file for this cell, or the end in their place.

@@ -9,7 +9,7 @@ use crate::replies::refusal_named;
 use crate::texts::{Misfit, misfit_text};
 use crate::words::Words;
 use outside_io::Files;
-use start_file::MAX_START_BYTES;
+use record_text::MAX_START_BYTES;
 use std::alloc::Global;
 
 /// What can't be done, of which `line` tells the part, the line or the number.

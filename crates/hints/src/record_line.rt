@@ -14,9 +14,8 @@ use crate::words::Words;
 use admission_core::Core;
 use cell_base::Cell;
 use outside_io::Files;
-use record_text::{MAX_RECORD_BYTES, read_record};
+use record_text::{MAX_RECORD_BYTES, MAX_START_BYTES, read_record};
 use shift_checker::Why;
-use start_file::MAX_START_BYTES;
 use std::alloc::Global;
 
 /// What is wrong with the line that `record refused LINE` names, of a record or of a start file.

@@ -6,7 +6,7 @@ use Rattle.cell_walks.specs.Allowed.{StandsForAdded}
 use Rattle.cell_walks.specs.DiskTold.{disk_told}
 use Rattle.journal_texts.specs.Recorded.{recorded_outcome}
 use Rattle.journal_texts.proofs.AskedSteps.{asked_so, asked_under, same_opening}
-use Rattle.start_file.specs.StartFiles.{IsPlacing}
+use Rattle.record_text.specs.StartFiles.{IsPlacing}
 use Rattle.carry_commands.proofs.Granting.{placing_fits}
 use Rattle.carry_commands.proofs.asking.ask_all.Goals as goal
 

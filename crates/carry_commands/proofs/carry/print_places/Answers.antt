@@ -2,7 +2,7 @@
 use Rattle.std.proofs.Common.{List, arith, subst, ◌∙◌}
 use Rattle.outside_io.specs.Puts.{SinkTold, sink_told}
 use Rattle.cell_base.specs.declared.requests.Request.{Request}
-use Rattle.start_file.specs.StartFiles.{place_line}
+use Rattle.record_text.specs.StartFiles.{place_line}
 use Rattle.cell_texts.proofs.Delivered.{Underway, breaks_off, goes_on, rest_at}
 use Rattle.carry_commands.proofs.carry.print_places.Goals as goal
 

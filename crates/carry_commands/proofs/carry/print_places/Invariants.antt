@@ -1,7 +1,7 @@
 -- The lines of the requests so far were taken, and no call has failed.
 use Rattle.std.proofs.Common.{◌≡◌, drop}
 use Rattle.outside_io.specs.Puts.{sink_told}
-use Rattle.start_file.specs.StartFiles.{place_line}
+use Rattle.record_text.specs.StartFiles.{place_line}
 use Rattle.cell_texts.proofs.Delivered.{Underway}
 use Rattle.carry_commands.proofs.carry.print_places.Given as goal
 

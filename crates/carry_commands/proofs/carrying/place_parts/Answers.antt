@@ -8,7 +8,7 @@ use Rattle.cell_base.specs.declared.cells.Cell.{Cell}
 use Rattle.cell_base.specs.declared.requests.Part.{Part}
 use Rattle.cell_base.specs.declared.requests.Request.{Request}
 use Rattle.policy_laws.proofs.Units.{units_law}
-use Rattle.start_file.specs.StartFiles.{IsPlacing}
+use Rattle.record_text.specs.StartFiles.{IsPlacing}
 use Rattle.carry_commands.specs.Carried.{carried_after}
 use Rattle.carry_commands.proofs.CarriedParts.{behind, none_more, one_more}
 use Rattle.carry_commands.proofs.CarryWalk.{refused_at}

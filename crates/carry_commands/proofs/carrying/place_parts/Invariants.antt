@@ -1,7 +1,7 @@
 -- Each part so far was placed.
 use Rattle.std.proofs.Common.{◌≡◌, ◌≤◌, drop, length}
 use Rattle.std.specs.List.{All}
-use Rattle.start_file.specs.StartFiles.{IsPlacing}
+use Rattle.record_text.specs.StartFiles.{IsPlacing}
 use Rattle.carry_commands.specs.Carried.{carried, carried_after}
 use Rattle.carry_commands.proofs.CarriedParts.{behind}
 use Rattle.carry_commands.proofs.carrying.place_parts.Given as goal

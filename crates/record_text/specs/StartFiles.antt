@@ -9,7 +9,7 @@ use Rattle.step_text.specs.Steps.{request_words}
 use Rattle.record_text.specs.Lines.{line_of}
 use Rattle.record_text.specs.declared.record.RecordFault.{RecordFault}
 use Rattle.record_text.specs.declared.record.RecordFault.TheVariants.{Bad, Memory}
-use Rattle.start_file.specs.declared.reading.TheConstants.{MAX_START_BYTES, MAX_START_LINES}
+use Rattle.record_text.specs.declared.start.TheConstants.{MAX_START_BYTES, MAX_START_LINES}
 
 -- a request that places a part of a job, a number of 32 bits, at a place of the cell
 abbrev pub IsPlacing : Cell → Request → Type 0

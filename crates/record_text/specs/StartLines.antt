@@ -7,7 +7,7 @@ use Rattle.step_text.specs.Words.{words}
 use Rattle.record_text.specs.Reading.{placing_of}
 use Rattle.record_text.specs.declared.record.RecordFault.{RecordFault}
 use Rattle.record_text.specs.declared.record.RecordFault.TheVariants.{Bad, Memory}
-use Rattle.start_file.specs.declared.reading.TheConstants.{MAX_START_LINES}
+use Rattle.record_text.specs.declared.start.TheConstants.{MAX_START_LINES}
 
 -- the same of a line that comes after those of so many requests
 abbrev pub next_request : Cell → List Request → List ℕ → Option Request

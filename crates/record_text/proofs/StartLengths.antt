@@ -14,8 +14,8 @@ use Rattle.step_text.specs.Words.{joined}
 use Rattle.step_text.specs.Steps.{done_word, request_words}
 use Rattle.step_text.proofs.Naming.{type_named}
 use Rattle.record_text.proofs.Requesting.{stage_is_small}
-use Rattle.start_file.specs.declared.reading.TheConstants.{MAX_START_LINES}
-use Rattle.start_file.specs.StartFiles.{IsPlacing, IsStartOf, place_line, start_text}
+use Rattle.record_text.specs.declared.start.TheConstants.{MAX_START_LINES}
+use Rattle.record_text.specs.StartFiles.{IsPlacing, IsStartOf, place_line, start_text}
 
 done_short : (done : Bool) → length (done_word done) ≤ 7
 done_short true = lit≤ tt

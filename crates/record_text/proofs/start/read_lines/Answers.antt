@@ -3,9 +3,9 @@ use Rattle.std.proofs.Common.{◌≡◌, List, [], ◌∷◌, ◌++◌, length, 
 use Rattle.std.proofs.lemmas.List.{length-append}
 use Rattle.cell_base.specs.declared.requests.Request.{Request}
 use Rattle.record_text.specs.BadLines.{pieces}
-use Rattle.start_file.specs.Reading.{read_from}
-use Rattle.start_file.proofs.Lines.{read_line}
-use Rattle.start_file.proofs.reading.read_lines.Goals as goal
+use Rattle.record_text.specs.StartLines.{read_from}
+use Rattle.record_text.proofs.StartLines.{read_line}
+use Rattle.record_text.proofs.start.read_lines.Goals as goal
 
 pub returns-in-None-next_request : goal.returns-in-None-next_request
 returns-in-None-next_request c =

@@ -20,12 +20,12 @@ use Rattle.record_text.specs.declared.record.RecordFault.TheVariants.{Bad, Memor
 use Rattle.record_text.proofs.Ending.{same_Ok, same_Err}
 use Rattle.record_text.proofs.Pieces.{pieces_lines, pieces_some}
 use Rattle.record_text.proofs.Splitting.{IsLine, joined-pieces, joined-words}
-use Rattle.start_file.specs.declared.reading.TheConstants.{MAX_START_BYTES, MAX_START_LINES}
+use Rattle.record_text.specs.declared.start.TheConstants.{MAX_START_BYTES, MAX_START_LINES}
 use Rattle.record_text.specs.Reading.{placing_of}
-use Rattle.start_file.specs.Reading.{GivesStart, next_request, read_from}
-use Rattle.start_file.specs.StartFiles.{IsBadStartLine, IsPlacing, IsStartOf, StartRefusedAt, place_line, start_reads, start_text}
-use Rattle.start_file.proofs.Lines.{first_piece, next_is, read_all, read_cons}
-use Rattle.start_file.proofs.Placing.{placing-sound}
+use Rattle.record_text.specs.StartLines.{GivesStart, next_request, read_from}
+use Rattle.record_text.specs.StartFiles.{IsBadStartLine, IsPlacing, IsStartOf, StartRefusedAt, place_line, start_reads, start_text}
+use Rattle.record_text.proofs.StartLines.{first_piece, next_is, read_all, read_cons}
+use Rattle.record_text.proofs.Placing.{placing-sound}
 
 same_rest : (line : List ℕ) (one other : List (List ℕ)) → line ∷ one ≡ line ∷ other → one ≡ other
 same_rest line one other is = cc

@@ -1,14 +1,21 @@
-//! A start file, read line by line.
+//! A start file: the parts that stand in a cell already, one line each, both ways.
+//!
+//! A line places one part, `place 7 A 1 waiting` or `place 7 A 1 done`: its job, its type, its place in the route, from 0, and whether
+//! its work there is done. There may be no line.
 ghost use Rattle.std.specs.Prelude.{◌≡◌, ◌<◌, ◌⊎◌, [], length, IfSome, IfOk, IfErr, List as Items};
 ghost use Rattle.cell_base.specs.Fits.{CellFits};
 ghost use Rattle.cell_base.specs.declared.requests.Request.{Request};
+ghost use Rattle.cell_base.specs.declared.requests.Request.TheVariants.{Place};
 ghost use Rattle.record_text.specs.BadLines.{pieces};
-ghost use Rattle.start_file.specs.Reading.{GivesStart, next_request, read_from};
-ghost use Rattle.start_file.specs.declared.reading.TheConstants.{MAX_START_LINES};
-ghost use Rattle.start_file.specs.StartFiles.{IsStartOf, StartRefusedAt};
+ghost use Rattle.record_text.specs.StartLines.{GivesStart, next_request, read_from};
+ghost use Rattle.record_text.specs.declared.start.TheConstants.{MAX_START_LINES};
+ghost use Rattle.record_text.specs.StartFiles.{IsPlacing, IsStartOf, StartRefusedAt, place_line};
 
-use cell_base::{Cell, List, Request};
-use record_text::{RecordFault, cut_line, placing_of};
+use crate::line::Line;
+use crate::lines::add_type;
+use crate::lines_at::placing_of;
+use crate::record::{RecordFault, cut_line};
+use cell_base::{Cell, JobId, List, Request, TypeId};
 use std::alloc::Global;
 use step_text::IndexedCell;
 
@@ -67,4 +74,39 @@ fn next_request(cell: &IndexedCell<'_>, found: &List<Request>, line: &[u8]) -> O
         return None;
     }
     placing_of(cell, line)
+}
+
+/// The line of a request that places a part.
+pub fn place_line(cell: &Cell, request: &Request) -> Line
+    requires fits { CellFits cell.now }
+    requires placing { IsPlacing cell.now request.now }
+    ensures { result ≡ place_line cell.now request.now }
+{
+    match *request {
+        Request::Place {
+            job,
+            kind,
+            place,
+            done,
+        } => line_of_place(cell, job, kind, place, done),
+        _ => Line::new(),
+    }
+}
+
+// The same of the fields of the request.
+fn line_of_place(cell: &Cell, job: JobId, kind: TypeId, place: u16, done: bool) -> Line
+    requires fits { CellFits cell.now }
+    requires placing { IsPlacing cell.now (Place done kind job place) }
+    ensures { result ≡ place_line cell.now (Place done kind job place) }
+{
+    let mut line = Line::of_word(b"place");
+    line.number(job.0);
+    add_type(&mut line, cell, kind);
+    line.number(place);
+    if done {
+        line.word(b"done");
+    } else {
+        line.word(b"waiting");
+    }
+    line.end()
 }

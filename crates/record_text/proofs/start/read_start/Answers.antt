@@ -1,7 +1,7 @@
 -- That the answer is exact.
 use Rattle.std.proofs.Common.{arith}
-use Rattle.start_file.proofs.Exact.{answers_complete, answers_found, answers_refused}
-use Rattle.start_file.proofs.reading.read_start.Goals as goal
+use Rattle.record_text.proofs.StartExact.{answers_complete, answers_found, answers_refused}
+use Rattle.record_text.proofs.start.read_start.Goals as goal
 
 pub returns-clause-found : goal.returns-clause-found
 returns-clause-found c =

@@ -1,9 +1,9 @@
 -- What has been read of the bytes so far.
 use Rattle.std.proofs.Common.{◌≡◌, ◌≤◌, [], length}
 use Rattle.record_text.specs.BadLines.{pieces}
-use Rattle.start_file.specs.Reading.{read_from}
-use Rattle.start_file.specs.declared.reading.TheConstants.{MAX_START_LINES}
-use Rattle.start_file.proofs.reading.read_lines.Given as goal
+use Rattle.record_text.specs.StartLines.{read_from}
+use Rattle.record_text.specs.declared.start.TheConstants.{MAX_START_LINES}
+use Rattle.record_text.proofs.start.read_lines.Given as goal
 
 abbrev pub invariant-loop-more : goal.invariant-loop-more
 invariant-loop-more l = record {

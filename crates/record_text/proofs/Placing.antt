@@ -18,7 +18,7 @@ use Rattle.record_text.proofs.Chains.{bind_some}
 use Rattle.record_text.proofs.Plain.{ArePlain, IsLine-joined, plain_again, plain_entry}
 use Rattle.record_text.proofs.Requesting.{ended-sound, place_at-complete, place_at-sound}
 use Rattle.record_text.proofs.Splitting.{IsLine}
-use Rattle.start_file.specs.StartFiles.{IsPlacing}
+use Rattle.record_text.specs.StartFiles.{IsPlacing}
 
 -- a request is a place
 record IsPlace (request : Request) : Type 0 where

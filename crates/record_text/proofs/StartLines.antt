@@ -13,10 +13,10 @@ use Rattle.step_text.specs.Steps.{request_words}
 use Rattle.record_text.specs.BadLines.{pieces}
 use Rattle.record_text.proofs.Pieces.{pieces_some}
 use Rattle.record_text.proofs.Splitting.{IsLine, pieces-behind}
-use Rattle.start_file.specs.declared.reading.TheConstants.{MAX_START_LINES}
-use Rattle.start_file.specs.Reading.{next_request, read_from}
-use Rattle.start_file.specs.StartFiles.{IsPlacing, place_line, start_text}
-use Rattle.start_file.proofs.Placing.{is_line, placing-complete, words_again}
+use Rattle.record_text.specs.declared.start.TheConstants.{MAX_START_LINES}
+use Rattle.record_text.specs.StartLines.{next_request, read_from}
+use Rattle.record_text.specs.StartFiles.{IsPlacing, place_line, start_text}
+use Rattle.record_text.proofs.Placing.{is_line, placing-complete, words_again}
 
 module _ (cell : Cell) (found : List Request) where
   -- what a line and others after it are read as
