@@ -5,31 +5,32 @@ ghost use Rattle.durable_cell.specs.Clauses.{first_parts, opened_as, parts, repl
 ghost use Rattle.durable_cell.specs.Acknowledged.{HasSince, MovesSafely};
 ghost use Rattle.durable_cell.specs.Asked.{Answers, GoesOn, HasAskCause, WritesGrants, entry};
 ghost use Rattle.durable_cell.specs.Kept.{KeepsHistory, KeepsDisk};
-ghost use Rattle.durable_cell.specs.Openings.{IsNew, IsAnswer, IsFound, HasCause, HasTaken, Leaves};
+ghost use Rattle.durable_cell.specs.Openings.{IsNew, IsAnswer, IsFound, HasCause, HasTaken, Leaves, durable_heard};
 
 use crate::marks::mark_of;
-use crate::recalled::Recalled;
+use crate::recalled::{Recall, Recalled};
 use crate::recalling::Recalling;
-use crate::{AskFault, Finished, MAX_ROOM, Opening, Resumed, resume};
+use crate::{AskFault, Finished, Heard, MAX_ROOM, Opening, Resumed, resume};
 use admission_core::Core;
 use atomic_table::Badge;
 use cell_base::{Cell, Entry, Grant, List, NoMemory, Reply, Request, Shelf, Told};
 use move_journal::{Journal, MAX_CELL_TEXT};
 use outside_io::Disk;
 use policy_laws::refusal_law;
-use shift_recovery::Taker;
+use shift_recovery::{Taker, Unkept};
 use std::alloc::Global;
 use std::marker::Model;
 
-/// A core with the journal of its grants. Contracts see it as a `DurableState`. All memory is taken at the opening.
-pub struct Durable<D: Disk> {
+/// A core with the journal of its grants, and a list of those of its opening unless it says otherwise. Contracts see it as a
+/// `DurableState`. All memory is taken at the opening.
+pub struct Durable<D: Disk, G: Recall = List<Grant>> {
     /// The disk as it was handed to `open`, and as it was found there, for contracts alone.
     entry: Badge<D>,
     found: Badge<D>,
     core: Core,
     text: List<u8>,
     journal: Journal<D>,
-    opening: Recalled,
+    opening: G,
     history: Shelf<Entry>,
     added: Shelf<Grant>,
     unsure: Option<Grant>,
@@ -37,7 +38,7 @@ pub struct Durable<D: Disk> {
 }
 
 // Written out, so that letting a durable cell go is one step in each proof and not a walk through all that it holds.
-impl<D: Disk + Drop> Drop for Durable<D> {
+impl<D: Disk + Drop, G: Recall> Drop for Durable<D, G> {
     fn drop(self) {
         let Durable {
             entry: _,
@@ -54,16 +55,16 @@ impl<D: Disk + Drop> Drop for Durable<D> {
     }
 }
 
-impl<D: Disk> Model for Durable<D> {
+impl<D: Disk, G: Recall> Model for Durable<D, G> {
     ghost use Rattle.durable_cell.specs.DurableState.{DurableState, seen};
     ghost use Rattle.durable_cell.specs.Kept.{Keeps};
 
     ghost Value = { DurableState D };
 
-    ghost view = { λ s. seen s.entry s.found s.core s.text s.journal s.opening.items s.history.items s.added.items s.unsure s.limit };
+    ghost view = { λ s. seen s.entry s.found s.core s.text s.journal (G.grants s.opening) s.history.items s.added.items s.unsure s.limit };
 
     ghost invariant = { λ s. Keeps D.reads_as D.may_leave D.moment D.left_since D.faults
-        (seen s.entry s.found s.core s.text s.journal s.opening.items s.history.items s.added.items s.unsure s.limit)
+        (seen s.entry s.found s.core s.text s.journal (G.grants s.opening) s.history.items s.added.items s.unsure s.limit)
         s.entry s.found s.core s.journal s.history.spare s.added.spare };
 }
 
@@ -94,26 +95,22 @@ fn reserve<D: Disk>(
 }
 
 impl<D: Disk> Durable<D> {
-    /// The cell after the grants that stand on a disk with this cell text, if there are at most `room` of them, each of which is
-    /// handed on as it is read. At most `limit` requests may be decided. A disk that holds no journal gets one of no grants, as the
-    /// last step.
-    pub fn open<K: Taker + Drop>(
+    /// The cell after the grants that stand on a disk with this cell text, if there are at most `room` of them. At most `limit`
+    /// requests may be decided. A disk that holds no journal gets one of no grants, as the last step.
+    pub fn open(
         alloc: Global,
         cell: Cell,
         cell_text: &[u8],
         disk: D,
         room: u64,
         limit: u64,
-        kept: K,
-    ) -> Opening<D, K>
+    ) -> Opening<D>
         requires fits { CellFits cell }
         requires text { length cell_text.now ≤ MAX_CELL_TEXT }
         requires room { room ≤ MAX_ROOM }
         requires limit { limit ≤ MAX_ROOM }
-        requires none { (first : ℕ) → K.took kept first [] kept }
         ensures new { IsNew cell cell_text.now disk limit result }
         ensures exact { IfSome (D.reads_as disk) (λ file. IsAnswer result (opened_as cell file cell_text.now room)) }
-        ensures taken { HasTaken K.took kept result }
         ensures cause { HasCause D.faults disk result }
         ensures leaves { Leaves D.reads_as D.may_leave D.moment D.left_since D.faults disk cell_text.now result }
 
@@ -121,42 +118,141 @@ impl<D: Disk> Durable<D> {
         ensures stands { (file : Sequence ℕ) (grants : Sequence Grant) → D.reads_as disk ≡ Some file
             → StandsFor file cell_text.now grants → AreDue cell grants → length grants ≤ room → IsFound grants result }
     {
-        let Ok(entry) = mark_of(alloc, &disk) else {
-            return Opening::Memory { disk };
-        };
-        match resume(alloc, cell, cell_text, disk, room, Recalling::of(kept)) {
-            Resumed::Open { core, stored, kept } => {
-                let Ok(shelves) = reserve(alloc, stored.disk(), cell_text, limit) else {
-                    return Opening::Memory {
-                        disk: stored.into_disk(),
-                    };
-                };
-                let Recalling { grants, kept } = kept;
-                match stored.into_journal(cell_text) {
-                    Ok(journal) => Opening::Open {
-                        durable: Durable {
-                            entry,
-                            found: shelves.found,
-                            core,
-                            text: shelves.text,
-                            journal,
-                            opening: grants,
-                            history: shelves.history,
-                            added: shelves.added,
-                            unsure: None,
-                            limit,
-                        },
-                        kept,
-                    },
-                    Err(disk) => Opening::Device { disk },
-                }
-            }
-            Resumed::Refused { disk, why } => Opening::Refused { disk, why },
-            Resumed::Device { disk } => Opening::Device { disk },
-            Resumed::Memory { disk } => Opening::Memory { disk },
+        match open_over(
+            alloc,
+            cell,
+            cell_text,
+            disk,
+            room,
+            limit,
+            List::new(alloc),
+            Unkept,
+        ) {
+            Opening::Open(Heard { durable, kept: _ }) => Opening::Open(durable),
+            Opening::Refused { disk, why } => Opening::Refused { disk, why },
+            Opening::Device { disk } => Opening::Device { disk },
+            Opening::Memory { disk } => Opening::Memory { disk },
         }
     }
 
+    /// The grants for which the disk stood at the opening.
+    pub fn opening(&self) -> &[Grant]
+        ensures { result.now ≡ self.now.opening }
+    {
+        self.opening.as_slice()
+    }
+}
+
+impl<D: Disk> Durable<D, Recalled> {
+    /// The same without a list of the grants: each is handed on as it is read.
+    pub fn open_with<K: Taker + Drop>(
+        alloc: Global,
+        cell: Cell,
+        cell_text: &[u8],
+        disk: D,
+        room: u64,
+        limit: u64,
+        kept: K,
+    ) -> Opening<D, Heard<D, Recalled, K>>
+        requires fits { CellFits cell }
+        requires text { length cell_text.now ≤ MAX_CELL_TEXT }
+        requires room { room ≤ MAX_ROOM }
+        requires limit { limit ≤ MAX_ROOM }
+        requires none { (first : ℕ) → K.took kept first [] kept }
+        ensures new { IsNew cell cell_text.now disk limit (durable_heard result) }
+        ensures exact { IfSome (D.reads_as disk) (λ file. IsAnswer (durable_heard result) (opened_as cell file cell_text.now room)) }
+        ensures taken { HasTaken K.took kept result }
+        ensures cause { HasCause D.faults disk (durable_heard result) }
+        ensures leaves { Leaves D.reads_as D.may_leave D.moment D.left_since D.faults disk cell_text.now (durable_heard result) }
+
+        // What a durable cell may leave is opened.
+        ensures stands { (file : Sequence ℕ) (grants : Sequence Grant) → D.reads_as disk ≡ Some file
+            → StandsFor file cell_text.now grants → AreDue cell grants → length grants ≤ room → IsFound grants (durable_heard result) }
+    {
+        open_over(
+            alloc,
+            cell,
+            cell_text,
+            disk,
+            room,
+            limit,
+            Recalled::none(),
+            kept,
+        )
+    }
+}
+
+// The cell after the grants of a disk, each of which is kept in one way and handed on in another.
+fn open_over<D: Disk, G: Recall, K: Taker + Drop>(
+    alloc: Global,
+    cell: Cell,
+    cell_text: &[u8],
+    disk: D,
+    room: u64,
+    limit: u64,
+    grants: G,
+    kept: K,
+) -> Opening<D, Heard<D, G, K>>
+    requires fits { CellFits cell }
+    requires text { length cell_text.now ≤ MAX_CELL_TEXT }
+    requires room { room ≤ MAX_ROOM }
+    requires limit { limit ≤ MAX_ROOM }
+    requires no_grants { G.grants grants ≡ [] }
+    requires none { (first : ℕ) → K.took kept first [] kept }
+    ensures new { IsNew cell cell_text.now disk limit (durable_heard result) }
+    ensures exact { IfSome (D.reads_as disk) (λ file. IsAnswer (durable_heard result) (opened_as cell file cell_text.now room)) }
+    ensures taken { HasTaken K.took kept result }
+    ensures cause { HasCause D.faults disk (durable_heard result) }
+    ensures leaves { Leaves D.reads_as D.may_leave D.moment D.left_since D.faults disk cell_text.now (durable_heard result) }
+
+    // What a durable cell may leave is opened.
+    ensures stands { (file : Sequence ℕ) (grants : Sequence Grant) → D.reads_as disk ≡ Some file
+        → StandsFor file cell_text.now grants → AreDue cell grants → length grants ≤ room → IsFound grants (durable_heard result) }
+{
+    let Ok(entry) = mark_of(alloc, &disk) else {
+        return Opening::Memory { disk };
+    };
+    match resume(
+        alloc,
+        cell,
+        cell_text,
+        disk,
+        room,
+        Recalling { grants, kept },
+    ) {
+        Resumed::Open { core, stored, kept } => {
+            let Ok(shelves) = reserve(alloc, stored.disk(), cell_text, limit) else {
+                return Opening::Memory {
+                    disk: stored.into_disk(),
+                };
+            };
+            let Recalling { grants, kept } = kept;
+            match stored.into_journal(cell_text) {
+                Ok(journal) => {
+                    let durable = Durable {
+                        entry,
+                        found: shelves.found,
+                        core,
+                        text: shelves.text,
+                        journal,
+                        opening: grants,
+                        history: shelves.history,
+                        added: shelves.added,
+                        unsure: None,
+                        limit,
+                    };
+                    Opening::Open(Heard { durable, kept })
+                }
+                Err(disk) => Opening::Device { disk },
+            }
+        }
+        Resumed::Refused { disk, why } => Opening::Refused { disk, why },
+        Resumed::Device { disk } => Opening::Device { disk },
+        Resumed::Memory { disk } => Opening::Memory { disk },
+    }
+}
+
+impl<D: Disk, G: Recall> Durable<D, G> {
     /// Decides a request of a session in a shift. A grant is stable on the disk before it is applied and answered.
     pub fn ask(&mut self, shift: u32, session: u16, request: &Request) -> Result<Reply, AskFault>
         requires { RequestFits self.old.cell request.now }

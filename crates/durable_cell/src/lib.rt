@@ -1,8 +1,8 @@
 //! A cell whose grants are on a disk: the core and the journal in one type, so that neither is ahead of the other.
 //!
 //! ```rust
-//! match Durable::open(alloc, cell, b"cell", disk, 8, 5, Unkept) {
-//!     Opening::Open { durable, .. } => Ok(durable),  // after the grants that stand on the disk
+//! match Durable::open(alloc, cell, b"cell", disk, 8, 5) {
+//!     Opening::Open(durable) => Ok(durable),  // after the grants that stand on the disk
 //!     Opening::Refused { .. } => Err(Fail::from("no journal of this cell")),
 //!     Opening::Device { .. } => Err(Fail::from("the device failed")),
 //!     Opening::Memory { .. } => Err(Fail::from("no memory")),
@@ -39,7 +39,8 @@ mod stored;
 pub use durable::Durable;
 pub use fault::AskFault;
 pub use finished::Finished;
-pub use opening::Opening;
+pub use opening::{Heard, Opening};
+pub use recalled::{Recall, Recalled};
 pub use replays::MAX_ROOM;
 pub use resumed::{Resumed, resume};
 pub use stored::Stored;

@@ -1,19 +1,47 @@
-//! The grants of an opening, as contracts see them: nothing keeps them at run time.
+//! What a durable cell keeps of the grants of its opening.
 ghost use base.Fml.{ftrue};
-ghost use Rattle.std.specs.Prelude.{◌≡◌, List, [], ◌∷◌, ◌++◌};
+ghost use Rattle.std.specs.Prelude.{◌≡◌, List as Sequence, [], ◌∷◌, ◌++◌, OnOk};
 ghost use Rattle.cell_base.specs.declared.shifts.Grant.{Grant as OneGrant};
 
-use cell_base::Grant;
+use cell_base::{Grant, List, NoMemory};
 use std::marker::{Model, PhantomData};
 
-/// Grants that were taken one after the other. It has no bytes: contracts alone read `items`.
-pub(crate) struct Recalled {
+/// What is kept of grants that come one after the other. Contracts see which they were.
+pub trait Recall: Drop {
+    /// The grants that came.
+    ghost grants: { Self → Sequence OneGrant };
+
+    /// One grant more comes.
+    fn recall(&mut self, grant: &Grant) -> Result<(), NoMemory>
+        ensures { OnOk result (grants self.new ≡ grants self.old ++ grant.now ∷ []) };
+}
+
+/// A list keeps them.
+impl Recall for List<Grant> {
+    ghost grants = { λ list. list };
+
+    fn recall(&mut self, grant: &Grant) -> Result<(), NoMemory> {
+        self.try_push(*grant)
+    }
+}
+
+/// Grants of which nothing is kept at run time: it has no bytes, and contracts alone read which they were.
+pub struct Recalled {
     marker: PhantomData<Grant>,
-    pub(crate) ghost items: { List OneGrant },
+    pub(crate) ghost items: { Sequence OneGrant },
 }
 
 impl Model for Recalled {
     ghost also_owns = { λ _. ftrue };
+}
+
+impl Recall for Recalled {
+    ghost grants = { λ recalled. recalled.items };
+
+    fn recall(&mut self, grant: &Grant) -> Result<(), NoMemory> {
+        *self = Recalled::with(self, grant);
+        Ok(())
+    }
 }
 
 impl Recalled {

@@ -25,7 +25,7 @@ some n = Some n
 pub returns-then-is_some-clause-answer : goal.returns-then-is_some-clause-answer
 returns-then-is_some-clause-answer g c =
     let i = c.self.inside in
-    let old = seen i.entry i.found i.core i.text i.journal i.opening.items i.history.items i.added.items i.unsure i.limit in
+    let old = seen i.entry i.found i.core i.text i.journal (g.G.Recall.grants i.opening) i.history.items i.added.items i.unsure i.limit in
     let last = unsure_last old c.self.invariant.0 (sym c.is_some.ensures ∙ c.if-is_some.true) in (
       refl,
       subst (λ (d : DurableState _). halted_at d.history ≡ Some (c.len-len.result - 1)) c.self.view_is
@@ -35,7 +35,7 @@ returns-then-is_some-clause-answer g c =
 pub returns-then-len-self-clause-answer : goal.returns-then-len-self-clause-answer
 returns-then-len-self-clause-answer g c =
     let i = c.self.inside in let v = c.self.invariant in
-    let old = seen i.entry i.found i.core i.text i.journal i.opening.items i.history.items i.added.items i.unsure i.limit in
+    let old = seen i.entry i.found i.core i.text i.journal (g.G.Recall.grants i.opening) i.history.items i.added.items i.unsure i.limit in
     let none = no_halt_yet old v.0 (none_by_test i.unsure (sym c.is_some.ensures ∙ c.if-is_some.false)) in (
       refl,
       subst (λ (d : DurableState _). halted_at d.history ≡ None) c.self.view_is none,
@@ -47,7 +47,7 @@ returns-then-len-self-clause-answer g c =
 pub grant-requires-clause-goes_on : goal.grant-requires-clause-goes_on
 grant-requires-clause-goes_on g c =
     let i = c.self.inside in let v = c.self.invariant in
-    let old = seen i.entry i.found i.core i.text i.journal i.opening.items i.history.items i.added.items i.unsure i.limit in
+    let old = seen i.entry i.found i.core i.text i.journal (g.G.Recall.grants i.opening) i.history.items i.added.items i.unsure i.limit in
     let none = no_halt_yet old v.0 (none_by_test i.unsure (sym c.is_some.ensures ∙ c.if-is_some.false)) in
     let room : length i.history.items < i.limit = omega (arith, c.len-len.ensures, c.if-len-self.false) in
     subst (λ (d : DurableState _). GoesOn d) c.self.view_is (record { no_halt = none; has_room = room })
@@ -55,7 +55,7 @@ grant-requires-clause-goes_on g c =
 pub invariant_of-self : goal.invariant_of-self
 invariant_of-self g c =
     let i = c.self.inside in let v = c.self.invariant in let request = c.args.request.now in
-    let old = seen i.entry i.found i.core i.text i.journal i.opening.items i.history.items i.added.items i.unsure i.limit in
+    let old = seen i.entry i.found i.core i.text i.journal (g.G.Recall.grants i.opening) i.history.items i.added.items i.unsure i.limit in
     let e : Entry = entry c.args.session request (Answered (Refused c.in-Refused.why)) in
     let none = none_by_test i.unsure (sym c.is_some.ensures ∙ c.if-is_some.false) in
     let room : length i.history.items < i.limit = omega (arith, c.len-len.ensures, c.if-len-self.false) in
@@ -64,7 +64,7 @@ invariant_of-self g c =
     let right : reply_to i.core.cell (parts old) request ≡ Refused c.in-Refused.why =
     ap (λ ps. reply_to i.core.cell ps request) (sym state_is) ∙ sym c.in-Refused.ensures.reply in
     let stays = law (parts old) request c.in-Refused.why right in
-    let more = seen_more i.entry i.found old.entry old.found i.core i.core i.text i.journal i.journal i.opening.items i.history.items
+    let more = seen_more i.entry i.found old.entry old.found i.core i.core i.text i.journal i.journal (g.G.Recall.grants i.opening) i.history.items
     c.push.new.self.items i.added.items i.added.items i.unsure i.unsure i.limit c.args.shift e v.2.first v.2.second refl
     (c.push.ensures.items ∙ ap (λ (x : Entry). i.history.items ++ x ∷ []) c.entry.ensures) (sym (append-nil i.added.items)) none in
     subst (λ (d : DurableState _). Keeps g.D.Disk.reads_as g.D.Disk.may_leave g.D.Disk.moment g.D.Disk.left_since g.D.Disk.faults d
@@ -86,12 +86,12 @@ returns-in-Refused-clause-legal g c = (invariant_of-self g c).0.legal
 pub returns-in-Refused-clause-answer : goal.returns-in-Refused-clause-answer
 returns-in-Refused-clause-answer g c =
     let i = c.self.inside in let v = c.self.invariant in let request = c.args.request.now in
-    let old = seen i.entry i.found i.core i.text i.journal i.opening.items i.history.items i.added.items i.unsure i.limit in
+    let old = seen i.entry i.found i.core i.text i.journal (g.G.Recall.grants i.opening) i.history.items i.added.items i.unsure i.limit in
     let e : Entry = entry c.args.session request (Answered (Refused c.in-Refused.why)) in
     let none = none_by_test i.unsure (sym c.is_some.ensures ∙ c.if-is_some.false) in
     let room : length i.history.items < i.limit = omega (arith, c.len-len.ensures, c.if-len-self.false) in
     let state_is = ap (λ (k : CoreState). k.parts) v.2.state in
-    let more = seen_more i.entry i.found old.entry old.found i.core i.core i.text i.journal i.journal i.opening.items i.history.items
+    let more = seen_more i.entry i.found old.entry old.found i.core i.core i.text i.journal i.journal (g.G.Recall.grants i.opening) i.history.items
     c.push.new.self.items i.added.items i.added.items i.unsure i.unsure i.limit c.args.shift e v.2.first v.2.second refl
     (c.push.ensures.items ∙ ap (λ (x : Entry). i.history.items ++ x ∷ []) c.entry.ensures) (sym (append-nil i.added.items)) none in (
       more ∙ ap (λ (d : DurableState _). with_entry d i.journal.disk c.args.shift e) c.self.view_is,
@@ -103,7 +103,7 @@ returns-in-Refused-clause-answer g c =
 pub returns-then-is_some-clause-disk : goal.returns-then-is_some-clause-disk
 returns-then-is_some-clause-disk g c =
     let i = c.self.inside in
-    let old = seen i.entry i.found i.core i.text i.journal i.opening.items i.history.items i.added.items i.unsure i.limit in
+    let old = seen i.entry i.found i.core i.text i.journal (g.G.Recall.grants i.opening) i.history.items i.added.items i.unsure i.limit in
     subst (λ (d : DurableState _). MovesSafely g.D.Disk.reads_as g.D.Disk.may_leave g.D.Disk.moment g.D.Disk.left_since d d) c.self.view_is
     (unwritten g.D.Disk.reads_as g.D.Disk.may_leave g.D.Disk.moment g.D.Disk.left_since g.D.Disk.faults old old.history old.added old.unsure
     g.met.D.Disk.only_now refl refl c.self.invariant.1)
@@ -111,7 +111,7 @@ returns-then-is_some-clause-disk g c =
 pub returns-then-len-self-clause-disk : goal.returns-then-len-self-clause-disk
 returns-then-len-self-clause-disk g c =
     let i = c.self.inside in
-    let old = seen i.entry i.found i.core i.text i.journal i.opening.items i.history.items i.added.items i.unsure i.limit in
+    let old = seen i.entry i.found i.core i.text i.journal (g.G.Recall.grants i.opening) i.history.items i.added.items i.unsure i.limit in
     subst (λ (d : DurableState _). MovesSafely g.D.Disk.reads_as g.D.Disk.may_leave g.D.Disk.moment g.D.Disk.left_since d d) c.self.view_is
     (unwritten g.D.Disk.reads_as g.D.Disk.may_leave g.D.Disk.moment g.D.Disk.left_since g.D.Disk.faults old old.history old.added old.unsure
     g.met.D.Disk.only_now refl refl c.self.invariant.1)
@@ -119,8 +119,8 @@ returns-then-len-self-clause-disk g c =
 pub returns-in-Refused-clause-disk : goal.returns-in-Refused-clause-disk
 returns-in-Refused-clause-disk g c =
     let i = c.self.inside in
-    let old = seen i.entry i.found i.core i.text i.journal i.opening.items i.history.items i.added.items i.unsure i.limit in
-    let new = seen i.entry i.found i.core i.text i.journal i.opening.items c.push.new.self.items i.added.items i.unsure i.limit in
+    let old = seen i.entry i.found i.core i.text i.journal (g.G.Recall.grants i.opening) i.history.items i.added.items i.unsure i.limit in
+    let new = seen i.entry i.found i.core i.text i.journal (g.G.Recall.grants i.opening) c.push.new.self.items i.added.items i.unsure i.limit in
     subst (λ (d : DurableState _). MovesSafely g.D.Disk.reads_as g.D.Disk.may_leave g.D.Disk.moment g.D.Disk.left_since d new)
     c.self.view_is
     (unwritten g.D.Disk.reads_as g.D.Disk.may_leave g.D.Disk.moment g.D.Disk.left_since g.D.Disk.faults old c.push.new.self.items old.added

@@ -21,7 +21,7 @@ use Rattle.durable_cell.proofs.durable.Durable.grant.Goals as goal
 pub invariant_of-self : goal.invariant_of-self
 invariant_of-self g c =
     let i = c.self.inside in let v = c.self.invariant in let grant = c.args.grant in
-    let old = seen i.entry i.found i.core i.text i.journal i.opening.items i.history.items i.added.items i.unsure i.limit in
+    let old = seen i.entry i.found i.core i.text i.journal (g.G.Recall.grants i.opening) i.history.items i.added.items i.unsure i.limit in
     let e : Entry = entry grant.session grant.request (Answered Granted) in
     let goes = goes_before old c.args.self.now grant.request v.0 c.self.view_is c.requires.goes_on c.requires.granted in
     let running = v.2.runs goes.none in
@@ -33,7 +33,7 @@ invariant_of-self g c =
     } in
     let core_is = c.apply.ensures
     ∙ ap (λ (k : CoreState). after k) v.2.state in
-    let more = seen_more i.entry i.found old.entry old.found i.core c.apply.new.self i.text i.journal c.append.new.self i.opening.items
+    let more = seen_more i.entry i.found old.entry old.found i.core c.apply.new.self i.text i.journal c.append.new.self (g.G.Recall.grants i.opening)
     i.history.items c.push-in-Ok.new.self.items i.added.items c.push.new.self.items i.unsure i.unsure i.limit grant.shift e
     v.2.first v.2.second
     (ap (λ (k : CoreState). k.cell) c.apply.ensures)
@@ -55,7 +55,7 @@ invariant_of-self g c =
 pub invariant_of-self-in-Err : goal.invariant_of-self-in-Err
 invariant_of-self-in-Err g c =
     let i = c.self.inside in let v = c.self.invariant in let grant = c.args.grant in
-    let old = seen i.entry i.found i.core i.text i.journal i.opening.items i.history.items i.added.items i.unsure i.limit in
+    let old = seen i.entry i.found i.core i.text i.journal (g.G.Recall.grants i.opening) i.history.items i.added.items i.unsure i.limit in
     let e : Entry = entry grant.session grant.request Halted in
     let goes = goes_before old c.args.self.now grant.request v.0 c.self.view_is c.requires.goes_on c.requires.granted in
     let running = v.2.runs goes.none in
@@ -66,7 +66,7 @@ invariant_of-self-in-Err g c =
       any_moment = λ file grants is stands. c.in-Err.ensures.any_moment file i.text grants is stands running;
     } in
     let device = device_alone c.in-Err.field-0 i.journal.is_halted c.in-Err.ensures.halted_only running in
-    let more = seen_more i.entry i.found old.entry old.found i.core i.core i.text i.journal c.append.new.self i.opening.items
+    let more = seen_more i.entry i.found old.entry old.found i.core i.core i.text i.journal c.append.new.self (g.G.Recall.grants i.opening)
     i.history.items c.push-in-Err.new.self.items i.added.items i.added.items i.unsure (Some grant) i.limit grant.shift e v.2.first
     v.2.second refl (c.push-in-Err.ensures.items ∙ ap (λ (x : Entry). i.history.items ++ x ∷ []) c.entry-in-Err.ensures) (sym
     (append-nil i.added.items)) refl in
@@ -89,10 +89,10 @@ returns-in-Err-clause-legal g c = (invariant_of-self-in-Err g c).0.legal
 pub returns-in-Ok-clause-answer : goal.returns-in-Ok-clause-answer
 returns-in-Ok-clause-answer g c =
     let i = c.self.inside in let v = c.self.invariant in let grant = c.args.grant in
-    let old = seen i.entry i.found i.core i.text i.journal i.opening.items i.history.items i.added.items i.unsure i.limit in
+    let old = seen i.entry i.found i.core i.text i.journal (g.G.Recall.grants i.opening) i.history.items i.added.items i.unsure i.limit in
     let e : Entry = entry grant.session grant.request (Answered Granted) in
     let goes = goes_before old c.args.self.now grant.request v.0 c.self.view_is c.requires.goes_on c.requires.granted in
-    let more = seen_more i.entry i.found old.entry old.found i.core c.apply.new.self i.text i.journal c.append.new.self i.opening.items
+    let more = seen_more i.entry i.found old.entry old.found i.core c.apply.new.self i.text i.journal c.append.new.self (g.G.Recall.grants i.opening)
     i.history.items c.push-in-Ok.new.self.items i.added.items c.push.new.self.items i.unsure i.unsure i.limit grant.shift e
     v.2.first v.2.second
     (ap (λ (k : CoreState). k.cell) c.apply.ensures)
@@ -103,8 +103,8 @@ returns-in-Ok-clause-answer g c =
 pub returns-in-Ok-clause-disk : goal.returns-in-Ok-clause-disk
 returns-in-Ok-clause-disk g c =
     let i = c.self.inside in let v = c.self.invariant in let grant = c.args.grant in
-    let old = seen i.entry i.found i.core i.text i.journal i.opening.items i.history.items i.added.items i.unsure i.limit in
-    let new = seen i.entry i.found c.apply.new.self i.text c.append.new.self i.opening.items c.push-in-Ok.new.self.items
+    let old = seen i.entry i.found i.core i.text i.journal (g.G.Recall.grants i.opening) i.history.items i.added.items i.unsure i.limit in
+    let new = seen i.entry i.found c.apply.new.self i.text c.append.new.self (g.G.Recall.grants i.opening) c.push-in-Ok.new.self.items
     c.push.new.self.items i.unsure i.limit in
     let goes = goes_before old c.args.self.now grant.request v.0 c.self.view_is c.requires.goes_on c.requires.granted in
     let running = v.2.runs goes.none in
@@ -123,8 +123,8 @@ returns-in-Ok-clause-disk g c =
 pub returns-in-Err-clause-disk : goal.returns-in-Err-clause-disk
 returns-in-Err-clause-disk g c =
     let i = c.self.inside in let v = c.self.invariant in let grant = c.args.grant in
-    let old = seen i.entry i.found i.core i.text i.journal i.opening.items i.history.items i.added.items i.unsure i.limit in
-    let new = seen i.entry i.found i.core i.text c.append.new.self i.opening.items c.push-in-Err.new.self.items i.added.items
+    let old = seen i.entry i.found i.core i.text i.journal (g.G.Recall.grants i.opening) i.history.items i.added.items i.unsure i.limit in
+    let new = seen i.entry i.found i.core i.text c.append.new.self (g.G.Recall.grants i.opening) c.push-in-Err.new.self.items i.added.items
     (Some grant) i.limit in
     let goes = goes_before old c.args.self.now grant.request v.0 c.self.view_is c.requires.goes_on c.requires.granted in
     let running = v.2.runs goes.none in
@@ -142,7 +142,7 @@ returns-in-Err-clause-disk g c =
 pub returns-in-Err-clause-cause : goal.returns-in-Err-clause-cause
 returns-in-Err-clause-cause g c =
     let i = c.self.inside in let v = c.self.invariant in
-    let old = seen i.entry i.found i.core i.text i.journal i.opening.items i.history.items i.added.items i.unsure i.limit in
+    let old = seen i.entry i.found i.core i.text i.journal (g.G.Recall.grants i.opening) i.history.items i.added.items i.unsure i.limit in
     let goes = goes_before old c.args.self.now c.args.grant.request v.0 c.self.view_is c.requires.goes_on c.requires.granted in
     let device = device_alone c.in-Err.field-0 i.journal.is_halted c.in-Err.ensures.halted_only (v.2.runs goes.none) in
     subst (λ (d : DurableState _). Rose (g.D.Disk.faults d.disk) (g.D.Disk.faults c.append.new.self.disk)) c.self.view_is

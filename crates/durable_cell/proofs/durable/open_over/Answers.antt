@@ -1,24 +1,26 @@
 -- The disk was only read until a journal is made on it, and what was recalled are the grants that were read.
+use Rattle.std.specs.Prelude.{Result, Ok, Err}
 use Rattle.std.proofs.Common.{◌≡◌, ℕ, List, [], ◌∷◌, inr, sym, ◌∙◌, ap, subst}
 use Rattle.cell_base.specs.declared.shifts.Grant.{Grant}
 use Rattle.admission_core.specs.CoreState.{CoreState}
 use Rattle.outside_io.specs.Causes.{Rose}
 use Rattle.outside_io.specs.Telling.{told}
+use Rattle.shift_recovery.specs.declared.faults.JournalFault.{JournalFault}
 use Rattle.shift_recovery.proofs.Replaying.{stands_opened}
 use Rattle.shift_recovery.proofs.Standing.{stands_found}
 use Rattle.durable_cell.specs.DurableState.{DurableState}
 use Rattle.durable_cell.specs.Kept.{Keeps}
 use Rattle.durable_cell.specs.StoredGrants.{disk_stored, IsCore, IsStored}
 use Rattle.durable_cell.proofs.Opened.{history_opened, parts_opened, seen_fresh, disk_opened, unmade_since}
-use Rattle.durable_cell.proofs.durable.Durable.open.Goals as goal
+use Rattle.durable_cell.proofs.durable.open_over.Goals as goal
 
-pub invariant_of-result : goal.invariant_of-result
-invariant_of-result g c =
+pub invariant_of-durable : goal.invariant_of-durable
+invariant_of-durable g c =
     let cell = c.args.cell in let text = c.args.cell_text.now in let disk = c.args.disk in let limit = c.args.limit in
     let found = disk_stored c.in-Open.stored in
     let resumed = c.in-Open.ensures.resumed in
-    let grants = c.in-Open.kept.grants.items in let core = c.in-Open.core in let journal = c.in-Ok-into_journal.journal in
-    let recalled : grants ≡ resumed.grants = resumed.taken.0 in
+    let grants = g.G.Recall.grants c.in-Open.kept.grants in let core = c.in-Open.core in let journal = c.in-Ok-into_journal.journal in
+    let recalled : grants ≡ resumed.grants = resumed.taken.0 c.requires.no_grants in
     let shelves = c.in-Ok-reserve.shelves in let reserved = c.in-Ok-reserve.ensures in
     let is_found = reserved.found ∙ ap (λ (d : _). d ∷ []) c.disk.ensures in
     let is_core : IsCore cell c.args.room core grants = subst (λ (gs : List Grant). IsCore cell c.args.room core gs) (sym recalled)
@@ -51,15 +53,18 @@ returns-in-Err-clause-leaves g c =
     (c.in-Err.ensures c.in-Open.ensures.resumed.grants c.in-Open.ensures.resumed.holds).0)
 
 pub returns-in-Ok-into_journal-clause-leaves : goal.returns-in-Ok-into_journal-clause-leaves
-returns-in-Ok-into_journal-clause-leaves g c = (invariant_of-result g c).1
+returns-in-Ok-into_journal-clause-leaves g c = (invariant_of-durable g c).1
 
 pub returns-in-Ok-into_journal-clause-stands : goal.returns-in-Ok-into_journal-clause-stands
 returns-in-Ok-into_journal-clause-stands g c file grants is stands due fits =
     let cell = c.args.cell in let text = c.args.cell_text.now in
     let opened = stands_opened cell file text c.args.room grants due (stands_found file text c.args.room grants stands fits) in
     let exact = told _ _ file is c.in-Open.ensures.resumed.opened in
-    let recalled = c.in-Open.ensures.resumed.taken.0 in
-    cc (opened, exact, recalled)
+    c.in-Open.ensures.resumed.taken.0 c.requires.no_grants ∙ ap value (sym exact ∙ opened)
+  where
+    value : Result (List Grant) JournalFault → List Grant
+    value (Ok gs) = gs
+    value (Err why) = []
 
 pub returns-in-Refused-clause-stands : goal.returns-in-Refused-clause-stands
 returns-in-Refused-clause-stands g c file grants is stands due fits =
