@@ -2,7 +2,7 @@
 //! the durable cell.
 use atomic_table::{Seat, Shared, Table, TableRule};
 use cell_base::{Cell, Entry, Grant};
-use durable_cell::Durable;
+use durable_cell::{Durable, Recall};
 use outside_io::Disk;
 use std::alloc::Global;
 use std::collections::LinkedList;
@@ -38,8 +38,8 @@ pub struct View<D: Disk> {
 
 /// What the table is told once.
 #[derive(Drop)]
-pub struct Key<D: Disk> {
-    pub durable: Snapshot<Durable<D>>,
+pub struct Key<D: Disk, G: Recall> {
+    pub durable: Snapshot<Durable<D, G>>,
     pub shift: u32,
     pub passes: u16,
 }
@@ -47,7 +47,7 @@ pub struct Key<D: Disk> {
 /// The rule of the table.
 pub struct Law;
 
-impl<D: Disk> TableRule<Durable<D>, View<D>, Key<D>> for Law {
+impl<D: Disk, G: Recall> TableRule<Durable<D, G>, View<D>, Key<D, G>> for Law {
     ghost use Rattle.cell_lock.specs.Law.{Kept};
     ghost use Rattle.durable_cell.specs.Acknowledged.{HasSince};
     ghost use Rattle.cell_lock.specs.Openings.{opening_of};
@@ -60,10 +60,10 @@ impl<D: Disk> TableRule<Durable<D>, View<D>, Key<D>> for Law {
 }
 
 /// The table itself: its one slot holds the durable cell, and words 0 and 1 are the turn and the length of the history.
-pub type Board<D> = Table<Durable<D>, View<D>, Key<D>, Law, Global>;
+pub type Board<D, G> = Table<Durable<D, G>, View<D>, Key<D, G>, Law, Global>;
 
 /// What all seats of a table share.
-pub type Top<D> = Shared<Durable<D>, View<D>, Key<D>, Law>;
+pub type Top<D, G> = Shared<Durable<D, G>, View<D>, Key<D, G>, Law>;
 
 /// A seat at a table, by which a pass knows its view.
-pub type Place<D> = Seat<Durable<D>, View<D>>;
+pub type Place<D, G> = Seat<Durable<D, G>, View<D>>;

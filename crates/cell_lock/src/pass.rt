@@ -2,18 +2,20 @@
 ghost use Rattle.std.specs.Prelude.{◌≡◌};
 
 use crate::board::Place;
+use cell_base::{Grant, List};
+use durable_cell::Recall;
 use outside_io::Disk;
 use std::marker::Model;
 
 /// The right to ask under a number. Contracts see it as its lock, its number, the history that it saw last and the disk's clock of
 /// then, the same of its earlier answers, and its own entries.
 #[derive(Drop)]
-pub struct Pass<D: Disk> {
-    pub(crate) seat: Place<D>,
+pub struct Pass<D: Disk, G: Recall = List<Grant>> {
+    pub(crate) seat: Place<D, G>,
     pub(crate) number: u16,
 }
 
-impl<D: Disk> Model for Pass<D> {
+impl<D: Disk, G: Recall> Model for Pass<D, G> {
     ghost use Rattle.std.specs.Prelude.{◌≡◌};
     ghost use Rattle.cell_lock.specs.Passes.{PassState};
     ghost use Rattle.cell_lock.specs.Steps.{lock_of};
@@ -33,7 +35,7 @@ impl<D: Disk> Model for Pass<D> {
     ghost invariant = { λ p. IsResting p.seat.me × (p.seat.me.0.first ≡ p.number) };
 }
 
-impl<D: Disk> Pass<D> {
+impl<D: Disk, G: Recall> Pass<D, G> {
     /// Its number, from 1.
     pub fn number(&self) -> u16
         ensures { result ≡ self.now.number }

@@ -7,34 +7,34 @@ ghost use Rattle.cell_lock.specs.Views.{stock, passing, gathered, spent};
 
 use crate::board::View;
 use atomic_table::{Join, Play, Split};
-use durable_cell::Durable;
+use durable_cell::{Durable, Recall};
 use outside_io::Disk;
 
 /// Takes the turn, and the durable cell with it.
 pub(crate) struct Take;
 
-impl<D: Disk> Play<Durable<D>, View<D>> for Take {
+impl<D: Disk, G: Recall> Play<Durable<D, G>, View<D>> for Take {
     ghost then = { took (HasSince D.reads_as D.moment D.left_since) };
 }
 
 /// Tells the table of the entry by which the history grew.
 pub(crate) struct Grow;
 
-impl<D: Disk> Play<Durable<D>, View<D>> for Grow {
+impl<D: Disk, G: Recall> Play<Durable<D, G>, View<D>> for Grow {
     ghost then = { grew };
 }
 
 /// Puts the durable cell back, and gives up the turn.
 pub(crate) struct Give;
 
-impl<D: Disk> Play<Durable<D>, View<D>> for Give {
+impl<D: Disk, G: Recall> Play<Durable<D, G>, View<D>> for Give {
     ghost then = { gave D.moment };
 }
 
 /// A new seat that knows nothing, after the last number.
 pub(crate) struct Sit;
 
-impl<D: Disk> Play<Durable<D>, View<D>> for Sit {
+impl<D: Disk, G: Recall> Play<Durable<D, G>, View<D>> for Sit {
     ghost then = { sat };
 }
 

@@ -10,16 +10,16 @@ use crate::pass::Pass;
 use crate::plays::{Deal, Gather};
 use atomic_table::{Refused, Table};
 use cell_base::{List, NoMemory, Shelf};
-use durable_cell::Durable;
+use durable_cell::{Durable, Recall};
 use outside_io::Disk;
 use std::alloc::{AllocFailed, Global};
 use std::snapshot::Snapshot;
 
 // The durable cell alone in a list.
-fn alone<D: Disk>(
+fn alone<D: Disk, G: Recall>(
     alloc: Global,
-    durable: Durable<D>,
-) -> Result<Vec<Durable<D>>, (Durable<D>, NoMemory)>
+    durable: Durable<D, G>,
+) -> Result<Vec<Durable<D, G>>, (Durable<D, G>, NoMemory)>
     ensures ok { IfOk result (λ slots. slots.items ≡ durable ∷ []) }
     ensures err { IfErr result (λ back. back.0 ≡ durable) }
 {
@@ -35,12 +35,12 @@ fn alone<D: Disk>(
 }
 
 /// A table with the durable cell at home, and the seat that has all numbers to give.
-pub(crate) fn lay<D: Disk>(
+pub(crate) fn lay<D: Disk, G: Recall>(
     alloc: Global,
-    durable: Durable<D>,
+    durable: Durable<D, G>,
     shift: u32,
     passes: u16,
-) -> Result<(Board<D>, Place<D>), (Durable<D>, NoMemory)>
+) -> Result<(Board<D, G>, Place<D, G>), (Durable<D, G>, NoMemory)>
     requires { durable.history ≡ [] }
     ensures wide { IfOk result (λ laid. IsWide laid.0.shared.table_id) }
     ensures key { IfOk result (λ laid.
@@ -69,7 +69,7 @@ pub(crate) fn lay<D: Disk>(
 }
 
 // One pass more, with the least number that is left.
-fn deal_one<D: Disk>(top: &Top<D>, seat: &mut Place<D>, number: u16) -> Pass<D>
+fn deal_one<D: Disk, G: Recall>(top: &Top<D, G>, seat: &mut Place<D, G>, number: u16) -> Pass<D, G>
     requires table { (seat.old.table_id ≡ top.now.table_id) × IsWide top.now.table_id }
     requires left { IsStock seat.old.me × (seat.old.me.0.first ≡ number) × (0 < seat.old.me.0.count) }
     ensures table { seat.new.table_id ≡ seat.old.table_id }
@@ -82,10 +82,10 @@ fn deal_one<D: Disk>(top: &Top<D>, seat: &mut Place<D>, number: u16) -> Pass<D>
 }
 
 /// Deals the passes from 1 on.
-pub(crate) fn deal<D: Disk>(
-    top: &Top<D>,
-    seat: &mut Place<D>,
-    dealt: &mut Shelf<Pass<D>>,
+pub(crate) fn deal<D: Disk, G: Recall>(
+    top: &Top<D, G>,
+    seat: &mut Place<D, G>,
+    dealt: &mut Shelf<Pass<D, G>>,
     passes: u16,
 )
     requires table { (seat.old.table_id ≡ top.now.table_id) × IsWide top.now.table_id }
@@ -100,7 +100,11 @@ pub(crate) fn deal<D: Disk>(
 }
 
 // The pass's seat, which takes in the one with the numbers after it.
-fn gather_one<D: Disk>(top: &Top<D>, pass: Pass<D>, host: Place<D>) -> Place<D>
+fn gather_one<D: Disk, G: Recall>(
+    top: &Top<D, G>,
+    pass: Pass<D, G>,
+    host: Place<D, G>,
+) -> Place<D, G>
     requires table { (host.table_id ≡ top.now.table_id) × IsWide top.now.table_id }
     requires host { (host.me.0.has_turn ≡ false) × (host.me.1 ≡ []) }
     requires pass { (pass.lock.table ≡ host.table_id) × (pass.number + 1 ≡ host.me.0.first) }
@@ -117,11 +121,11 @@ fn gather_one<D: Disk>(top: &Top<D>, pass: Pass<D>, host: Place<D>) -> Place<D>
 }
 
 /// Takes in all passes, the last one first.
-pub(crate) fn gather<D: Disk>(
-    top: &Top<D>,
-    mut host: Place<D>,
-    mut passes: List<Pass<D>>,
-) -> Place<D>
+pub(crate) fn gather<D: Disk, G: Recall>(
+    top: &Top<D, G>,
+    mut host: Place<D, G>,
+    mut passes: List<Pass<D, G>>,
+) -> Place<D, G>
     requires table { (host.table_id ≡ top.now.table_id) × IsWide top.now.table_id }
     requires host { host.me ≡ (gathering host.me.0.opening (length passes + 1) [], []) }
     requires passes { ArePassesNumbered (lock_of host) 1 passes }

@@ -10,8 +10,8 @@ use crate::pass::Pass;
 use crate::plays::Sit;
 use crate::setting::{deal, gather, lay};
 use crate::steps::{ask_held, give_turn, plan_held, take_turn};
-use cell_base::{List, NoMemory, Reply, Request, Shelf};
-use durable_cell::{AskFault, Durable};
+use cell_base::{Grant, List, NoMemory, Reply, Request, Shelf};
+use durable_cell::{AskFault, Durable, Recall};
 use outside_io::Disk;
 use std::alloc::Global;
 use std::marker::Model;
@@ -19,12 +19,12 @@ use std::sync::Wait;
 
 /// A durable cell under a lock. Contracts see it as what names it and what it was opened with.
 #[derive(Drop)]
-pub struct SharedCell<D: Disk> {
-    table: Board<D>,
+pub struct SharedCell<D: Disk, G: Recall = List<Grant>> {
+    table: Board<D, G>,
     shift: u32,
 }
 
-impl<D: Disk> Model for SharedCell<D> {
+impl<D: Disk, G: Recall> Model for SharedCell<D, G> {
     ghost use Rattle.std.specs.Prelude.{◌≡◌};
     ghost use Rattle.cell_lock.specs.Openings.{opening_of};
     ghost use Rattle.cell_lock.specs.Passes.{LockId};
@@ -40,15 +40,15 @@ impl<D: Disk> Model for SharedCell<D> {
     ghost invariant = { λ c. IsWide c.table.shared.table_id × (c.table.shared.key.shift ≡ c.shift) };
 }
 
-impl<D: Disk> SharedCell<D> {
+impl<D: Disk, G: Recall> SharedCell<D, G> {
     /// A lock over a durable cell in which nothing was decided yet, and its passes, numbered from 1. The durable cell comes back
     /// where there is no memory.
     pub fn open(
         alloc: Global,
-        durable: Durable<D>,
+        durable: Durable<D, G>,
         shift: u32,
         passes: u16,
-    ) -> Result<(SharedCell<D>, List<Pass<D>>), (Durable<D>, NoMemory)>
+    ) -> Result<(SharedCell<D, G>, List<Pass<D, G>>), (Durable<D, G>, NoMemory)>
         requires new { durable.history ≡ [] }
         ensures lock { IfOk result (λ opened. opened.0.opening ≡ opening_of durable shift passes) }
         ensures passes { IfOk result (λ opened. opened.1 ≡ new_passes D.moment opened.0 1 passes) }
@@ -63,7 +63,7 @@ impl<D: Disk> SharedCell<D> {
     }
 
     /// Gives the durable cell back, once all passes are done. It takes no memory.
-    pub fn close(self, passes: List<Pass<D>>) -> Durable<D>
+    pub fn close(self, passes: List<Pass<D, G>>) -> Durable<D, G>
         requires all { AreAll self passes }
         ensures opening { opening_of result self.opening.shift self.opening.passes ≡ self.opening }
         ensures legal { IsLegal self.opening.cell (first_parts self.opening) result.history }
@@ -94,7 +94,7 @@ impl<D: Disk> SharedCell<D> {
     pub fn ask<R: Wait>(
         &self,
         rt: &R,
-        pass: &mut Pass<D>,
+        pass: &mut Pass<D, G>,
         request: &Request,
     ) -> Result<Reply, AskFault>
         requires lock { pass.old.lock ≡ self.now }
@@ -117,7 +117,7 @@ impl<D: Disk> SharedCell<D> {
 
     /// Waits for the turn, and looks at the plan's step from the state after the history that is then seen: None exactly where
     /// no part is left. It takes no memory.
-    pub fn peek_plan_step<R: Wait>(&self, rt: &R, pass: &mut Pass<D>) -> Option<Request>
+    pub fn peek_plan_step<R: Wait>(&self, rt: &R, pass: &mut Pass<D, G>) -> Option<Request>
         requires lock { pass.old.lock ≡ self.now }
         ensures same { KeepsName pass.old pass.new × (pass.new.mine ≡ pass.old.mine) }
         ensures seen { IsPrefix pass.old.seen pass.new.seen }

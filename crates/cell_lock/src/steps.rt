@@ -9,13 +9,17 @@ use crate::board::{Place, Top};
 use crate::plays::{Give, Grow, Take};
 use cell_base::{Reply, Request};
 use crossbeam_utils::Backoff;
-use durable_cell::AskFault;
+use durable_cell::{AskFault, Recall};
 use outside_io::Disk;
 use std::sync::Wait;
 
 /// Waits for the turn. It tries for a while, pausing longer each time, and then sleeps until a turn was given up. No turn is
 /// given up unseen: a sleep is over at once where the word isn't 1 any more, and each turn that is given up ends one sleep.
-pub(crate) fn take_turn<D: Disk, R: Wait>(rt: &R, top: &Top<D>, seat: &mut Place<D>)
+pub(crate) fn take_turn<D: Disk, G: Recall, R: Wait>(
+    rt: &R,
+    top: &Top<D, G>,
+    seat: &mut Place<D, G>,
+)
     requires table { (seat.old.table_id ≡ top.now.table_id) × IsWide top.now.table_id }
     requires rests { IsResting seat.old.me }
     ensures same { IsSame seat.old seat.new }
@@ -41,9 +45,9 @@ pub(crate) fn take_turn<D: Disk, R: Wait>(rt: &R, top: &Top<D>, seat: &mut Place
 }
 
 // The answer, and the length of the history after it.
-fn decide<D: Disk>(
-    top: &Top<D>,
-    seat: &mut Place<D>,
+fn decide<D: Disk, G: Recall>(
+    top: &Top<D, G>,
+    seat: &mut Place<D, G>,
     shift: u32,
     session: u16,
     request: &Request,
@@ -69,7 +73,7 @@ fn decide<D: Disk>(
 }
 
 // The history is longer by one entry of the pass's own.
-fn grow<D: Disk>(top: &Top<D>, seat: &mut Place<D>, len: u64)
+fn grow<D: Disk, G: Recall>(top: &Top<D, G>, seat: &mut Place<D, G>, len: u64)
     requires table { (seat.old.table_id ≡ top.now.table_id) × IsWide top.now.table_id }
     requires acts { IsActing seat.old.me (held_of top.now.key.durable.value seat.old.me) }
     requires grew { GrewBy seat.old.me.0 (held_of top.now.key.durable.value seat.old.me).history }
@@ -84,9 +88,9 @@ fn grow<D: Disk>(top: &Top<D>, seat: &mut Place<D>, len: u64)
 }
 
 /// Asks, and tells the table of the entry.
-pub(crate) fn ask_held<D: Disk>(
-    top: &Top<D>,
-    seat: &mut Place<D>,
+pub(crate) fn ask_held<D: Disk, G: Recall>(
+    top: &Top<D, G>,
+    seat: &mut Place<D, G>,
     shift: u32,
     session: u16,
     request: &Request,
@@ -121,7 +125,10 @@ pub(crate) fn ask_held<D: Disk>(
 }
 
 /// The plan's step from the state of the durable cell in hand.
-pub(crate) fn plan_held<D: Disk>(top: &Top<D>, seat: &mut Place<D>) -> Option<Request>
+pub(crate) fn plan_held<D: Disk, G: Recall>(
+    top: &Top<D, G>,
+    seat: &mut Place<D, G>,
+) -> Option<Request>
     requires table { seat.old.table_id ≡ top.now.table_id }
     requires holds { IsHolding seat.old.me (held_of top.now.key.durable.value seat.old.me) }
     ensures same { seat.new.table_id ≡ seat.old.table_id }
@@ -139,7 +146,7 @@ pub(crate) fn plan_held<D: Disk>(top: &Top<D>, seat: &mut Place<D>) -> Option<Re
 }
 
 /// Puts the durable cell back, gives up the turn, and wakes one that sleeps.
-pub(crate) fn give_turn<D: Disk>(top: &Top<D>, seat: &mut Place<D>)
+pub(crate) fn give_turn<D: Disk, G: Recall>(top: &Top<D, G>, seat: &mut Place<D, G>)
     requires table { (seat.old.table_id ≡ top.now.table_id) × IsWide top.now.table_id }
     requires holds { IsHolding seat.old.me (held_of top.now.key.durable.value seat.old.me) }
     requires safe { IsSafe (HasSince D.reads_as D.moment D.left_since) seat.old.me (held_of top.now.key.durable.value seat.old.me) }
