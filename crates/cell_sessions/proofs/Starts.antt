@@ -1,10 +1,10 @@
 -- One opening grant more: its session stands a step further, or it is a stray.
-use Rattle.std.proofs.Common.{◌≡◌, ℕ, ◌+◌, ◌<◌, ◌≤◌, ◌==◌, ◌&&◌, Bool, true, false, List, [], ◌∷◌, ◌++◌, length}
+use Rattle.std.proofs.Common.{◌≡◌, ℕ, ◌+◌, ◌<◌, ◌==◌, ◌&&◌, Bool, true, false, List, [], ◌∷◌, ◌++◌, length}
 use Rattle.std.proofs.Common.{Option, None, Some, is_some, take, slice_get, slice_set, get_or, replicate, refl, ap, ◌∙◌, sym, subst}
 use Rattle.std.proofs.Common.{⊎_elim, arith, length-set, get_or-set_same, get_or-set_other, append-nil, append_assoc}
 use Rattle.std.specs.List.{filter}
 use Rattle.std.proofs.lemmas.Bool.{and_from, and_left, and_right, cases_eq, cond-true, cond-false, eq-eqb, ne_eqb}
-use Rattle.std.proofs.lemmas.List.{get_or-take, length-take-le, length_push, map-append}
+use Rattle.std.proofs.lemmas.List.{length_push, map-append}
 use Rattle.std.proofs.lemmas.List.Elements.{All-nil, All-pop, All-push, filter-append}
 use Rattle.std.proofs.lemmas.Option.{get_or_from_slice_get, slice_get-get_or, slice_get_within}
 use Rattle.cell_base.specs.declared.requests.Request.{Request}
@@ -14,7 +14,7 @@ use Rattle.cell_base.specs.Histories.{requests_of}
 use Rattle.cell_base.specs.Rounds.{IsSession}
 use Rattle.cell_base.specs.Scripts.{Progress, HasFirstSteps, begin_at, granted_to, script_of, first_step}
 use Rattle.cell_base.specs.Starts.{AreFirstSteps, IsOtherShift}
-use Rattle.cell_sessions.specs.Starting.{AreBegun, IsLed, IsReached, StandAtStart}
+use Rattle.cell_sessions.specs.Starting.{IsLed, IsReached, StandAtStart}
 use Rattle.solo_rounds.proofs.Counting.{script_at}
 use Rattle.solo_rounds.proofs.Ends.{same_everywhere}
 
@@ -243,23 +243,3 @@ pub stays_led : (shift : Shift) (grants : List Grant) (grant : Grant) (progress 
     → IsLed shift grants progress stray → IsLed shift (grants ++ grant ∷ []) progress stray
 stays_led shift grants grant progress None some led = cc
 stays_led shift grants grant progress (Some session) some led = stays_other_shift shift grants grant session led
-
--- the front of the table is the sessions of the shift
-pub begun : (shift : Shift) (opening : List Grant) (table front : List Progress) → StandAtStart shift opening table
-    → front ≡ take (length shift.scripts) table → length shift.scripts ≤ length table → AreBegun shift opening front
-begun shift opening table front stand is room = record {
-  count = ap (λ (ps : List Progress). length ps) is ∙ length-take-le (length shift.scripts) table room;
-  each = λ k at there. stand k at (whole k at there);
-}
-  where
-    first : List Progress
-    first = take (length shift.scripts) table
-
-    whole : (k : ℕ) (at : Progress) → slice_get front k ≡ Some at → slice_get table k ≡ Some at
-    whole k at there =
-        let here : slice_get first k ≡ Some at = ap (λ (ps : List Progress). slice_get ps k) (sym is) ∙ there in
-        let inside : k < length shift.scripts =
-        omega (arith, slice_get_within first k at here, length-take-le (length shift.scripts) table room) in
-        let same : get_or table k at ≡ at =
-        sym (get_or-take (length shift.scripts) table k at inside) ∙ get_or_from_slice_get first k at at here in
-        slice_get-get_or table k at (omega arith) ∙ ap Some same

@@ -1,10 +1,12 @@
 -- Where the sessions of a shift start after the grants that a journal has.
-use Rattle.std.specs.Prelude.{◌≡◌, ℕ, ◌+◌, List, length, slice_get, Option, None, Some, ⊤}
+use Rattle.std.specs.Prelude.{◌≡◌, ℕ, ◌+◌, ◌==◌, List, filter, length, slice_get, Option, None, Some, ⊤}
 use Rattle.cell_base.specs.declared.shifts.Grant.{Grant}
 use Rattle.cell_base.specs.declared.shifts.Shift.{Shift}
-use Rattle.cell_base.specs.Scripts.{Progress, begin_at, first_step}
+use Rattle.cell_base.specs.Scripts.{Progress, begin_at, first_step, script_of}
 use Rattle.cell_base.specs.Starts.{AreFirstSteps, IsOtherShift}
 use Rattle.cell_sessions.specs.declared.fault.BeginFault.{BeginFault}
+use Rattle.cell_sessions.specs.declared.progress.Progress.{Progress as OneProgress}
+use Rattle.cell_sessions.specs.Progressing.{start_at}
 use Rattle.cell_sessions.specs.declared.fault.BeginFault.TheVariants.{OtherShift, Memory}
 
 -- why sessions do not begin: memory may always be wanting
@@ -17,10 +19,15 @@ abbrev pub StandAtStart : Shift → List Grant → List Progress → Type 0
 StandAtStart shift grants progress =
     (k : ℕ) (at : Progress) → slice_get progress k ≡ Some at → at ≡ begin_at (first_step shift (k + 1) grants)
 
--- the sessions of the shift, each with its progress, where they start
-pub record AreBegun (shift : Shift) (opening : List Grant) (progress : List Progress) : Type 0 where
+-- the sessions of the shift, each with its progress, at the step that its grants reach: session k + 1 has progress k
+pub record AreBegun (shift : Shift) (opening : List Grant) (progress : List OneProgress) : Type 0 where
   pub count : length progress ≡ length shift.scripts
-  pub each : StandAtStart shift opening progress
+  pub each : (k : ℕ) (at : OneProgress) → slice_get progress k ≡ Some at
+      → at ≡ start_at (script_of shift (k + 1)) (first_step shift (k + 1) opening)
+
+-- the grants of a shift's number
+abbrev pub of_shift : ℕ → List Grant → List Grant
+of_shift number grants = filter (λ grant. grant.shift == number) grants
 
 -- the grants are first steps of the scripts, and the sessions stand after them
 pub record IsReached (shift : Shift) (grants : List Grant) (progress : List Progress) : Type 0 where

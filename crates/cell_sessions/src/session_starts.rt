@@ -7,20 +7,18 @@ ghost use Rattle.cell_base.specs.Starts.{AreFirstSteps};
 ghost use Rattle.cell_sessions.specs.Starting.{AreBegun, HasLed, IsBeginFault, IsLed, IsReached};
 
 use crate::fault::BeginFault;
-use cell_base::{Grant, List, MAX_SESSIONS, NoMemory, Request, Shift};
-use shift_recovery::Taker;
-use solo_rounds::Progress;
-use std::alloc::Global;
+use cell_base::{Grant, List, MAX_SESSIONS, Request, Shift};
+use solo_rounds::Progress as Stand;
 use std::marker::Model;
 
-const SESSIONS: usize = MAX_SESSIONS as usize;
+pub(crate) const SESSIONS: usize = MAX_SESSIONS as usize;
 
 /// The sessions of a shift, each at the step that its grants reach among those that were taken; or the session of the first grant with
 /// the shift's number that is no next step. The grants of other shifts count for nothing. Contracts see it as a `StartState`.
 #[derive(Drop)]
-pub struct SessionStarts<'a> {
+pub(crate) struct SessionStarts<'a> {
     shift: &'a Shift,
-    reached: [Progress; SESSIONS],
+    reached: [Stand; SESSIONS],
     stray: Option<u16>,
 }
 
@@ -38,48 +36,42 @@ impl<'a> Model for SessionStarts<'a> {
 
 impl<'a> SessionStarts<'a> {
     /// No session has had a grant yet.
-    pub fn of(shift: &'a Shift) -> SessionStarts<'a>
+    pub(crate) fn of(shift: &'a Shift) -> SessionStarts<'a>
         requires sessions { length shift.now.scripts ≤ MAX_SESSIONS }
         ensures shift { result.shift ≡ shift.now }
         ensures none { HasLed [] result }
     {
         SessionStarts {
             shift,
-            reached: [Progress::begin_at(0); SESSIONS],
+            reached: [Stand::begin_at(0); SESSIONS],
             stray: None,
         }
     }
 
-    /// Each session begins at the step that its grants reached, with no refusals: session `k` has element `k - 1`. Where one of the
-    /// grants was no next step, none begins.
-    pub fn begin(&self, alloc: Global) -> Result<List<Progress>, BeginFault>
-        ensures started { (grants : Sequence OneGrant) → HasLed grants self.now
-            → IfOk result (λ progress. AreFirstSteps self.now.shift grants) }
-        ensures begun { (grants : Sequence OneGrant) → HasLed grants self.now → IfOk result (AreBegun self.now.shift grants) }
+    /// One grant more. After a stray no grant leads on.
+    pub(crate) fn lead(&mut self, grant: &Grant)
+        ensures shift { self.new.shift ≡ self.old.shift }
+        ensures led { (grants : Sequence OneGrant) → HasLed grants self.old → HasLed (grants ++ grant.now ∷ []) self.new }
+    {
+        if self.stray.is_none() {
+            self.stray = stray_of(self.shift, grant, &mut self.reached);
+        }
+    }
+
+    /// The step that the grants of session `k + 1` reach; or the session of the first grant that was no next step.
+    pub(crate) fn reached(&self) -> Result<&[Stand; SESSIONS], BeginFault>
+        ensures reached { (grants : Sequence OneGrant) → HasLed grants self.now → IfOk result (λ stands. IsReached self.now.shift grants stands.now) }
         ensures fault { (grants : Sequence OneGrant) → HasLed grants self.now → IfErr result (IsBeginFault self.now.shift grants) }
     {
-        if let Some(session) = self.stray {
-            return Err(BeginFault::OtherShift { session });
+        match self.stray {
+            None => Ok(&self.reached),
+            Some(session) => Err(BeginFault::OtherShift { session }),
         }
-        let sessions = &self.reached[..self.shift.scripts.len() as usize];
-        Ok(List::copy_of(alloc, sessions)?)
-    }
-}
-
-/// After a stray no grant leads on.
-impl<'a> Taker for SessionStarts<'a> {
-    ghost took = { λ start _ grants now. (now.shift ≡ start.shift) × HasLed grants now };
-
-    fn take(&mut self, _at: u64, grant: Grant) -> Result<(), NoMemory> {
-        if self.stray.is_none() {
-            self.stray = stray_of(self.shift, &grant, &mut self.reached);
-        }
-        Ok(())
     }
 }
 
 // A grant leads its session on, is another shift's, or is a stray of the session that is given.
-fn stray_of(shift: &Shift, grant: &Grant, reached: &mut [Progress; SESSIONS]) -> Option<u16>
+fn stray_of(shift: &Shift, grant: &Grant, reached: &mut [Stand; SESSIONS]) -> Option<u16>
     requires sessions { length shift.now.scripts ≤ MAX_SESSIONS }
     ensures { (grants : Sequence OneGrant) → IsReached shift.now grants reached.old
         → IsLed shift.now (grants ++ grant.now ∷ []) reached.new result }
@@ -91,7 +83,7 @@ fn stray_of(shift: &Shift, grant: &Grant, reached: &mut [Progress; SESSIONS]) ->
 }
 
 // A grant of this shift leads its session to the next step, or it is a stray. Gives whether it leads it on.
-fn lead_on(shift: &Shift, grant: &Grant, reached: &mut [Progress; SESSIONS]) -> bool
+fn lead_on(shift: &Shift, grant: &Grant, reached: &mut [Stand; SESSIONS]) -> bool
     requires sessions { length shift.now.scripts ≤ MAX_SESSIONS }
     requires own { grant.now.shift ≡ shift.now.number }
     ensures led { (grants : Sequence OneGrant) → IsReached shift.now grants reached.old
@@ -107,7 +99,7 @@ fn lead_on(shift: &Shift, grant: &Grant, reached: &mut [Progress; SESSIONS]) -> 
     let script = shift.scripts.get(k);
     let step = reached[k as usize].step();
     if step < script.len() && is_step(script, step, grant.request) {
-        reached[k as usize] = Progress::begin_at(step + 1);
+        reached[k as usize] = Stand::begin_at(step + 1);
         return true;
     }
     false

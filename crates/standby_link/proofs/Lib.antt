@@ -1,5 +1,6 @@
 -- The lemmas, by what they are about.
 pub mod Fed
+pub mod FeedIsFed
 pub mod Following
 pub mod Bytes
 pub mod Histories

@@ -7,7 +7,7 @@ ghost use Rattle.standby_link.specs.Followers.{kept, Appends, Compares, HasNotHa
 ghost use Rattle.standby_link.specs.Deliveries.{Delivers, LeavesDelivered, StandsForKept};
 
 use crate::{Frame, TakeFault};
-use cell_base::{Grant, List, NoMemory, Reply, Shelf, request_fits};
+use cell_base::{Grant, NoMemory, Reply, Shelf, request_fits};
 use durable_cell::Durable;
 use outside_io::Disk;
 use std::alloc::Global;
@@ -56,23 +56,20 @@ fn stays<D: Disk>(durable: &Durable<D>)
 }
 
 impl<D: Disk> Follower<D> {
-    /// A standby that has the grants of a durable cell in which nothing was decided, and takes at most `room` more. The grants are
-    /// those of the opening, as a list that took them has them.
+    /// A standby that has the grants of a durable cell in which nothing was decided, and takes at most `room` more.
     pub fn open(
         alloc: Global,
         durable: Durable<D>,
-        grants: List<Grant>,
         room: u64,
     ) -> Result<Follower<D>, (Durable<D>, NoMemory)>
         requires fresh { durable.history ≡ [] }
-        requires opening { grants ≡ durable.opening }
         requires room { room ≤ durable.limit }
         ensures open { IfOk result (λ follower. follower ≡ record { durable = durable; room = room }) }
         ensures none_added { IfOk result (λ follower. kept follower ≡ durable.opening) }
         ensures back { IfErr result (λ back. back.0 ≡ durable) }
     {
         let _history = durable.history();
-        match shelve(alloc, grants.as_slice(), room) {
+        match shelve(alloc, durable.opening(), room) {
             Ok(grants) => Ok(Follower {
                 durable,
                 grants,

@@ -1,0 +1,101 @@
+//! Where the sessions of a shift begin after the grants that a journal has.
+ghost use Rattle.std.specs.Prelude.{◌≡◌, ◌<◌, ◌≤◌, ◌^◌, List as Sequence, [], ◌∷◌, ◌++◌, filter, length, IfOk, IfErr, OnOk, ◌==◌};
+ghost use Rattle.cell_base.specs.declared.limits.TheConstants.{MAX_SESSIONS, MAX_STEPS};
+ghost use Rattle.cell_base.specs.declared.shifts.Grant.{Grant as OneGrant};
+ghost use Rattle.cell_base.specs.Fits.{steps_of};
+ghost use Rattle.cell_base.specs.Starts.{AreFirstSteps};
+ghost use Rattle.cell_sessions.specs.Progressing.{start_at};
+ghost use Rattle.cell_sessions.specs.Starting.{AreBegun, IsBeginFault, IsReached, of_shift};
+
+use crate::fault::BeginFault;
+use crate::progress::Progress;
+use crate::session_starts::{SESSIONS, SessionStarts};
+use cell_base::{Grant, List, NoMemory, Request, Shift};
+use shift_recovery::Taker;
+use solo_rounds::Progress as Stand;
+use std::alloc::Global;
+
+/// Each session begins at the step that its grants reach, with no refusals, and has ended where that is its script's end: session `k` has
+/// element `k - 1`. A grant of the shift's number that is no next step is another shift's, and none begins. Grants of other shifts count
+/// for nothing, so it is the same over the grants of the shift's number alone.
+pub fn begin(alloc: Global, shift: &Shift, opening: &[Grant]) -> Result<List<Progress>, BeginFault>
+    requires sessions { length shift.now.scripts ≤ MAX_SESSIONS }
+    requires steps { steps_of shift.now ≤ MAX_STEPS }
+    ensures started { IfOk result (λ progress. AreFirstSteps shift.now opening.now) }
+    ensures begun { IfOk result (AreBegun shift.now opening.now) }
+    ensures fault { IfErr result (IsBeginFault shift.now opening.now) }
+{
+    let mut starts = SessionStarts::of(shift);
+    for grant in opening {
+        starts.lead(grant);
+    }
+    match starts.reached() {
+        Ok(reached) => begin_at(alloc, shift, reached),
+        Err(stray) => Err(stray),
+    }
+}
+
+// Each session at the step that its grants reached.
+fn begin_at(
+    alloc: Global,
+    shift: &Shift,
+    reached: &[Stand; SESSIONS],
+) -> Result<List<Progress>, BeginFault>
+    requires sessions { length shift.now.scripts ≤ MAX_SESSIONS }
+    requires steps { steps_of shift.now ≤ MAX_STEPS }
+    requires reached { (grants : Sequence OneGrant) × IsReached shift.now grants reached.now }
+    ensures begun { (grants : Sequence OneGrant) → IsReached shift.now grants reached.now → IfOk result (AreBegun shift.now grants) }
+    ensures fault { IfErr result (λ fault. fault ≡ BeginFault.Memory) }
+{
+    let mut progress = List::new(alloc);
+    for k in 0..shift.scripts.len() {
+        let script = shift.scripts.get(k);
+        progress.try_push(start_at(script, reached[k as usize].step()))?;
+    }
+    Ok(progress)
+}
+
+// A session at a step of its script.
+fn start_at(script: &List<Request>, step: u64) -> Progress
+    requires { step < 2 ^ 32 }
+    ensures { result ≡ start_at script.now step }
+{
+    Progress {
+        next: step as u32,
+        refused: 0,
+        asked: 0,
+        ended: step == script.len(),
+    }
+}
+
+/// A taker that keeps the grants of one shift's number, which `begin` needs, and of the others none.
+#[derive(Drop)]
+pub struct ShiftGrants {
+    /// The number of the shift.
+    pub number: u32,
+    /// Its grants among those that were taken.
+    pub grants: List<Grant>,
+}
+
+impl ShiftGrants {
+    /// None yet.
+    pub fn of(alloc: Global, number: u32) -> ShiftGrants
+        ensures { result ≡ record { number = number; grants = [] } }
+    {
+        ShiftGrants {
+            number,
+            grants: List::new(alloc),
+        }
+    }
+}
+
+impl Taker for ShiftGrants {
+    ghost took = { λ start _ grants now. start.grants ≡ [] → (now.number ≡ start.number) × (now.grants ≡ of_shift start.number grants) };
+
+    fn take(&mut self, _at: u64, grant: Grant) -> Result<(), NoMemory> {
+        if grant.shift == self.number {
+            self.grants.try_push(grant)?;
+        }
+        Ok(())
+    }
+}
