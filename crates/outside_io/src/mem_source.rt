@@ -5,8 +5,10 @@ use crate::listed::ListedCalls;
 use crate::{Failed, Source};
 use cell_base::{List, NoMemory};
 use std::alloc::Global;
+use std::marker::Model;
 
-/// Gives its bytes in pieces of at most so many. A call that fails gives nothing.
+/// Gives its bytes in pieces of at most so many. A call that fails gives nothing. Contracts see the bytes, those given so far, the
+/// listed calls and the counts.
 pub struct MemSource {
     bytes: Vec<u8>,
     at: usize,
@@ -15,6 +17,22 @@ pub struct MemSource {
     faults: u64,
     ghost within: { at ≤ length bytes.items },
     ghost some: { 0 < piece },
+}
+
+impl Model for MemSource {
+    ghost use Rattle.std.specs.Prelude.{take};
+    ghost use Rattle.outside_io.specs.MemSource.{MemSourceState};
+
+    ghost Value = { MemSourceState };
+
+    ghost view = { λ source. record {
+      bytes = source.bytes.items;
+      given = take source.at source.bytes.items;
+      piece = source.piece;
+      fails = source.listed.fails;
+      made = source.listed.made;
+      faults = source.faults;
+    } };
 }
 
 // Written out, so that letting a source go is one step in each proof and not a walk through all that it holds.

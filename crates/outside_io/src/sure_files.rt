@@ -7,12 +7,23 @@ use crate::held::{NamedBytes, add_entry, copy_cut, find_entry};
 use crate::{FileFail, Files};
 use cell_base::NoMemory;
 use std::alloc::Global;
+use std::marker::Model;
 
 /// Names and bytes in memory, where every name is there: one that was not added holds no bytes. No call is a fault.
+/// Contracts see the names and bytes.
 #[derive(Drop)]
 pub struct SureFiles {
     alloc: Global,
     entries: Vec<NamedBytes>,
+}
+
+impl Model for SureFiles {
+    ghost use Rattle.std.specs.Prelude.{List};
+    ghost use Rattle.outside_io.specs.Held.{HeldFile, files_of};
+
+    ghost Value = { List HeldFile };
+
+    ghost view = { λ files. files_of files.entries.items };
 }
 
 impl SureFiles {
