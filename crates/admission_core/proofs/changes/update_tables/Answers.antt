@@ -16,7 +16,7 @@ use Rattle.admission_core.proofs.Rowing.{work_by_row}
 use Rattle.policy_laws.proofs.Room.{few_parts}
 use Rattle.admission_core.proofs.Saturating.{mask_is_of, only_held, move_over}
 use Rattle.admission_core.proofs.Tallying.{counts_moved, work_entered, work_without, work_of-le, work-le}
-use Rattle.admission_core.proofs.changes.put_on.Goals as goal
+use Rattle.admission_core.proofs.changes.update_tables.Goals as goal
 
 pub shift-requires-clause-from_mask : goal.shift-requires-clause-from_mask
 shift-requires-clause-from_mask c =
@@ -56,10 +56,8 @@ shift-requires-clause-held c =
     (only_held cell sound.fits c.args.tally.now.counts parts sound.tallied.counts part c.args.next sound.admitted.state.distinct
     here.stands))
 
-pub advance_near-requires-clause-present : goal.advance_near-requires-clause-present
-advance_near-requires-clause-present c =
-    (part_known c.args.table.now c.args.tally.now.parts.parts c.args.found.part.job c.args.found.part c.requires.sound.admitted
-    c.requires.found).loaded
+pub advance_found-requires : goal.advance_found-requires
+advance_found-requires c = c.requires.found
 
 pub overflow_sub-tally : goal.overflow_sub-tally
 overflow_sub-tally c =
@@ -89,13 +87,13 @@ overflow_add-tally c =
 
 -- the parts after the move
 now : (c : goal.After-tally-1)
-    → c.advance_near.new.self.parts ≡ without c.args.tally.now.parts.parts c.args.found.part.job ++ c.args.next ∷ []
+    → c.advance_found.new.self.parts ≡ without c.args.tally.now.parts.parts c.args.found.part.job ++ c.args.next ∷ []
 now c =
     let parts = c.args.tally.now.parts.parts in
     let part = c.args.found.part in
     let gone : gone_on parts part.job c.args.next.place c.args.next.done
     ≡ without parts part.job ++ (record part { place = c.args.next.place; done = c.args.next.done }) ∷ [] = rw c.requires.found in
-    c.advance_near.ensures.parts ∙ gone ∙ ap (λ (next : Part). without parts part.job ++ next ∷ []) (sym c.requires.same)
+    c.advance_found.ensures.parts ∙ gone ∙ ap (λ (next : Part). without parts part.job ++ next ∷ []) (sym c.requires.same)
 
 pub returns-clause-parts : goal.returns-clause-parts
 returns-clause-parts c = now c
@@ -110,11 +108,11 @@ returns-clause-tallied c =
     let distinct = sound.admitted.state.distinct in
     let here = part_known cell parts part.job part sound.admitted c.requires.found in
     record {
-      same_cell = c.advance_near.ensures.cell ∙ tallied.same_cell;
+      same_cell = c.advance_found.ensures.told ∙ tallied.same_cell;
       enough = omega (
         arith,
         tallied.enough,
-        c.advance_near.ensures.spare,
+        c.advance_found.ensures.spare,
         ap length (now c),
         length_push (without parts part.job) c.args.next,
         length-without parts part.job distinct here.loaded,

@@ -14,7 +14,7 @@ use std::marker::Model;
 use upstream_sets::Upstream;
 
 /// A cell that fits, with its stages by number and their masks. Contracts see it as the cell.
-pub struct LeadTable {
+pub struct StageMasks {
     stages: StageTable,
     upstream: Upstream,
     /// By stage, what is looked up of it at each request.
@@ -22,9 +22,9 @@ pub struct LeadTable {
 }
 
 // Written out, as that of `Core` is.
-impl Drop for LeadTable {
+impl Drop for StageMasks {
     fn drop(self) {
-        let LeadTable {
+        let StageMasks {
             stages: _,
             upstream: _,
             rows: _,
@@ -32,7 +32,7 @@ impl Drop for LeadTable {
     }
 }
 
-impl Model for LeadTable {
+impl Model for StageMasks {
     ghost use Rattle.std.specs.Prelude.{◌≡◌};
     ghost use Rattle.cell_base.specs.declared.cells.Cell.{Cell};
     ghost use Rattle.cell_base.specs.Neighborhoods.{masks_of};
@@ -45,16 +45,16 @@ impl Model for LeadTable {
     ghost invariant = { λ s. (s.upstream ≡ masks_of s.stages) × AreRows s.stages s.rows.items };
 }
 
-impl LeadTable {
+impl StageMasks {
     /// The table of a cell, which it keeps.
-    pub fn of(alloc: Global, cell: Cell) -> Result<LeadTable, NoMemory>
+    pub fn of(alloc: Global, cell: Cell) -> Result<StageMasks, NoMemory>
         requires { CellFits cell }
         ensures { IfOk result (λ table. table ≡ cell) }
     {
         let stages = StageTable::of(alloc, cell)?;
         let upstream = Upstream::new(alloc, &stages)?;
         let rows = rows(alloc, &stages, &upstream)?;
-        Ok(LeadTable {
+        Ok(StageMasks {
             stages,
             upstream,
             rows,

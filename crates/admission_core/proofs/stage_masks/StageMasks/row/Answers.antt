@@ -4,7 +4,7 @@ use Rattle.cell_base.specs.declared.cells.Cell.{Cell}
 use Rattle.cell_base.specs.Stages.{IsStage, stage}
 use Rattle.admission_core.specs.Rows.{IsRowOf}
 use Rattle.admission_core.proofs.Rowing.{row_within, row_at}
-use Rattle.admission_core.proofs.lead_table.LeadTable.row.Goals as goal
+use Rattle.admission_core.proofs.stage_masks.StageMasks.row.Goals as goal
 
 pub index-requires : goal.index-requires
 index-requires c =
