@@ -1,6 +1,6 @@
 -- What is known of the part of a job, and of the replies to what it asks for.
 use Rattle.std.proofs.Common.{◌≡◌, ℕ, ◌<◌, Bool, true, false, not, ◌&&◌, List, length, Contains}
-use Rattle.std.proofs.Common.{Option, Some, None, find, ap, refl, subst, sym, ◌∙◌, arith}
+use Rattle.std.proofs.Common.{Option, Some, None, find, ap, refl, sym, ◌∙◌, arith}
 use Rattle.std.specs.List.{list_any, range_with_len}
 use Rattle.std.specs.Option.{option_map, option_map_or, is_some}
 use Rattle.std.proofs.lemmas.Bool.{true≢false}
@@ -44,11 +44,6 @@ part_known cell parts wanted part admitted e =
       loaded = list_any-Contains (is_of_job wanted) parts part found.0 (find_passes (is_of_job wanted) parts part e);
     }
 
--- the part that is found of a job is that of its own job
-pub found_of_job : (parts : List Part) (job : JobId) (part : Part) → part_of parts job ≡ Some part → part_of parts part.job ≡ Some part
-found_of_job parts job part e =
-    subst (λ (j : JobId). part_of parts j ≡ Some part) (sym (part_of-found parts job part e).1) e
-
 -- the part that the plan brings on stands in the state, and at a stage
 pub next_known : (cell : Cell) (parts : List Part) (part : Part) → IsAdmitted cell parts → next_part cell parts ≡ Some part
     → IsPartOf cell parts part.job part
@@ -66,17 +61,6 @@ pub next_advances : (cell : Cell) (parts : List Part) (part : Part) → CellFits
     → next_part cell parts ≡ Some part → Advances cell parts (step_of cell part)
 next_advances cell parts part fits admitted e =
     (plan_law cell fits parts admitted).step (step_of cell part) (ap (option_map (step_of cell)) e)
-
--- a job that no part is found of is not loaded
-pub not_found : (parts : List Part) (job : JobId) → part_of parts job ≡ None → is_loaded parts job ≡ false
-not_found parts job e = at (is_loaded parts job) refl
-  where
-    at : (b : Bool) → is_loaded parts job ≡ b → b ≡ false
-    at true loaded =
-        let found = list_any-found (is_of_job job) parts loaded in
-        let some = find_some (is_of_job job) parts found.0 found.1 found.2 in
-        absurd (none-some some.0 (sym e ∙ some.1))
-    at false loaded = refl
 
 -- the reply to what is admitted or not
 pub admit_reply : (cell : Cell) (parts next : List Part) → (admit cell parts next).0 ≡ reply_at cell parts (first_over cell next)

@@ -7,10 +7,10 @@ ghost use Rattle.admission_core.specs.Clauses.{RequestFits, part_of, reply_to, s
 ghost use Rattle.admission_core.specs.CoreState.{IsSound, IsTallied};
 ghost use Rattle.admission_core.specs.Occupied.{IsMarked};
 
-use crate::changes::{apply, send_on, send_out};
-use crate::lead_table::LeadTable;
+use crate::changes::{apply, move_part, send_out};
 use crate::occupied::Occupied;
 use crate::replies::{reply_to, reply_to_move, reply_to_unload};
+use crate::stage_masks::StageMasks;
 use crate::tally::Tally;
 use cell_base::{JobId, Refusal, Reply, Request};
 use part_table::Found;
@@ -18,7 +18,7 @@ use part_table::Found;
 /// The reply to a request, and its change if it is granted.
 #[inline(always)]
 pub fn ask(
-    table: &LeadTable,
+    table: &StageMasks,
     tally: &mut Tally,
     occupied: &mut Occupied,
     request: &Request,
@@ -47,7 +47,7 @@ pub fn ask(
 /// The move of the part that was found.
 #[inline(always)]
 fn ask_to_move(
-    table: &LeadTable,
+    table: &StageMasks,
     tally: &mut Tally,
     occupied: &mut Occupied,
     found: Found,
@@ -63,7 +63,7 @@ fn ask_to_move(
 {
     let reply = reply_to_move(table, tally, found.part, branch);
     if let Reply::Granted = reply {
-        send_on(table, tally, occupied, found, branch);
+        move_part(table, tally, occupied, found, branch);
     }
     reply
 }
@@ -71,7 +71,7 @@ fn ask_to_move(
 /// The unload of the part that was found.
 #[inline(always)]
 fn ask_to_unload(
-    table: &LeadTable,
+    table: &StageMasks,
     tally: &mut Tally,
     occupied: &mut Occupied,
     found: Found,
@@ -94,7 +94,7 @@ fn ask_to_unload(
 /// A request that names no part of the state.
 #[inline(always)]
 fn ask_other(
-    table: &LeadTable,
+    table: &StageMasks,
     tally: &mut Tally,
     occupied: &mut Occupied,
     request: &Request,

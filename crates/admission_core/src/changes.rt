@@ -2,20 +2,20 @@
 ghost use Rattle.std.specs.Prelude.{◌≡◌, ◌<◌, ◌++◌, ◌∷◌, [], length, Some, None};
 ghost use Rattle.cell_base.specs.Policy.{first_over};
 ghost use Rattle.cell_base.specs.Outcomes.{finish_first, is_waiting_on, outcome_of_entry, outcome_of_move, without};
-ghost use Rattle.admission_core.specs.Clauses.{Granted, IsStage, Process, RequestFits, part_of, reply_to, stage_of, state_after};
+ghost use Rattle.admission_core.specs.Clauses.{CellFits, Granted, IsStage, Process, RequestFits, part_of, reply_to, stage_of, state_after};
 ghost use Rattle.admission_core.specs.CoreState.{IsSound, IsTallied};
 ghost use Rattle.admission_core.specs.Occupied.{IsMarked};
 ghost use Rattle.admission_core.specs.Rows.{IsRowOf};
 
-use crate::lead_table::LeadTable;
 use crate::occupied::Occupied;
+use crate::stage_masks::StageMasks;
 use crate::stage_rows::Row;
 use crate::tally::Tally;
 use cell_base::{JobId, Part, Request, ResId};
 use part_table::Found;
 
 /// The change of a granted request.
-pub fn apply(table: &LeadTable, tally: &mut Tally, occupied: &mut Occupied, request: &Request)
+pub fn apply(table: &StageMasks, tally: &mut Tally, occupied: &mut Occupied, request: &Request)
     requires sound { IsSound table.now tally.old }
     requires marked { IsMarked table.now tally.old.parts.parts occupied.old }
     requires request { RequestFits table.now request.now }
@@ -27,7 +27,7 @@ pub fn apply(table: &LeadTable, tally: &mut Tally, occupied: &mut Occupied, requ
     match *request {
         Request::Load { job, kind } => come_in(table, tally, occupied, table.entry(job, kind)),
         Request::Process { machine } => finish_first_on(table, tally, machine),
-        Request::Move { job, branch } => go_on(table, tally, occupied, job, branch),
+        Request::Move { job, branch } => move_job(table, tally, occupied, job, branch),
         Request::Unload { job } => leave(table, tally, occupied, job),
         Request::Place {
             job,
@@ -49,7 +49,7 @@ pub fn apply(table: &LeadTable, tally: &mut Tally, occupied: &mut Occupied, requ
 }
 
 /// A part that is granted to enter comes to its resource.
-fn come_in(table: &LeadTable, tally: &mut Tally, occupied: &mut Occupied, part: Part)
+fn come_in(table: &StageMasks, tally: &mut Tally, occupied: &mut Occupied, part: Part)
     requires sound { IsSound table.now tally.old }
     requires marked { IsMarked table.now tally.old.parts.parts occupied.old }
     requires stage { IsStage table.now (stage_of part) }
@@ -64,7 +64,7 @@ fn come_in(table: &LeadTable, tally: &mut Tally, occupied: &mut Occupied, part: 
 }
 
 /// A part that is granted to enter.
-fn enter(table: &LeadTable, tally: &mut Tally, part: Part, there: Row)
+fn enter(table: &StageMasks, tally: &mut Tally, part: Part, there: Row)
     requires sound { IsSound table.now tally.old }
     requires stage { IsStage table.now (stage_of part) }
     requires there { IsRowOf table.now (stage_of part) there }
@@ -72,27 +72,25 @@ fn enter(table: &LeadTable, tally: &mut Tally, part: Part, there: Row)
     ensures parts { tally.new.parts.parts ≡ (outcome_of_entry table.now tally.old.parts.parts part).1 }
     ensures tallied { IsTallied table.now tally.new }
 {
-    let _cell = table.cell();
     tally.counts.enter(there.mask);
-    tally.parts.arrive(part, there.on);
+    tally.parts.arrive(part);
     tally.work += there.work(part.done);
 }
 
 /// The work on the first part that waits on the machine.
-pub fn finish_first_on(table: &LeadTable, tally: &mut Tally, machine: ResId)
+pub fn finish_first_on(table: &StageMasks, tally: &mut Tally, machine: ResId)
     requires sound { IsSound table.now tally.old }
     requires machine { RequestFits table.now (Process machine) }
     ensures parts { tally.new.parts.parts ≡ finish_first (is_waiting_on table.now machine.0) tally.old.parts.parts }
     ensures tallied { IsTallied table.now tally.new }
 {
-    let _cell = table.cell();
     if let Some(_) = tally.parts.finish_first(machine) {
         tally.work -= 1;
     }
 }
 
 /// A part that is granted to go on.
-fn go_on(table: &LeadTable, tally: &mut Tally, occupied: &mut Occupied, job: JobId, branch: u16)
+fn move_job(table: &StageMasks, tally: &mut Tally, occupied: &mut Occupied, job: JobId, branch: u16)
     requires sound { IsSound table.now tally.old }
     requires marked { IsMarked table.now tally.old.parts.parts occupied.old }
     requires granted { (outcome_of_move table.now tally.old.parts.parts (part_of tally.old.parts.parts job) branch).0 ≡ Granted }
@@ -102,13 +100,13 @@ fn go_on(table: &LeadTable, tally: &mut Tally, occupied: &mut Occupied, job: Job
     ensures marked { IsMarked table.now tally.new.parts.parts occupied.new }
 {
     if let Some(found) = tally.parts.find(job) {
-        send_on(table, tally, occupied, found, branch);
+        move_part(table, tally, occupied, found, branch);
     }
 }
 
 /// The part that was found, which is granted to go on.
-pub fn send_on(
-    table: &LeadTable,
+pub fn move_part(
+    table: &StageMasks,
     tally: &mut Tally,
     occupied: &mut Occupied,
     found: Found,
@@ -124,12 +122,18 @@ pub fn send_on(
 {
     if let Some(place) = table.next_place(found.part, branch) {
         let next = table.arrival(found.part.job, found.part.kind, place);
-        pass_on(table, tally, occupied, found, next);
+        move_between(table, tally, occupied, found, next);
     }
 }
 
 /// A part goes on from its resource to the next one.
-fn pass_on(table: &LeadTable, tally: &mut Tally, occupied: &mut Occupied, found: Found, next: Part)
+fn move_between(
+    table: &StageMasks,
+    tally: &mut Tally,
+    occupied: &mut Occupied,
+    found: Found,
+    next: Part,
+)
     requires sound { IsSound table.now tally.old }
     requires marked { IsMarked table.now tally.old.parts.parts occupied.old }
     requires found { part_of tally.old.parts.parts found.part.job ≡ Some found.part }
@@ -142,25 +146,33 @@ fn pass_on(table: &LeadTable, tally: &mut Tally, occupied: &mut Occupied, found:
 {
     let here = table.row_of(found.part);
     let there = table.row_of(next);
-    put_on(table, tally, found, next, here, there);
+    update_tables(table, tally, found, next, here, there);
     occupied.mark(there.on);
     unmark_free(table, tally, occupied, here.on);
 }
 
 /// A resource that a part has left is marked no longer where no other part stands there.
-fn unmark_free(table: &LeadTable, tally: &Tally, occupied: &mut Occupied, from: ResId)
+fn unmark_free(table: &StageMasks, tally: &Tally, occupied: &mut Occupied, from: ResId)
+    requires fits { CellFits table.now }
     requires from { from.0 < length table.now.resources }
     requires tallied { IsTallied table.now tally.now }
     requires marked { IsMarked table.now tally.now.parts.parts occupied.old }
     ensures { IsMarked table.now tally.now.parts.parts occupied.new }
 {
-    if tally.parts.first_on(from).is_none() {
+    if tally.parts.find_on(from).is_none() {
         occupied.unmark(from);
     }
 }
 
 /// A part goes on to its next stage.
-fn put_on(table: &LeadTable, tally: &mut Tally, found: Found, next: Part, here: Row, there: Row)
+fn update_tables(
+    table: &StageMasks,
+    tally: &mut Tally,
+    found: Found,
+    next: Part,
+    here: Row,
+    there: Row,
+)
     requires sound { IsSound table.now tally.old }
     requires found { part_of tally.old.parts.parts found.part.job ≡ Some found.part }
     requires same { next ≡ record found.part { place = next.place; done = next.done } }
@@ -172,16 +184,13 @@ fn put_on(table: &LeadTable, tally: &mut Tally, found: Found, next: Part, here: 
     ensures tallied { IsTallied table.now tally.new }
 {
     let part = found.part;
-    let _cell = table.cell();
     tally.counts.shift(here.mask, there.mask);
-    tally
-        .parts
-        .advance_near(found.clue, part.job, next.place, next.done, there.on);
+    tally.parts.advance_found(found, next.place, next.done);
     tally.work = tally.work - here.work(part.done) + there.work(next.done);
 }
 
 /// The part of a job leaves the cell.
-fn leave(table: &LeadTable, tally: &mut Tally, occupied: &mut Occupied, job: JobId)
+fn leave(table: &StageMasks, tally: &mut Tally, occupied: &mut Occupied, job: JobId)
     requires sound { IsSound table.now tally.old }
     requires marked { IsMarked table.now tally.old.parts.parts occupied.old }
     ensures parts { tally.new.parts.parts ≡ without tally.old.parts.parts job }
@@ -194,7 +203,7 @@ fn leave(table: &LeadTable, tally: &mut Tally, occupied: &mut Occupied, job: Job
 }
 
 /// The part that was found leaves the cell.
-pub fn send_out(table: &LeadTable, tally: &mut Tally, occupied: &mut Occupied, found: Found)
+pub fn send_out(table: &StageMasks, tally: &mut Tally, occupied: &mut Occupied, found: Found)
     requires sound { IsSound table.now tally.old }
     requires marked { IsMarked table.now tally.old.parts.parts occupied.old }
     requires found { part_of tally.old.parts.parts found.part.job ≡ Some found.part }
@@ -208,7 +217,7 @@ pub fn send_out(table: &LeadTable, tally: &mut Tally, occupied: &mut Occupied, f
 }
 
 /// A part leaves the cell.
-fn take_out(table: &LeadTable, tally: &mut Tally, found: Found, here: Row)
+fn take_out(table: &StageMasks, tally: &mut Tally, found: Found, here: Row)
     requires sound { IsSound table.now tally.old }
     requires here { IsRowOf table.now (stage_of found.part) here }
     requires found { part_of tally.old.parts.parts found.part.job ≡ Some found.part }
@@ -216,8 +225,7 @@ fn take_out(table: &LeadTable, tally: &mut Tally, found: Found, here: Row)
     ensures tallied { IsTallied table.now tally.new }
 {
     let part = found.part;
-    let _cell = table.cell();
     tally.counts.leave(here.mask);
-    tally.parts.depart_near(found.clue, part.job);
+    tally.parts.depart_found(found);
     tally.work -= here.work(part.done);
 }

@@ -1,10 +1,18 @@
-//! What the policy never refuses, each the contract of a function that does nothing.
+//! What holds of each core, and what the policy never refuses, each the contract of a function that does nothing.
 ghost use Rattle.std.specs.Prelude.{◌≡◌, ◌≢◌, ℕ, ◌≤◌};
 ghost use Rattle.policy_laws.specs.Laws.{MayMove};
-ghost use Rattle.admission_core.specs.Clauses.{Granted, Move, Part, Refused, ResId, Saturated, Stage, Unload, order_at, reply_to, stage_of};
+ghost use Rattle.admission_core.specs.Clauses.{CellFits, Granted, IsAdmitted, Move, Part, Refused, ResId, Saturated, Stage, Unload, order_at, reply_to, stage_of};
 
 use crate::Core;
 use cell_base::JobId;
+
+/// The cell fits, and the policy admits the parts.
+pub fn core_law(core: &Core)
+    ensures fits { CellFits core.now.cell }
+    ensures admitted { IsAdmitted core.now.cell core.now.parts }
+{
+    let _cell = core.cell();
+}
 
 /// A move of a done part by a branch that its stage has, to a resource of no lesser order, is granted.
 pub fn move_to_no_lesser_order_is_granted(core: &Core, job: JobId, branch: u16)
@@ -12,7 +20,7 @@ pub fn move_to_no_lesser_order_is_granted(core: &Core, job: JobId, branch: u16)
         → order_at core.now.cell (stage_of part) ≤ order_at core.now.cell to
         → reply_to core.now.cell core.now.parts (Move job branch) ≡ Granted }
 {
-    let _cell = core.cell();
+    core_law(core);
 }
 
 /// An unload is never refused for a full neighborhood.

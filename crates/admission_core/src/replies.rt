@@ -6,13 +6,13 @@ ghost use Rattle.admission_core.specs.Clauses.{IsStage, Part, Process, RequestFi
 ghost use Rattle.admission_core.specs.CoreState.{IsSound};
 ghost use Rattle.admission_core.specs.Replies.{reply_at};
 
-use crate::lead_table::LeadTable;
+use crate::stage_masks::StageMasks;
 use crate::tally::Tally;
 use cell_base::{Part, Refusal, Reply, Request, ResId};
 
 /// The reply to a request.
 #[inline(always)]
-pub fn reply_to(table: &LeadTable, tally: &Tally, request: &Request) -> Reply
+pub fn reply_to(table: &StageMasks, tally: &Tally, request: &Request) -> Reply
     requires sound { IsSound table.now tally.now }
     requires request { RequestFits table.now request.now }
     ensures { result ≡ reply_to table.now tally.now.parts.parts request.now }
@@ -48,7 +48,7 @@ pub fn reply_to(table: &LeadTable, tally: &Tally, request: &Request) -> Reply
 
 /// The reply to a part that comes new into the cell.
 #[inline(always)]
-fn reply_to_entry(table: &LeadTable, tally: &Tally, part: Part) -> Reply
+fn reply_to_entry(table: &StageMasks, tally: &Tally, part: Part) -> Reply
     requires sound { IsSound table.now tally.now }
     requires stage { IsStage table.now (stage_of part) }
     ensures { result ≡ (outcome_of_entry table.now tally.now.parts.parts part).0 }
@@ -61,12 +61,12 @@ fn reply_to_entry(table: &LeadTable, tally: &Tally, part: Part) -> Reply
 
 /// The reply to the work on a resource.
 #[inline(always)]
-fn reply_to_process(table: &LeadTable, tally: &Tally, machine: ResId) -> Reply
+fn reply_to_process(table: &StageMasks, tally: &Tally, machine: ResId) -> Reply
     requires sound { IsSound table.now tally.now }
     requires machine { RequestFits table.now (Process machine) }
     ensures { result ≡ (outcome_of_process table.now tally.now.parts.parts machine.0).0 }
 {
-    match tally.parts.first_waiting(machine) {
+    match tally.parts.first_waiting(table.stages(), machine) {
         Some(_) => Reply::Granted,
         None => Reply::Refused(Refusal::Idle),
     }
@@ -74,7 +74,7 @@ fn reply_to_process(table: &LeadTable, tally: &Tally, machine: ResId) -> Reply
 
 /// The reply to the move of a part.
 #[inline(always)]
-pub fn reply_to_move(table: &LeadTable, tally: &Tally, part: Part, branch: u16) -> Reply
+pub fn reply_to_move(table: &StageMasks, tally: &Tally, part: Part, branch: u16) -> Reply
     requires sound { IsSound table.now tally.now }
     requires found { part_of tally.now.parts.parts part.job ≡ Some part }
     ensures { result ≡ (outcome_of_move table.now tally.now.parts.parts (Some part) branch).0 }
@@ -96,7 +96,7 @@ pub fn reply_to_move(table: &LeadTable, tally: &Tally, part: Part, branch: u16) 
 
 /// The reply to the unload of a part.
 #[inline(always)]
-pub fn reply_to_unload(table: &LeadTable, part: Part) -> Reply
+pub fn reply_to_unload(table: &StageMasks, part: Part) -> Reply
     requires { IsStage table.now (stage_of part) }
     ensures { (parts : List Part) → result ≡ (outcome_of_unload table.now parts (Some part)).0 }
 {
@@ -110,7 +110,7 @@ pub fn reply_to_unload(table: &LeadTable, part: Part) -> Reply
 }
 
 /// The reply where a part would come to the neighborhoods of a mask.
-fn reply_at(table: &LeadTable, tally: &Tally, mask: u64) -> Reply
+fn reply_at(table: &StageMasks, tally: &Tally, mask: u64) -> Reply
     requires sound { IsSound table.now tally.now }
     requires mask { IsMaskOf tally.now.counts mask }
     ensures { result ≡ reply_at table.now tally.now.parts.parts (first_full tally.now.counts mask) }

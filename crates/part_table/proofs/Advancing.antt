@@ -13,7 +13,7 @@ use Rattle.policy_laws.proofs.Lists.{list_any-found, find_some}
 use Rattle.policy_laws.proofs.Parts.{part_of-found}
 use Rattle.part_table.specs.declared.standing.Standing.{Standing}
 use Rattle.part_table.specs.declared.standing.Entry.{Entry}
-use Rattle.part_table.specs.Seats.{Seated, place_at, seat_of}
+use Rattle.part_table.specs.Slots.{SlotTable, place_at, slot_of}
 use Rattle.part_table.specs.Standings.{parts_of, without_job, advanced}
 use Rattle.part_table.specs.Logs.{gone_entry, staying, IsAbsent, IsPlaceOf, ArePlaces}
 use Rattle.part_table.proofs.Jobs.{part_at}
@@ -43,28 +43,28 @@ module _ (entries : List Entry) (job : JobId) (at : ℕ) (old : Entry) (place : 
   pub absent_left : IsAbsent (set entries at (gone_entry old)) job
   absent_left = absent_from_not_loaded (set entries at (gone_entry old)) job (rw left (absent_departed (staying entries) job))
 
-  pub staying_advanced : staying (set entries at (gone_entry old) ++ (record { item = moved; stays = true; seat = old.seat }) ∷ [])
+  pub staying_advanced : staying (set entries at (gone_entry old) ++ (record { item = moved; stays = true; slot = old.slot }) ∷ [])
       ≡ advanced (staying entries) job place done on
   staying_advanced =
-      staying_pushed (set entries at (gone_entry old)) moved old.seat
+      staying_pushed (set entries at (gone_entry old)) moved old.slot
       ∙ ap (λ items. items ++ moved ∷ []) left
       ∙ sym (advanced_is (staying entries) job place done on old.item.part (sym (part_at entries job at old is there)))
 
-  pub places_advanced : (seats next : Seated) → ArePlaces entries seats
-      → ((q : ℕ) → place_at next q ≡ cond (nat_eq job.0 q) (Some (length entries)) (place_at seats q)) → next.seats ≡ seats.seats
-      → ArePlaces (set entries at (gone_entry old) ++ (record { item = moved; stays = true; seat = old.seat }) ∷ []) next
-  places_advanced seats next are noted same_seats =
+  pub places_advanced : (slots next : SlotTable) → ArePlaces entries slots
+      → ((q : ℕ) → place_at next q ≡ cond (nat_eq job.0 q) (Some (length entries)) (place_at slots q)) → next.slots ≡ slots.slots
+      → ArePlaces (set entries at (gone_entry old) ++ (record { item = moved; stays = true; slot = old.slot }) ∷ []) next
+  places_advanced slots next are noted same_slots =
       let left = set entries at (gone_entry old) in
-      let gone = places_gone entries seats are at old there in
+      let gone = places_gone entries slots are at old there in
       let long : length (set entries at (gone_entry old)) ≡ length entries = length-set entries at (gone_entry old) in
       let absent : IsAbsent (set entries at (gone_entry old)) old.item.part.job =
       subst (IsAbsent (set entries at (gone_entry old))) (λ i. record { 0 = sym of_job i }) absent_left in
-      places_pushed left seats gone moved old.seat next absent
-      (λ q. noted q ∙ ap (λ n. cond (nat_eq n q) (Some (length entries)) (place_at seats q)) (sym of_job)
-      ∙ ap (λ n. cond (nat_eq old.item.part.job.0 q) (Some n) (place_at seats q)) (sym long))
-      (known_pushed left (seat_of seats) (seat_of next) (λ k entry. entry.seat) gone.seated moved old.seat absent
-      (known_again old.item.part.job.0 old.seat (seat_of seats) (seat_of next) (are.seated at old there stays_there)
-      (λ q. ap (λ (xs : List (ℕ × ℕ)). lookup (nat_eq q) xs) same_seats)))
+      places_pushed left slots gone moved old.slot next absent
+      (λ q. noted q ∙ ap (λ n. cond (nat_eq n q) (Some (length entries)) (place_at slots q)) (sym of_job)
+      ∙ ap (λ n. cond (nat_eq old.item.part.job.0 q) (Some n) (place_at slots q)) (sym long))
+      (known_pushed left (slot_of slots) (slot_of next) (λ k entry. entry.slot) gone.slotted moved old.slot absent
+      (known_again old.item.part.job.0 old.slot (slot_of slots) (slot_of next) (are.slotted at old there stays_there)
+      (λ q. ap (λ (xs : List (ℕ × ℕ)). lookup (nat_eq q) xs) same_slots)))
 
 -- a part that goes on is of its job, and as many are there
 module _ (items : List Standing) (job : JobId) (place : ℕ) (done : Bool) (on : ResId) (distinct : HaveDistinctJobs (parts_of items))

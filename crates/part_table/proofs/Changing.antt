@@ -9,7 +9,7 @@ use Rattle.part_table.specs.declared.link.Link.{Link}
 use Rattle.part_table.specs.declared.standing.Entry.{Entry}
 use Rattle.part_table.specs.Chains.{OFF, link_entries, nexts_of, told_key, standing_key, waiting_key}
 use Rattle.part_table.specs.Chains.{IsFirst, WasFirst, IsNextOf, AreLinked, IsChain}
-use Rattle.part_table.specs.Logs.{gone_entry, done_entry, reseated}
+use Rattle.part_table.specs.Logs.{gone_entry, done_entry, with_slot}
 use Rattle.part_table.proofs.Chains.{seen_at, standing_told, waiting_told, this_was, firsts_lost}
 use Rattle.part_table.proofs.Chains.{chained_changed, chained_same}
 use Rattle.part_table.proofs.Seeking.{entry_read, entry_set, same_nexts}
@@ -54,9 +54,9 @@ module _ (links : List Link) (ends : List Ends) (room at : ℕ) (old : Link) (ch
       map-set_same f (link_entries links) at new old.entry
       (same ∙ ap f (sym (get_or_from_slice_get (link_entries links) at old.entry old.entry there)))
 
-  pub chain_seated : (seat : ℕ) → IsChain (set links at (record old { entry = reseated old.entry seat })) ends room
-  chain_seated seat =
-      let new = reseated old.entry seat in
+  pub chain_with_slot : (slot : ℕ) → IsChain (set links at (record old { entry = with_slot old.entry slot })) ends room
+  chain_with_slot slot =
+      let new = with_slot old.entry slot in
       let seen : (f : Entry → ℕ) → f new ≡ f old.entry → (k : ℕ) → k < length links
       → get_or (map f (set (link_entries links) at new)) k 0 ≡ get_or (map f (link_entries links)) k 0 =
       λ f same k below. ap (λ keys. get_or keys k 0) (same_key f new same) in

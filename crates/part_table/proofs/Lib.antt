@@ -11,3 +11,5 @@ pub mod Jobs
 pub mod Standings
 pub mod Advancing
 pub mod Told
+pub mod Finding
+pub mod LaneReads

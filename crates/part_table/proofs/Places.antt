@@ -50,31 +50,31 @@ module _ {X : Type 0} where
 
 -- what is known of jobs, with one entry more
 pub known_pushed : (entries : List Entry) (known next : ℕ → Option ℕ) (value : ℕ → Entry → ℕ) → IsKnown entries known value
-    → (item : Standing) (seat : ℕ) → IsAbsent entries item.part.job
+    → (item : Standing) (slot : ℕ) → IsAbsent entries item.part.job
     → ((q : ℕ) → next q
-    ≡ cond (nat_eq item.part.job.0 q) (Some (value (length entries) (record { item = item; stays = true; seat = seat }))) (known q))
-    → IsKnown (entries ++ (record { item = item; stays = true; seat = seat }) ∷ []) next value
-known_pushed entries known next value are item seat absent noted k entry e stays =
-    ⊎_elim earlier at_end (get_in_push entries (record { item = item; stays = true; seat = seat }) entry k e)
+    ≡ cond (nat_eq item.part.job.0 q) (Some (value (length entries) (record { item = item; stays = true; slot = slot }))) (known q))
+    → IsKnown (entries ++ (record { item = item; stays = true; slot = slot }) ∷ []) next value
+known_pushed entries known next value are item slot absent noted k entry e stays =
+    ⊎_elim earlier at_end (get_in_push entries (record { item = item; stays = true; slot = slot }) entry k e)
   where
     last : Option ℕ
-    last = Some (value (length entries) (record { item = item; stays = true; seat = seat }))
+    last = Some (value (length entries) (record { item = item; stays = true; slot = slot }))
 
     earlier : slice_get entries k ≡ Some entry → next (entry_job entry) ≡ Some (value k entry)
     earlier there =
         noted (entry_job entry)
-        ∙ ap (λ b. cond b (Some (value (length entries) (record { item = item; stays = true; seat = seat }))) (known (entry_job entry)))
+        ∙ ap (λ b. cond b (Some (value (length entries) (record { item = item; stays = true; slot = slot }))) (known (entry_job entry)))
         (ne_eqb item.part.job.0 (entry_job entry) (λ same. absent k entry there stays (sym same)))
         ∙ are k entry there stays
 
-    at_end : (k ≡ length entries) × ((let y : Entry = record { item = item; stays = true; seat = seat } in y) ≡ entry)
+    at_end : (k ≡ length entries) × ((let y : Entry = record { item = item; stays = true; slot = slot } in y) ≡ entry)
         → next (entry_job entry) ≡ Some (value k entry)
     at_end h =
         subst (λ (x : Entry). next (entry_job x) ≡ Some (value k x)) h.1
         (noted item.part.job.0
-        ∙ ap (λ b. cond b (Some (value (length entries) (record { item = item; stays = true; seat = seat }))) (known item.part.job.0))
+        ∙ ap (λ b. cond b (Some (value (length entries) (record { item = item; stays = true; slot = slot }))) (known item.part.job.0))
         (eq-eqb item.part.job.0 item.part.job.0 refl)
-        ∙ ap (λ n. Some (value n (record { item = item; stays = true; seat = seat }))) (sym h.0))
+        ∙ ap (λ n. Some (value n (record { item = item; stays = true; slot = slot }))) (sym h.0))
 
 -- the same with an entry that changes, with its job, and does not stay again
 pub known_changed : (entries : List Entry) (known : ℕ → Option ℕ) (value : ℕ → Entry → ℕ) → IsKnown entries known value → (i : ℕ)

@@ -220,14 +220,14 @@ staying_finished (y ∷ ys) (suc at) old job e stays is unique =
     by false gone rest = rest
 
 -- one part more
-pub staying_pushed : (entries : List Entry) (item : Standing) (seat : ℕ)
-    → staying (entries ++ (record { item = item; stays = true; seat = seat }) ∷ []) ≡ staying entries ++ item ∷ []
-staying_pushed [] item seat = refl
-staying_pushed (y ∷ ys) item seat = at y.stays (staying_pushed ys item seat)
+pub staying_pushed : (entries : List Entry) (item : Standing) (slot : ℕ)
+    → staying (entries ++ (record { item = item; stays = true; slot = slot }) ∷ []) ≡ staying entries ++ item ∷ []
+staying_pushed [] item slot = refl
+staying_pushed (y ∷ ys) item slot = at y.stays (staying_pushed ys item slot)
   where
-    at : (a : Bool) → staying (ys ++ (record { item = item; stays = true; seat = seat }) ∷ []) ≡ staying ys ++ item ∷ []
-        → map item_of (cond a (y ∷ filter is_staying (ys ++ (record { item = item; stays = true; seat = seat }) ∷ []))
-        (filter is_staying (ys ++ (record { item = item; stays = true; seat = seat }) ∷ [])))
+    at : (a : Bool) → staying (ys ++ (record { item = item; stays = true; slot = slot }) ∷ []) ≡ staying ys ++ item ∷ []
+        → map item_of (cond a (y ∷ filter is_staying (ys ++ (record { item = item; stays = true; slot = slot }) ∷ []))
+        (filter is_staying (ys ++ (record { item = item; stays = true; slot = slot }) ∷ [])))
         ≡ map item_of (cond a (y ∷ filter is_staying ys) (filter is_staying ys)) ++ item ∷ []
     at true rest = ap (λ items. y.item ∷ items) rest
     at false rest = rest

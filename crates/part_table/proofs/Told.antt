@@ -1,8 +1,9 @@
 -- Parts with the resources that were told of them, where these are the ones of their stages: what is found among them, and how they change.
 use Rattle.std.proofs.Common.{◌≡◌, ◌≢◌, ℕ, ◌==◌, Bool, true, false, not, ◌&&◌, cond, List, [], ◌∷◌, ◌++◌}
-use Rattle.std.proofs.Common.{map, arith, All, Option, Some, None, find, ap, ap₂, refl, sym, ◌∙◌, subst}
-use Rattle.std.specs.Option.{option_map, option_map_or, ForSome}
-use Rattle.std.specs.Prelude.{MatchOption}
+use Rattle.std.proofs.Common.{length, map, arith, All, Option, Some, None, find, ap, ap₂, refl, sym, ◌∙◌, subst}
+use Rattle.std.specs.Option.{option_map, option_map_or, ForSome, is_some}
+use Rattle.std.specs.Prelude.{MatchOption, IfSome}
+use Rattle.std.proofs.lemmas.Bool.{false≢true}
 use Rattle.std.proofs.lemmas.Option.{none-some, same_Some}
 use Rattle.std.proofs.lemmas.List.{length-map, get_or-map, map-append}
 use Rattle.std.proofs.lemmas.List.Elements.{All-head, All-tail, All-weaker, All-contains, All-push, All-filter, All-map}
@@ -26,7 +27,7 @@ All-unmap : {X Y : Type 0} (P : Y → Type 0) (f : X → Y) (xs : List X) → Al
 All-unmap P f xs all k d h = subst P (get_or-map f xs k d (f d) h) (all k (f d) (omega (arith, h, length-map xs f)))
 
 -- the parts of standing ones, and one more
-parts_of-push : (items : List Standing) (part : Part) (on : ResId)
+pub parts_of-push : (items : List Standing) (part : Part) (on : ResId)
     → parts_of (items ++ (record { part = part; on = on }) ∷ []) ≡ parts_of items ++ part ∷ []
 parts_of-push items part on = map-append (λ (item : Standing). item.part) items ((record { part = part; on = on }) ∷ [])
 
@@ -132,7 +133,12 @@ module _ (cell : Cell) where
           (ap₂ (λ (x : Standing) (ps : List Part). x.part ∷ ps)
           (finish_no found.part.job item (is_of_job-other found.part.job item.part other)) (later f))
 
-  AreOn-push : (items : List Standing) (part : Part) (on : ResId) → AreOn cell items → on.0 ≡ resource_at cell (stage_of part)
+  -- where no part is there
+  pub none_on : (items : List Standing) → parts_of items ≡ [] → AreOn cell items
+  none_on items none k d inside =
+      absurd (omega (arith, inside, length-map items (λ (item : Standing). item.part), ap length none))
+
+  pub AreOn-push : (items : List Standing) (part : Part) (on : ResId) → AreOn cell items → on.0 ≡ resource_at cell (stage_of part)
       → AreOn cell (items ++ (record { part = part; on = on }) ∷ [])
   AreOn-push items part on are e =
       All-push (IsOn cell) items (record { part = part; on = on }) are e
@@ -188,23 +194,35 @@ module _ (cell : Cell) where
           )
 
   -- a part that goes on has the resource of its next stage
-  pub went_on : (items : List Standing) (job : JobId) (place : ℕ) (done : Bool) (on : ResId) → AreOn cell items
-      → ForSome (part_of (parts_of items) job) (λ part. on.0 ≡ resource_at cell (stage part.kind.0 place))
+  pub AreOn-advanced : (items : List Standing) (job : JobId) (place : ℕ) (done : Bool) (on : ResId) (part : Part) → AreOn cell items
+      → part_of (parts_of items) job ≡ Some part → on.0 ≡ resource_at cell (stage part.kind.0 place)
       → AreOn cell (advanced items job place done on)
-      × (parts_of (advanced items job place done on) ≡ gone_on (parts_of items) job place done)
-  went_on items job place done on are told = at (part_of (parts_of items) job) refl
-    where
-      at : (o : Option Part) → part_of (parts_of items) job ≡ o
-          → AreOn cell (advanced items job place done on)
-          × (parts_of (advanced items job place done on) ≡ option_map_or (λ part. without (parts_of items) job
-          ++ (record part { place = place; done = done }) ∷ []) o (parts_of items))
-      at None e =
-          let same = advanced_none items job place done on e in
-          (subst (AreOn cell) same are, ap (λ (items : List Standing). parts_of items) (sym same))
-      at (Some part) e =
-          let next : Part = record part { place = place; done = done } in
-          let is = advanced_is items job place done on part e in (
-            subst (AreOn cell) (sym is) (AreOn-push (without_job items job) next on (AreOn-without items job are) (told part e)),
-            ap (λ (items : List Standing). parts_of items) is ∙ parts_of-push (without_job items job) next on
-                ∙ ap (λ (parts : List Part). parts ++ next ∷ []) (parts_of-without items job),
-          )
+  AreOn-advanced items job place done on part are e told =
+      let next : Part = record part { place = place; done = done } in
+      subst (AreOn cell) (sym (advanced_is items job place done on part e))
+      (AreOn-push (without_job items job) next on (AreOn-without items job are) told)
+
+-- the parts after one of them went on
+pub parts_of-advanced : (items : List Standing) (job : JobId) (place : ℕ) (done : Bool) (on : ResId)
+    → parts_of (advanced items job place done on) ≡ gone_on (parts_of items) job place done
+parts_of-advanced items job place done on = at (part_of (parts_of items) job) refl
+  where
+    at : (o : Option Part) → part_of (parts_of items) job ≡ o
+        → parts_of (advanced items job place done on) ≡ option_map_or (λ part. without (parts_of items) job
+        ++ (record part { place = place; done = done }) ∷ []) o (parts_of items)
+    at None e = ap (λ (items : List Standing). parts_of items) (sym (advanced_none items job place done on e))
+    at (Some part) e =
+        let next : Part = record part { place = place; done = done } in
+        ap (λ (items : List Standing). parts_of items) (advanced_is items job place done on part e)
+        ∙ parts_of-push (without_job items job) next on
+        ∙ ap (λ (parts : List Part). parts ++ next ∷ []) (parts_of-without items job)
+
+-- the job of the first part that waits, where the table was told of the cell that is asked for
+pub waiting_told : (told : Option Cell) (cell : Cell) (on : ResId) (items : List Standing) → is_some told ≡ true
+    → IfSome told (λ other. other ≡ cell) → ForSome told (λ other. AreOn other items)
+    → option_map (λ (item : Standing). item.part.job) (find (is_waiting on) items)
+    ≡ option_map (λ (part : Part). part.job) (find (is_waiting_on cell on.0) (parts_of items))
+waiting_told None cell on items told same are = absurd (false≢true told)
+waiting_told (Some other) cell on items told same are =
+    waiting_job other on items (are other refl)
+    ∙ ap (λ (cell : Cell). option_map (λ (part : Part). part.job) (find (is_waiting_on cell on.0) (parts_of items))) same

@@ -5,17 +5,17 @@ use Rattle.cell_base.specs.declared.requests.JobId.{JobId}
 use Rattle.part_table.specs.declared.standing.Standing.{Standing}
 use Rattle.part_table.specs.declared.standing.Entry.{Entry}
 use Rattle.cell_base.specs.Policy.{HaveDistinctJobs}
-use Rattle.part_table.specs.Seats.{Seated, place_at, seat_of}
+use Rattle.part_table.specs.Slots.{SlotTable, place_at, slot_of}
 use Rattle.part_table.specs.Standings.{parts_of}
 
--- what a contract sees of a log: its entries, how many there may be, the number of resources, how many seats were given, and how many
+-- what a contract sees of a log: its entries, how many there may be, the number of resources, how many slots were given, and how many
 -- there are
 pub record Logged : Type 0 where
   pub entries : List Entry
   pub room : ℕ
   pub resources : ℕ
   pub given : ℕ
-  pub seats : ℕ
+  pub slots : ℕ
 
 -- the entry whose part does not stand there any more, and the one whose part is done
 abbrev pub gone_entry : Entry → Entry
@@ -25,9 +25,9 @@ gone_entry entry = record entry { stays = false }
 abbrev pub done_entry : Entry → Entry
 done_entry entry = record entry { item = record entry.item { part = record entry.item.part { done = true } } }
 
--- the same, with another seat
-abbrev pub reseated : Entry → ℕ → Entry
-reseated entry seat = record entry { seat = seat }
+-- the same, with another slot
+abbrev pub with_slot : Entry → ℕ → Entry
+with_slot entry slot = record entry { slot = slot }
 
 -- the parts of the entries that are not gone
 abbrev pub staying : List Entry → List Standing
@@ -58,20 +58,20 @@ abbrev pub IsKnown : List Entry → (ℕ → Option ℕ) → (ℕ → Entry → 
 IsKnown entries known value = (k : ℕ) (entry : Entry) → slice_get entries k ≡ Some entry → entry.stays ≡ true
     → known (entry_job entry) ≡ Some (value k entry)
 
--- the job of each entry that stays has the seat that the entry tells
-abbrev pub AreSeated : List Entry → Seated → Type 0
-AreSeated entries seats = IsKnown entries (seat_of seats) (λ k entry. entry.seat)
+-- the job of each entry that stays has the slot that the entry tells
+abbrev pub HaveSlots : List Entry → SlotTable → Type 0
+HaveSlots entries slots = IsKnown entries (slot_of slots) (λ k entry. entry.slot)
 
--- and that seat leads to the entry
-pub record ArePlaces (entries : List Entry) (seats : Seated) : Type 0 where
-  pub placed : IsKnown entries (place_at seats) (λ k entry. k)
-  pub seated : AreSeated entries seats
+-- and that slot leads to the entry
+pub record ArePlaces (entries : List Entry) (slots : SlotTable) : Type 0 where
+  pub placed : IsKnown entries (place_at slots) (λ k entry. k)
+  pub slotted : HaveSlots entries slots
 
 -- a log whose parts are of different jobs, their number, and how many there may be. One entry more fits for a part that goes on, and
--- one seat more
+-- one slot more
 pub record IsTable (log : Logged) (count room : ℕ) : Type 0 where
   pub distinct : HaveDistinctJobs (parts_of (staying log.entries))
   pub counted : count ≡ length (staying log.entries)
   pub within : count ≤ room
   pub fits : room < log.room
-  pub seats : room < log.seats
+  pub slots : room < log.slots

@@ -3,15 +3,16 @@ ghost use Rattle.std.specs.Prelude.{◌≡◌, ◌+◌, ◌<◌, ◌≤◌, true
 ghost use Rattle.std.specs.List.{find};
 ghost use Rattle.std.specs.Option.{option_map};
 ghost use Rattle.cell_base.specs.Policy.{is_loaded, HaveDistinctJobs};
-ghost use Rattle.cell_base.specs.Outcomes.{part_of};
-ghost use Rattle.cell_base.specs.declared.limits.TheConstants.{MAX_RESOURCES, MAX_UNITS};
+ghost use Rattle.cell_base.specs.Outcomes.{is_waiting_on, part_of};
+ghost use Rattle.cell_base.specs.declared.limits.TheConstants.{MAX_RESOURCES};
 ghost use Rattle.part_table.specs.Standings.{parts_of, is_on, is_waiting, without_job, advanced, finished};
 ghost use Rattle.part_table.specs.Logs.{staying};
 
-use crate::found::{Clue, Found};
+use crate::found::{Found, PositionHint};
 use crate::log::Log;
 use crate::standing::Standing;
 use cell_base::{JobId, List, NoMemory, Part, ResId};
+use route_table::StageTable;
 use std::alloc::Global;
 use std::marker::Model;
 
@@ -38,11 +39,14 @@ impl Model for Arrivals {
 /// How many entries a log holds for each part. So a part's entries are moved together once in many changes.
 const ENTRIES_A_PART: u32 = 4;
 
-/// How many seats there are for each part that may stand at a time. So a part that stays has a new seat once in as many arrivals.
-const SEATS_A_PART: u32 = 2;
+/// How many slots there are for each part that may stand at a time. So a part that stays has a new slot once in as many arrivals.
+const SLOTS_A_PART: u32 = 2;
 
 /// How many entries a log holds beside those, so that it isn't compacted all the time where few parts stand.
 const ENTRIES_BESIDE: u64 = 64;
+
+/// How many parts there may be: no log has more entries than 32 bits number.
+const MOST_PARTS: u32 = u32::MAX / ENTRIES_A_PART - 1;
 
 /// Whether a log of so many parts is to be compacted. It is where the log is full; and where most of its entries are gone, which no
 /// contract asks for, so that it takes no more memory than its parts want, however many there may be.
@@ -61,46 +65,48 @@ fn make_room(log: &mut Log, parts: u32)
     ensures free { length log.new.entries < log.new.room }
     ensures room { log.new.room ≡ log.old.room }
     ensures resources { log.new.resources ≡ log.old.resources }
-    ensures seats { log.new.seats ≡ log.old.seats }
+    ensures slots { log.new.slots ≡ log.old.slots }
 {
     if is_worn(log, parts) {
         log.compact();
     }
 }
 
-/// A seat for one more job.
-fn make_seat(log: &mut Log)
+/// A slot for one more job.
+fn make_slot(log: &mut Log)
     requires distinct { HaveDistinctJobs (parts_of (staying log.old.entries)) }
     requires fits { length (staying log.old.entries) < log.old.room }
-    requires seats { length (staying log.old.entries) < log.old.seats }
+    requires slots { length (staying log.old.entries) < log.old.slots }
     requires free { length log.old.entries < log.old.room }
     ensures items { staying log.new.entries ≡ staying log.old.entries }
     ensures free { length log.new.entries < log.new.room }
-    ensures seat { log.new.given < log.new.seats }
+    ensures slot { log.new.given < log.new.slots }
     ensures room { log.new.room ≡ log.old.room }
     ensures resources { log.new.resources ≡ log.old.resources }
-    ensures seats { log.new.seats ≡ log.old.seats }
+    ensures slots { log.new.slots ≡ log.old.slots }
 {
-    if log.is_seated_out() {
+    if log.has_no_slot() {
         log.compact();
-        log.seat_again();
+        log.reassign_slots();
     }
 }
 
 impl Arrivals {
-    /// Nothing yet, and room for at least `n` parts.
+    /// Nothing yet, and room for at least `n` parts. More than `MOST_PARTS` want too much memory.
     pub fn with_room(alloc: Global, resources: u16, n: u32) -> Result<Arrivals, NoMemory>
-        requires few { resources ≤ MAX_RESOURCES }
-        requires room { n ≤ MAX_UNITS }
+        requires { resources ≤ MAX_RESOURCES }
         ensures empty { IfOk result (λ arrivals. arrivals.items ≡ []) }
         ensures spare { IfOk result (λ arrivals. n ≤ arrivals.spare) }
         ensures resources { IfOk result (λ arrivals. arrivals.resources ≡ resources) }
     {
+        if n > MOST_PARTS {
+            return Err(NoMemory);
+        }
         let log = Log::with_room(
             alloc,
             resources,
             n * ENTRIES_A_PART + 1,
-            n * SEATS_A_PART + 1,
+            n * SLOTS_A_PART + 1,
         )?;
         Ok(Arrivals {
             log,
@@ -118,7 +124,7 @@ impl Arrivals {
         match self.log.place_of(job) {
             Some(at) => Some(Found {
                 part: self.log.get(at).item.part,
-                clue: Clue(at),
+                hint: PositionHint(at),
             }),
             None => None,
         }
@@ -167,6 +173,13 @@ impl Arrivals {
         }
     }
 
+    /// The same by a table, which is asked for each part.
+    pub fn first_waiting_by(&self, table: &StageTable, on: ResId) -> Option<JobId>
+        ensures { result ≡ option_map (λ part. part.job) (find (is_waiting_on table.now on.0) (parts_of self.now.items)) }
+    {
+        self.log.first_waiting_by(table, on)
+    }
+
     /// The first part on a resource.
     pub fn first_on(&self, on: ResId) -> Option<Found>
         requires { on.0 < self.now.resources }
@@ -175,7 +188,7 @@ impl Arrivals {
         match self.log.first_on(on) {
             Some(at) => Some(Found {
                 part: self.log.get(at).item.part,
-                clue: Clue(at),
+                hint: PositionHint(at),
             }),
             None => None,
         }
@@ -191,13 +204,13 @@ impl Arrivals {
         ensures resources { self.new.resources ≡ self.old.resources }
     {
         make_room(&mut self.log, self.count);
-        make_seat(&mut self.log);
+        make_slot(&mut self.log);
         self.log.push(Standing { part, on });
         self.count += 1;
     }
 
     /// The part of a job goes on to a place, and stands after all others.
-    pub fn advance(&mut self, job: JobId, clue: Clue, place: u16, done: bool, on: ResId)
+    pub fn advance(&mut self, job: JobId, hint: PositionHint, place: u16, done: bool, on: ResId)
         requires present { is_loaded (parts_of self.old.items) job ≡ true }
         requires on { on.0 < self.old.resources }
         ensures items { self.new.items ≡ advanced self.old.items job place done on }
@@ -205,7 +218,7 @@ impl Arrivals {
         ensures resources { self.new.resources ≡ self.old.resources }
     {
         make_room(&mut self.log, self.count);
-        if let Some(at) = self.log.place_near(job, clue.0) {
+        if let Some(at) = self.log.place_near(job, hint.0) {
             self.log.advance(job, at, place, done, on);
         }
     }
@@ -243,13 +256,13 @@ impl Arrivals {
     }
 
     /// The part of a job leaves.
-    pub fn depart(&mut self, job: JobId, clue: Clue)
+    pub fn depart(&mut self, job: JobId, hint: PositionHint)
         requires { is_loaded (parts_of self.old.items) job ≡ true }
         ensures items { self.new.items ≡ without_job self.old.items job }
         ensures spare { self.new.spare ≡ self.old.spare + 1 }
         ensures resources { self.new.resources ≡ self.old.resources }
     {
-        if let Some(at) = self.log.place_near(job, clue.0) {
+        if let Some(at) = self.log.place_near(job, hint.0) {
             self.log.take_out(at);
             self.count -= 1;
         }

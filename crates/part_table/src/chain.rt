@@ -2,17 +2,21 @@
 //!
 //! The entries that were told a resource are linked in their order, also those that are gone, so that the next one that stays is found
 //! by one step for each of them that is gone. One chain serves both: the next that stays, and the next that stays and is not done.
-ghost use Rattle.std.specs.Prelude.{◌≡◌, ◌≢◌, ℕ, ◌+◌, ◌<◌, ◌≤◌, ◌∷◌, ◌++◌, [], true, not, ◌&&◌, if◌then◌else◌, nat_le, min, map, filter};
+ghost use Rattle.cell_base.specs.Outcomes.{is_waiting_on};
+ghost use Rattle.std.specs.Option.{option_map};
+ghost use Rattle.std.specs.Prelude.{◌≡◌, ◌≢◌, ℕ, ◌+◌, ◌<◌, ◌≤◌, ◌∷◌, ◌++◌, [], true, not, ◌&&◌, if◌then◌else◌, nat_le, min, map, filter, find};
 ghost use Rattle.std.specs.Prelude.{length, All, Some, None, slice_get, slice_set, slice_index, MatchOption, IfOk, vec_capacity};
 ghost use Rattle.part_table.specs.Chains.{OFF, link_entries, nexts_of, told_key, key_of, standing_key, waiting_key};
 ghost use Rattle.part_table.specs.Chains.{IsFirst, IsOnWay, WasFirst, AreLinked, AreNone, IsChained, linked};
-ghost use Rattle.part_table.specs.Logs.{gone_entry, done_entry, reseated, staying};
+ghost use Rattle.part_table.specs.Logs.{gone_entry, done_entry, with_slot, staying};
 ghost use Rattle.part_table.specs.Standings.{parts_of};
 ghost use Rattle.part_table.specs.declared.standing.Entry.{Entry};
 
+use crate::lanes::resource_of;
 use crate::link::{Link, Packed};
 use crate::standing::{Entry, Standing};
-use cell_base::{List, NoMemory, Part, ResId};
+use cell_base::{JobId, List, NoMemory, Part, ResId};
+use route_table::StageTable;
 use std::alloc::Global;
 use std::marker::Model;
 
@@ -221,6 +225,21 @@ fn listed(alloc: Global, links: &[Packed]) -> Result<List<Part>, NoMemory>
     Ok(parts)
 }
 
+/// The job of the first part on a resource that is not done, by a table, which is asked for each part.
+fn first_waiting_by(links: &[Packed], table: &StageTable, on: ResId) -> Option<JobId>
+    ensures { result ≡ option_map (λ part. part.job)
+        (find (is_waiting_on table.now on.0) (parts_of (staying (link_entries links.now)))) }
+{
+    for link in links {
+        let entry = link.entry();
+        let part = entry.item.part;
+        if entry.stays && !part.done && resource_of(table, part.kind, part.place) == on {
+            return Some(part.job);
+        }
+    }
+    None
+}
+
 impl Chain {
     /// No entries yet, and room for `n` of them.
     pub fn with_room(alloc: Global, resources: u16, n: u32) -> Result<Chain, NoMemory>
@@ -297,6 +316,13 @@ impl Chain {
         nth(&self.links, i)
     }
 
+    /// The job of the first part on a resource that is not done, by a table, which is asked for each part.
+    pub fn first_waiting_by(&self, table: &StageTable, on: ResId) -> Option<JobId>
+        ensures { result ≡ option_map (λ part. part.job) (find (is_waiting_on table.now on.0) (parts_of (staying self.now.entries))) }
+    {
+        first_waiting_by(&self.links, table, on)
+    }
+
     /// The parts that stay, in their order, by one walk.
     pub fn listed(&self, alloc: Global) -> Result<List<Part>, NoMemory>
         ensures { IfOk result (λ parts. parts ≡ parts_of (staying self.now.entries)) }
@@ -305,10 +331,10 @@ impl Chain {
     }
 
     /// One entry more. It takes no memory.
-    pub fn push(&mut self, item: Standing, seat: u32)
+    pub fn push(&mut self, item: Standing, slot: u32)
         requires room { length self.old.entries < self.old.room }
         requires on { item.on.0 < self.old.resources }
-        ensures entries { self.new.entries ≡ self.old.entries ++ (record { item = item; stays = true; seat = seat }) ∷ [] }
+        ensures entries { self.new.entries ≡ self.old.entries ++ (record { item = item; stays = true; slot = slot }) ∷ [] }
         ensures room { self.new.room ≡ self.old.room }
         ensures resources { self.new.resources ≡ self.old.resources }
     {
@@ -316,7 +342,7 @@ impl Chain {
         let entry = Entry {
             item,
             stays: true,
-            seat,
+            slot,
         };
         self.links.push_reserved(Packed::of(Link {
             entry,
@@ -364,15 +390,15 @@ impl Chain {
         };
     }
 
-    /// The job of an entry has another seat.
-    pub fn seat(&mut self, at: u32, seat: u32)
+    /// The job of an entry has another slot.
+    pub fn set_slot(&mut self, at: u32, slot: u32)
         requires { at < length self.old.entries }
         ensures entries { (entry : Entry) → slice_get self.old.entries at ≡ Some entry
-            → self.new.entries ≡ slice_set self.old.entries at (reseated entry seat) }
+            → self.new.entries ≡ slice_set self.old.entries at (with_slot entry slot) }
         ensures room { self.new.room ≡ self.old.room }
         ensures resources { self.new.resources ≡ self.old.resources }
     {
-        self.links[at as usize].seat_at(seat);
+        self.links[at as usize].set_slot(slot);
     }
 
     /// Only the entries that stay, in their order. It takes no memory.

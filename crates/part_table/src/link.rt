@@ -7,7 +7,7 @@
 //! ```text
 //! offset  bytes  field
 //!      0      4  job
-//!      4      4  seat
+//!      4      4  slot
 //!      8      4  next
 //!     12      2  kind
 //!     14      2  place
@@ -16,7 +16,7 @@
 //!     19      1  stays
 //! ```
 ghost use Rattle.std.specs.Prelude.{◌≡◌};
-ghost use Rattle.part_table.specs.Logs.{gone_entry, done_entry, reseated};
+ghost use Rattle.part_table.specs.Logs.{gone_entry, done_entry, with_slot};
 
 use crate::standing::{Entry, Standing};
 use cell_base::{JobId, Part, ResId, TypeId};
@@ -33,7 +33,7 @@ pub struct Link {
 #[derive(Clone, Copy)]
 pub struct Packed {
     job: JobId,
-    seat: u32,
+    slot: u32,
     next: u32,
     kind: TypeId,
     place: u16,
@@ -54,14 +54,14 @@ impl Model for Packed {
           on = s.on;
         };
         stays = s.stays;
-        seat = s.seat;
+        slot = s.slot;
       };
       next = s.next;
     } };
 
     ghost inverse = { λ link. record {
       job = link.entry.item.part.job;
-      seat = link.entry.seat;
+      slot = link.entry.slot;
       next = link.next;
       kind = link.entry.item.part.kind;
       place = link.entry.item.part.place;
@@ -84,7 +84,7 @@ impl Packed {
         let Standing { part, on } = entry.item;
         Packed {
             job: part.job,
-            seat: entry.seat,
+            slot: entry.slot,
             next,
             kind: part.kind,
             place: part.place,
@@ -108,7 +108,7 @@ impl Packed {
         Entry {
             item: Standing { part, on: self.on },
             stays: self.stays,
-            seat: self.seat,
+            slot: self.slot,
         }
     }
 
@@ -144,11 +144,11 @@ impl Packed {
         self.done = true;
     }
 
-    /// Its job has another seat.
+    /// Its job has another slot.
     #[inline(always)]
-    pub fn seat_at(&mut self, seat: u32)
-        ensures { self.new ≡ record self.old { entry = reseated self.old.entry seat } }
+    pub fn set_slot(&mut self, slot: u32)
+        ensures { self.new ≡ record self.old { entry = with_slot self.old.entry slot } }
     {
-        self.seat = seat;
+        self.slot = slot;
     }
 }

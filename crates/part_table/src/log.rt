@@ -1,17 +1,20 @@
 //! A log of parts as they came, which is found by job and by resource.
+ghost use Rattle.cell_base.specs.Outcomes.{is_waiting_on};
+ghost use Rattle.std.specs.Option.{option_map};
 ghost use Rattle.std.specs.Prelude.{◌≡◌, ◌≢◌, ◌<◌, ◌≤◌, ◌∷◌, ◌++◌, [], true, false, length, Some};
 ghost use Rattle.std.specs.Prelude.{slice_get, slice_set, MatchOption, IfOk, nat_le, map, filter, find, All, None};
 ghost use Rattle.part_table.specs.declared.standing.Entry.{Entry};
 ghost use Rattle.part_table.specs.declared.chain.TheConstants.{NOWHERE};
 ghost use Rattle.part_table.specs.Logs.{gone_entry, done_entry, staying, entry_job, IsAbsent, IsPlaceOf};
-ghost use Rattle.part_table.specs.Logs.{IsPlaceOfFirst, ArePlaces, AreSeated};
+ghost use Rattle.part_table.specs.Logs.{IsPlaceOfFirst, ArePlaces, HaveSlots};
 ghost use Rattle.part_table.specs.Standings.{parts_of, is_on, is_waiting, advanced};
 ghost use Rattle.cell_base.specs.Policy.{is_loaded, HaveDistinctJobs};
 
 use crate::chain::Chain;
-use crate::seats::Seats;
+use crate::slots::Slots;
 use crate::standing::{Entry, Standing};
 use cell_base::{JobId, List, NoMemory, Part, ResId};
+use route_table::StageTable;
 use std::alloc::Global;
 use std::marker::Model;
 
@@ -19,7 +22,7 @@ use std::marker::Model;
 #[derive(Drop)]
 pub struct Log {
     chain: Chain,
-    seats: Seats,
+    slots: Slots,
 }
 
 impl Model for Log {
@@ -32,78 +35,78 @@ impl Model for Log {
       entries = s.chain.entries;
       room = s.chain.room;
       resources = s.chain.resources;
-      given = length s.seats.places;
-      seats = s.seats.room;
+      given = length s.slots.places;
+      slots = s.slots.room;
     } };
 
-    ghost invariant = { λ s. ArePlaces s.chain.entries s.seats };
+    ghost invariant = { λ s. ArePlaces s.chain.entries s.slots };
 }
 
-/// The entries, whose parts have seats, are found again by their jobs.
-fn place_again(chain: &Chain, seats: &mut Seats)
+/// The entries, whose parts have slots, are found again by their jobs.
+fn place_again(chain: &Chain, slots: &mut Slots)
     requires stay { All (λ entry. entry.stays ≡ true) chain.now.entries }
     requires distinct { HaveDistinctJobs (map (λ entry. entry.item.part) chain.now.entries) }
-    requires seated { AreSeated chain.now.entries seats.old }
-    ensures placed { ArePlaces chain.now.entries seats.new }
-    ensures given { length seats.new.places ≡ length seats.old.places }
-    ensures seats { seats.new.room ≡ seats.old.room }
+    requires slotted { HaveSlots chain.now.entries slots.old }
+    ensures placed { ArePlaces chain.now.entries slots.new }
+    ensures given { length slots.new.places ≡ length slots.old.places }
+    ensures slots { slots.new.room ≡ slots.old.room }
 {
     for at in 0..chain.len() {
         let entry = chain.get(at);
-        seats.go_on(entry.item.part.job, entry.seat, at);
+        slots.go_on(entry.item.part.job, entry.slot, at);
     }
 }
 
-/// The parts of the entries have new seats.
-fn seat_again(chain: &mut Chain, seats: &mut Seats)
+/// The parts of the entries have new slots.
+fn reassign_slots(chain: &mut Chain, slots: &mut Slots)
     requires stay { All (λ entry. entry.stays ≡ true) chain.old.entries }
     requires distinct { HaveDistinctJobs (map (λ entry. entry.item.part) chain.old.entries) }
-    requires none { seats.old.places ≡ [] }
-    requires room { length chain.old.entries ≤ seats.old.room }
+    requires none { slots.old.places ≡ [] }
+    requires room { length chain.old.entries ≤ slots.old.room }
     ensures items { map (λ entry. entry.item) chain.new.entries ≡ map (λ entry. entry.item) chain.old.entries }
     ensures stay { All (λ entry. entry.stays ≡ true) chain.new.entries }
-    ensures placed { ArePlaces chain.new.entries seats.new }
+    ensures placed { ArePlaces chain.new.entries slots.new }
     ensures capacity { chain.new.room ≡ chain.old.room }
     ensures resources { chain.new.resources ≡ chain.old.resources }
-    ensures given { length seats.new.places ≡ length chain.old.entries }
-    ensures room { seats.new.room ≡ seats.old.room }
+    ensures given { length slots.new.places ≡ length chain.old.entries }
+    ensures room { slots.new.room ≡ slots.old.room }
 {
     for at in 0..chain.len() {
         let entry = chain.get(at);
-        let seat = seats.come(entry.item.part.job, at);
-        chain.seat(at, seat);
+        let slot = slots.come(entry.item.part.job, at);
+        chain.set_slot(at, slot);
     }
 }
 
 impl Log {
-    /// An empty log with room for `n` entries and for some seats.
-    pub fn with_room(alloc: Global, resources: u16, n: u32, seats: u32) -> Result<Log, NoMemory>
+    /// An empty log with room for `n` entries and for some slots.
+    pub fn with_room(alloc: Global, resources: u16, n: u32, slots: u32) -> Result<Log, NoMemory>
         requires room { n < NOWHERE }
-        requires seats { seats < NOWHERE }
+        requires slots { slots < NOWHERE }
         ensures entries { IfOk result (λ log. log.entries ≡ []) }
         ensures room { IfOk result (λ log. log.room ≡ n) }
-        ensures seats { IfOk result (λ log. log.seats ≡ seats) }
+        ensures slots { IfOk result (λ log. log.slots ≡ slots) }
         ensures resources { IfOk result (λ log. log.resources ≡ resources) }
     {
         Ok(Log {
             chain: Chain::with_room(alloc, resources, n)?,
-            seats: Seats::with_room(alloc, seats)?,
+            slots: Slots::with_room(alloc, slots)?,
         })
     }
 
     /// One entry more. It takes no memory.
     pub fn push(&mut self, item: Standing)
         requires room { length self.old.entries < self.old.room }
-        requires seat { self.old.given < self.old.seats }
+        requires slot { self.old.given < self.old.slots }
         requires on { item.on.0 < self.old.resources }
         requires absent { IsAbsent self.old.entries item.part.job }
         ensures items { staying self.new.entries ≡ staying self.old.entries ++ item ∷ [] }
         ensures room { self.new.room ≡ self.old.room }
         ensures resources { self.new.resources ≡ self.old.resources }
-        ensures seats { self.new.seats ≡ self.old.seats }
+        ensures slots { self.new.slots ≡ self.old.slots }
     {
-        let seat = self.seats.come(item.part.job, self.chain.len());
-        self.chain.push(item, seat);
+        let slot = self.slots.come(item.part.job, self.chain.len());
+        self.chain.push(item, slot);
     }
 
     /// The place of the entry of a job, where one stays.
@@ -111,7 +114,7 @@ impl Log {
     pub fn place_of(&self, job: JobId) -> Option<u32>
         ensures { MatchOption result (IsAbsent self.now.entries job) (IsPlaceOf self.now.entries job) }
     {
-        let at = self.seats.place_of(job)?;
+        let at = self.slots.place_of(job)?;
         if self.is_at(job, at) { Some(at) } else { None }
     }
 
@@ -158,7 +161,7 @@ impl Log {
             → self.new.entries ≡ slice_set self.old.entries at (gone_entry entry) }
         ensures room { self.new.room ≡ self.old.room }
         ensures resources { self.new.resources ≡ self.old.resources }
-        ensures seats { self.new.seats ≡ self.old.seats }
+        ensures slots { self.new.slots ≡ self.old.slots }
     {
         let _ = self.chain.take_out(at);
     }
@@ -170,7 +173,7 @@ impl Log {
             → self.new.entries ≡ slice_set self.old.entries at (done_entry entry) }
         ensures room { self.new.room ≡ self.old.room }
         ensures resources { self.new.resources ≡ self.old.resources }
-        ensures seats { self.new.seats ≡ self.old.seats }
+        ensures slots { self.new.slots ≡ self.old.slots }
     {
         self.chain.finish(at);
     }
@@ -183,17 +186,17 @@ impl Log {
         ensures items { staying self.new.entries ≡ advanced (staying self.old.entries) job place done on }
         ensures room { self.new.room ≡ self.old.room }
         ensures resources { self.new.resources ≡ self.old.resources }
-        ensures seats { self.new.seats ≡ self.old.seats }
+        ensures slots { self.new.slots ≡ self.old.slots }
     {
         let entry = self.chain.take_out(at);
-        self.seats.go_on(job, entry.seat, self.chain.len());
+        self.slots.go_on(job, entry.slot, self.chain.len());
         let part = Part {
             place,
             done,
             ..entry.item.part
         };
         let item = Standing { part, on };
-        self.chain.push(item, entry.seat);
+        self.chain.push(item, entry.slot);
     }
 
     /// The number of entries, also of those that are gone.
@@ -235,6 +238,13 @@ impl Log {
         self.chain.nth(i)
     }
 
+    /// The job of the first part on a resource that is not done, by a table, which is asked for each part.
+    pub fn first_waiting_by(&self, table: &StageTable, on: ResId) -> Option<JobId>
+        ensures { result ≡ option_map (λ part. part.job) (find (is_waiting_on table.now on.0) (parts_of (staying self.now.entries))) }
+    {
+        self.chain.first_waiting_by(table, on)
+    }
+
     /// The parts that stay, in their order, by one walk.
     pub fn listed(&self, alloc: Global) -> Result<List<Part>, NoMemory>
         ensures { IfOk result (λ parts. parts ≡ parts_of (staying self.now.entries)) }
@@ -242,11 +252,11 @@ impl Log {
         self.chain.listed(alloc)
     }
 
-    /// Whether no seat is left for one job more.
-    pub fn is_seated_out(&self) -> bool
-        ensures { result ≡ nat_le self.now.seats self.now.given }
+    /// Whether no slot is left for one job more.
+    pub fn has_no_slot(&self) -> bool
+        ensures { result ≡ nat_le self.now.slots self.now.given }
     {
-        self.seats.is_full()
+        self.slots.is_full()
     }
 
     /// Only the entries that stay, in their order. It takes no memory.
@@ -256,25 +266,25 @@ impl Log {
         ensures room { self.new.room ≡ self.old.room }
         ensures resources { self.new.resources ≡ self.old.resources }
         ensures given { self.new.given ≡ self.old.given }
-        ensures seats { self.new.seats ≡ self.old.seats }
+        ensures slots { self.new.slots ≡ self.old.slots }
     {
         self.chain.compact();
-        place_again(&self.chain, &mut self.seats);
+        place_again(&self.chain, &mut self.slots);
     }
 
-    /// The entries, which all stay, take the first seats. It takes no memory.
-    pub fn seat_again(&mut self)
+    /// The entries, which all stay, take the first slots. It takes no memory.
+    pub fn reassign_slots(&mut self)
         requires stay { All (λ entry. entry.stays ≡ true) self.old.entries }
         requires distinct { HaveDistinctJobs (parts_of (staying self.old.entries)) }
-        requires few { length self.old.entries ≤ self.old.seats }
+        requires few { length self.old.entries ≤ self.old.slots }
         ensures items { staying self.new.entries ≡ staying self.old.entries }
         ensures length { length self.new.entries ≡ length self.old.entries }
         ensures room { self.new.room ≡ self.old.room }
         ensures resources { self.new.resources ≡ self.old.resources }
         ensures given { self.new.given ≡ length self.old.entries }
-        ensures seats { self.new.seats ≡ self.old.seats }
+        ensures slots { self.new.slots ≡ self.old.slots }
     {
-        self.seats.clear();
-        seat_again(&mut self.chain, &mut self.seats);
+        self.slots.clear();
+        reassign_slots(&mut self.chain, &mut self.slots);
     }
 }

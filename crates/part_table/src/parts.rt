@@ -1,26 +1,24 @@
 //! The table of parts.
-ghost use Rattle.std.specs.Prelude.{◌≡◌, ◌+◌, ◌<◌, ◌≤◌, ◌==◌, true, false, [], ◌∷◌, ◌++◌, length, Some, slice_get, find, IfOk};
+ghost use Rattle.std.specs.Prelude.{◌≡◌, ◌+◌, ◌<◌, ◌≤◌, ◌==◌, true, false, [], ◌∷◌, ◌++◌, length, Some, None, slice_get, find, IfOk, IfSome};
 ghost use Rattle.std.specs.Option.{option_map, ForSome};
-ghost use Rattle.cell_base.specs.Stages.{stage, stage_of, resource_at};
 ghost use Rattle.cell_base.specs.Policy.{is_of_job, is_loaded, HaveDistinctJobs};
 ghost use Rattle.cell_base.specs.Outcomes.{part_of, without, is_waiting_on, finish_first};
 ghost use Rattle.cell_base.specs.Plans.{resource_of_part};
-ghost use Rattle.cell_base.specs.declared.limits.TheConstants.{MAX_RESOURCES, MAX_UNITS};
+ghost use Rattle.cell_base.specs.declared.limits.TheConstants.{MAX_RESOURCES};
 ghost use Rattle.part_table.specs.Parts.{gone_on};
 
 use crate::arrivals::Arrivals;
-use crate::found::{Clue, Found};
-use cell_base::{Cell, JobId, List, NoMemory, Part, ResId};
+use crate::found::Found;
+use crate::lanes::Lanes;
+use cell_base::{JobId, List, MAX_RESOURCES, NoMemory, Part, ResId};
+use route_table::StageTable;
 use std::alloc::Global;
 use std::marker::Model;
-use std::sync::Arc;
 
-/// The parts of a cell in the order of arrival at their present stages. Their jobs differ, and the resource that was told of a part is
-/// the one of its stage.
+/// Parts of different jobs in the order of arrival at their present stages. Where they are told of a cell they find the first ones of
+/// each of its resources at once.
 pub struct Parts {
-    /// The cell, which contracts alone read and others hold too. (A `Snapshot` of it would have no bytes, but beside the seats of a
-    /// durable cell it leaves `Send` unproved.)
-    cell: Arc<Cell, Global>,
+    lanes: Lanes,
     arrivals: Arrivals,
 }
 
@@ -28,38 +26,47 @@ pub struct Parts {
 impl Drop for Parts {
     fn drop(self) {
         let Parts {
-            cell: _,
+            lanes: _,
             arrivals: _,
         } = self;
     }
 }
 
 impl Model for Parts {
-    ghost use Rattle.std.specs.Prelude.{◌≡◌, length};
-    ghost use Rattle.std.specs.Arc.{arc_value};
+    ghost use Rattle.std.specs.Prelude.{◌≡◌};
+    ghost use Rattle.std.specs.Option.{ForSome};
+    ghost use Rattle.cell_base.specs.declared.limits.TheConstants.{MAX_RESOURCES};
     ghost use Rattle.part_table.specs.Standings.{parts_of, AreOn};
     ghost use Rattle.part_table.specs.Parts.{Table};
 
     ghost Value = { Table };
 
-    ghost view = { λ s. record { cell = arc_value s.cell; parts = parts_of s.arrivals.items; spare = s.arrivals.spare } };
+    ghost view = { λ s. record { told = s.lanes; parts = parts_of s.arrivals.items; spare = s.arrivals.spare } };
 
-    ghost invariant = { λ s. AreOn (arc_value s.cell) s.arrivals.items × (s.arrivals.resources ≡ length (arc_value s.cell).resources) };
+    ghost invariant = { λ s. ForSome s.lanes (λ cell. AreOn cell s.arrivals.items) × (s.arrivals.resources ≡ MAX_RESOURCES) };
 }
 
 impl Parts {
-    ghost use Rattle.std.specs.Arc.{arc_value};
-
-    /// An empty table of a cell with room for at least `n` parts.
-    pub fn with_room(alloc: Global, cell: Arc<Cell, Global>, n: u32) -> Result<Parts, NoMemory>
-        requires few { length (arc_value cell).resources ≤ MAX_RESOURCES }
-        requires room { n ≤ MAX_UNITS }
-        ensures cell { IfOk result (λ table. table.cell ≡ arc_value cell) }
+    /// No parts, and room for at least `n`. They are told of no cell.
+    pub fn with_room(alloc: Global, n: u32) -> Result<Parts, NoMemory>
+        ensures untold { IfOk result (λ table. table.told ≡ None) }
         ensures empty { IfOk result (λ table. table.parts ≡ []) }
         ensures spare { IfOk result (λ table. n ≤ table.spare) }
     {
-        let arrivals = Arrivals::with_room(alloc, cell.resources.len() as u16, n)?;
-        Ok(Parts { cell, arrivals })
+        let arrivals = Arrivals::with_room(alloc, MAX_RESOURCES as u16, n)?;
+        Ok(Parts {
+            lanes: Lanes::none(alloc),
+            arrivals,
+        })
+    }
+
+    /// The table is told of a cell before its first part comes. It finds the first parts of each resource at once from then on.
+    pub fn told_of(mut self, alloc: Global, table: &StageTable) -> Result<Parts, NoMemory>
+        requires empty { self.parts ≡ [] }
+        ensures { IfOk result (λ told. told ≡ record self { told = Some table.now }) }
+    {
+        self.lanes = Lanes::of(alloc, table)?;
+        Ok(self)
     }
 
     /// The part of a job.
@@ -73,7 +80,7 @@ impl Parts {
         }
     }
 
-    /// The part of a job, with a clue to it.
+    /// The part of a job, with a hint to it.
     #[inline(always)]
     pub fn find(&self, job: JobId) -> Option<Found>
         ensures part { option_map (λ found. found.part) result ≡ part_of self.now.parts job }
@@ -111,69 +118,61 @@ impl Parts {
         self.arrivals.spare()
     }
 
-    /// The job of the first part on a resource that is not done.
-    pub fn first_waiting(&self, on: ResId) -> Option<JobId>
-        requires { on.0 < length self.now.cell.resources }
-        ensures { result ≡ option_map (λ part. part.job) (find (is_waiting_on self.now.cell on.0) self.now.parts) }
+    /// The job of the first part on a resource that is not done. A table that was told of no cell walks all its parts.
+    pub fn first_waiting(&self, table: &StageTable, on: ResId) -> Option<JobId>
+        requires told { IfSome self.now.told (λ cell. cell ≡ table.now) }
+        ensures { result ≡ option_map (λ part. part.job) (find (is_waiting_on table.now on.0) self.now.parts) }
     {
-        self.arrivals.first_waiting(on)
-    }
-
-    /// The first part on a resource.
-    pub fn first_on(&self, on: ResId) -> Option<Part>
-        requires { on.0 < length self.now.cell.resources }
-        ensures { result ≡ find (λ part. resource_of_part self.now.cell part == on.0) self.now.parts }
-    {
-        match self.find_on(on) {
-            Some(found) => Some(found.part),
-            None => None,
+        if self.lanes.are_told() && u64::from(on.0) < MAX_RESOURCES {
+            self.arrivals.first_waiting(on)
+        } else {
+            self.arrivals.first_waiting_by(table, on)
         }
     }
 
-    /// The first part on a resource, with a clue to it.
+    /// The first part on a resource of the cell of which the table was told, with a hint to it.
     pub fn find_on(&self, on: ResId) -> Option<Found>
-        requires { on.0 < length self.now.cell.resources }
-        ensures { option_map (λ found. found.part) result
-            ≡ find (λ part. resource_of_part self.now.cell part == on.0) self.now.parts }
+        requires { on.0 < MAX_RESOURCES }
+        ensures { ForSome self.now.told (λ cell. option_map (λ found. found.part) result
+            ≡ find (λ part. resource_of_part cell part == on.0) self.now.parts) }
     {
         self.arrivals.first_on(on)
     }
 
-    /// A new part, after all others. It is told on which resource it stands.
-    pub fn arrive(&mut self, part: Part, on: ResId)
+    /// A new part, after all others.
+    pub fn arrive(&mut self, part: Part)
         requires absent { is_loaded self.old.parts part.job ≡ false }
-        requires on { on.0 ≡ resource_at self.old.cell (stage_of part) }
-        requires within { on.0 < length self.old.cell.resources }
         requires room { 0 < self.old.spare }
         ensures parts { self.new.parts ≡ self.old.parts ++ part ∷ [] }
         ensures spare { self.new.spare + 1 ≡ self.old.spare }
-        ensures cell { self.new.cell ≡ self.old.cell }
+        ensures told { self.new.told ≡ self.old.told }
     {
+        let on = self.lanes.on(part.kind, part.place);
         self.arrivals.arrive(part, on);
     }
 
-    /// The part of a job goes on to a place, and stands after all others. It is told on which resource it stands then.
-    pub fn advance(&mut self, job: JobId, place: u16, done: bool, on: ResId)
-        requires present { is_loaded self.old.parts job ≡ true }
-        requires on { ForSome (part_of self.old.parts job) (λ part. on.0 ≡ resource_at self.old.cell (stage part.kind.0 place)) }
-        requires within { on.0 < length self.old.cell.resources }
+    /// The part of a job goes on to a place, and stands after all others.
+    pub fn advance(&mut self, job: JobId, place: u16, done: bool)
+        requires { is_loaded self.old.parts job ≡ true }
         ensures parts { self.new.parts ≡ gone_on self.old.parts job place done }
         ensures spare { self.new.spare ≡ self.old.spare }
-        ensures cell { self.new.cell ≡ self.old.cell }
+        ensures told { self.new.told ≡ self.old.told }
     {
-        self.advance_near(Clue::NONE, job, place, done, on);
+        if let Some(found) = self.find(job) {
+            self.advance_found(found, place, done);
+        }
     }
 
-    /// The same with a clue, by which the part is found without a look-up of its job.
-    pub fn advance_near(&mut self, clue: Clue, job: JobId, place: u16, done: bool, on: ResId)
-        requires present { is_loaded self.old.parts job ≡ true }
-        requires on { ForSome (part_of self.old.parts job) (λ part. on.0 ≡ resource_at self.old.cell (stage part.kind.0 place)) }
-        requires within { on.0 < length self.old.cell.resources }
-        ensures parts { self.new.parts ≡ gone_on self.old.parts job place done }
+    /// The same of a part that was found, without a look-up of its job.
+    pub fn advance_found(&mut self, found: Found, place: u16, done: bool)
+        requires { part_of self.old.parts found.part.job ≡ Some found.part }
+        ensures parts { self.new.parts ≡ gone_on self.old.parts found.part.job place done }
         ensures spare { self.new.spare ≡ self.old.spare }
-        ensures cell { self.new.cell ≡ self.old.cell }
+        ensures told { self.new.told ≡ self.old.told }
     {
-        self.arrivals.advance(job, clue, place, done, on);
+        let on = self.lanes.on(found.part.kind, place);
+        self.arrivals
+            .advance(found.part.job, found.hint, place, done, on);
     }
 
     /// The work on the part of a job is done. It keeps its place in the order.
@@ -184,11 +183,14 @@ impl Parts {
         self.arrivals.finish(job);
     }
 
-    /// The work on the first part on a resource that is not done, if there is one. The part keeps its place in the order. Gives its job.
+    /// The work on the first part that is not done on a resource of the cell of which the table was told, if there is one. The part keeps
+    /// its place in the order. Gives its job.
     pub fn finish_first(&mut self, on: ResId) -> Option<JobId>
-        requires { on.0 < length self.old.cell.resources }
-        ensures job { result ≡ option_map (λ part. part.job) (find (is_waiting_on self.old.cell on.0) self.old.parts) }
-        ensures table { self.new ≡ record self.old { parts = finish_first (is_waiting_on self.old.cell on.0) self.old.parts } }
+        requires { on.0 < MAX_RESOURCES }
+        ensures job { ForSome self.old.told (λ cell.
+            result ≡ option_map (λ part. part.job) (find (is_waiting_on cell on.0) self.old.parts)) }
+        ensures table { ForSome self.old.told (λ cell.
+            self.new ≡ record self.old { parts = finish_first (is_waiting_on cell on.0) self.old.parts }) }
     {
         self.arrivals.finish_first(on)
     }
@@ -198,18 +200,20 @@ impl Parts {
         requires { is_loaded self.old.parts job ≡ true }
         ensures parts { self.new.parts ≡ without self.old.parts job }
         ensures spare { self.new.spare ≡ self.old.spare + 1 }
-        ensures cell { self.new.cell ≡ self.old.cell }
+        ensures told { self.new.told ≡ self.old.told }
     {
-        self.depart_near(Clue::NONE, job);
+        if let Some(found) = self.find(job) {
+            self.depart_found(found);
+        }
     }
 
-    /// The same with a clue, by which the part is found without a look-up of its job.
-    pub fn depart_near(&mut self, clue: Clue, job: JobId)
-        requires { is_loaded self.old.parts job ≡ true }
-        ensures parts { self.new.parts ≡ without self.old.parts job }
+    /// The same of a part that was found, without a look-up of its job.
+    pub fn depart_found(&mut self, found: Found)
+        requires { part_of self.old.parts found.part.job ≡ Some found.part }
+        ensures parts { self.new.parts ≡ without self.old.parts found.part.job }
         ensures spare { self.new.spare ≡ self.old.spare + 1 }
-        ensures cell { self.new.cell ≡ self.old.cell }
+        ensures told { self.new.told ≡ self.old.told }
     {
-        self.arrivals.depart(job, clue);
+        self.arrivals.depart(found.part.job, found.hint);
     }
 }

@@ -8,10 +8,10 @@ pub struct Standing {
     pub on: ResId,
 }
 
-/// A part as it came, whether it still stands so, and the seat of its job.
+/// A part as it came, whether it still stands so, and the slot of its job.
 #[derive(Clone, Copy, Debug, PartialEq, Eq)]
 pub struct Entry {
     pub item: Standing,
     pub stays: bool,
-    pub seat: u32,
+    pub slot: u32,
 }

@@ -1,5 +1,5 @@
 -- No part is counted, and there is room for as many as there are units.
-use Rattle.std.proofs.Common.{◌≡◌, ℕ, ◌<◌, List, [], length, map, get_or, ap, subst, sym, ◌∙◌, arith}
+use Rattle.std.proofs.Common.{◌≡◌, ℕ, ◌<◌, Some, List, [], length, map, get_or, ap, subst, sym, ◌∙◌, arith}
 use Rattle.std.specs.Option.{option_map_or}
 use Rattle.std.proofs.lemmas.List.{length-map, get_or-map, take_all}
 use Rattle.std.proofs.lemmas.Option.{slice_get-get_or}
@@ -8,6 +8,7 @@ use Rattle.cell_base.specs.declared.cells.Resource.{Resource}
 use Rattle.cell_base.specs.declared.requests.Part.{Part}
 use Rattle.cell_base.specs.Stages.{capacity_of}
 use Rattle.cell_base.specs.Plans.{work}
+use Rattle.part_table.specs.Parts.{Table}
 use Rattle.admission_core.specs.CoreState.{AreCounts}
 use Rattle.admission_core.proofs.admission.no_parts.Goals as goal
 
@@ -27,10 +28,10 @@ returns-clause-tallied c =
     (omega (arith, ap length c.as_slice-resource-items.ensures))) in
     let complete : length c.in_ok-counts.counts.counts ≡ length cell.resources =
     c.in_ok-counts.ensures.length ∙ ap length all ∙ length-map cell.resources (λ (r : Resource). r.capacity) in
-    let none = c.in_ok-parts.ensures.empty in
+    let none = ap (λ (table : Table). table.parts) c.in_ok-parts.ensures ∙ c.in_ok-with_room.ensures.empty in
     rw (← c.cell-cell.ensures.value) (record {
-      same_cell = c.in_ok-parts.ensures.cell ∙ c.in_ok-shared.ensures ∙ sym c.cell-cell.ensures.value;
-      enough = omega (arith, c.in_ok-parts.ensures.spare, c.units.ensures);
+      same_cell = ap (λ (table : Table). table.told) c.in_ok-parts.ensures ∙ ap Some (sym c.cell-cell.ensures.value);
+      enough = omega (arith, ap (λ (table : Table). table.spare) c.in_ok-parts.ensures, c.in_ok-with_room.ensures.spare, c.units.ensures);
       counts = subst (λ (parts : List Part). AreCounts cell parts c.in_ok-counts.counts) (sym none) (record {
         complete = complete;
         each = λ r h. c.in_ok-counts.ensures.zero r;

@@ -2,7 +2,7 @@
 use Rattle.std.proofs.Common.{ap, sym, ◌∙◌}
 use Rattle.std.specs.Option.{option_map}
 use Rattle.part_table.specs.declared.found.Found.{Found}
-use Rattle.admission_core.proofs.Moving.{found_of_job}
+use Rattle.part_table.proofs.Finding.{found_of_job}
 use Rattle.admission_core.proofs.asking.ask.Goals as goal
 
 pub ask_to_move-requires-clause-found : goal.ask_to_move-requires-clause-found

@@ -62,7 +62,7 @@ returns-clause-tallied c =
     let tallied = c.requires.sound.tallied in
     let now : c.arrive.new.self.parts ≡ parts ++ c.args.part ∷ [] = c.arrive.ensures.parts in
     record {
-      same_cell = c.arrive.ensures.cell ∙ tallied.same_cell;
+      same_cell = c.arrive.ensures.told ∙ tallied.same_cell;
       enough = omega (
         arith,
         tallied.enough,

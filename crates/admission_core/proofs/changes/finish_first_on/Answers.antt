@@ -1,10 +1,8 @@
 -- The first part that waits is done, and needs one step less.
-use Rattle.std.proofs.Common.{◌≡◌, ℕ, ◌+◌, ◌-◌, false, Option, not, ◌==◌, Some, None, find, List, length, ap, subst, sym, ◌∙◌, arith}
-use Rattle.std.specs.Option.{option_map}
+use Rattle.std.proofs.Common.{◌≡◌, ℕ, ◌+◌, ◌-◌, false, not, ◌==◌, None, find, List, length, ap, subst, sym, ◌∙◌, arith}
 use Rattle.std.proofs.lemmas.Bool.{and_parts, not-true}
 use Rattle.cell_base.specs.declared.cells.Cell.{Cell}
 use Rattle.cell_base.specs.declared.cells.ResId.{ResId}
-use Rattle.cell_base.specs.declared.requests.JobId.{JobId}
 use Rattle.cell_base.specs.declared.requests.Part.{Part}
 use Rattle.cell_base.specs.Stages.{stage_of, resource_at}
 use Rattle.cell_base.specs.Outcomes.{is_waiting_on, finish_first}
@@ -22,30 +20,18 @@ use Rattle.admission_core.proofs.changes.finish_first_on.Goals as goal
 
 pub finish_first-requires : goal.finish_first-requires
 finish_first-requires c =
-    omega (arith, c.requires.machine, ap (λ (cell : Cell). length cell.resources) c.requires.sound.tallied.same_cell)
+    omega (arith, c.requires.machine, c.requires.sound.fits.resource_count.1)
 
 module _ (cell : Cell) (before : Tally) (sound : IsSound cell before) (machine : ResId) where
-  -- the first part that waits, by the cell
-  waits : (job : Option JobId)
-      → job ≡ option_map (λ (part : Part). part.job) (find (is_waiting_on before.parts.cell machine.0) before.parts.parts)
-      → job ≡ option_map (λ (part : Part). part.job) (find (is_waiting_on cell machine.0) before.parts.parts)
-  waits job found =
-      found
-      ∙ ap (λ (cell : Cell). option_map (λ (part : Part). part.job) (find (is_waiting_on cell machine.0) before.parts.parts))
-      sound.tallied.same_cell
-
-  module _ (new : Table)
-      (change : new ≡ record before.parts { parts = finish_first (is_waiting_on before.parts.cell machine.0) before.parts.parts }) where
+  module _ (new : Table) (change : new ≡ record before.parts { parts = finish_first (is_waiting_on cell machine.0) before.parts.parts }) where
     -- the parts after the work
     now : new.parts ≡ finish_first (is_waiting_on cell machine.0) before.parts.parts
-    now =
-        ap (λ (table : Table). table.parts) change
-        ∙ ap (λ (cell : Cell). finish_first (is_waiting_on cell machine.0) before.parts.parts) sound.tallied.same_cell
+    now = ap (λ (table : Table). table.parts) change
 
     -- what goes along with them
     tallied : (left : ℕ) → left ≡ work cell new.parts → IsTallied cell (record before { parts = new; work = left })
     tallied left is = record {
-      same_cell = ap (λ (table : Table). table.cell) change ∙ sound.tallied.same_cell;
+      same_cell = ap (λ (table : Table). table.told) change ∙ sound.tallied.same_cell;
       enough = omega (
         arith,
         sound.tallied.enough,
@@ -65,7 +51,7 @@ overflow_sub-tally c =
     let sound = c.requires.sound in
     let test = is_waiting_on cell c.args.machine.0 in
     let first = some_job (find test before.parts.parts) c.in-Some.field-0
-    (waits cell before sound c.args.machine (Some c.in-Some.field-0) c.in-Some.ensures.job) in
+    (c.in-Some.ensures.job cell sound.tallied.same_cell) in
     omega (
       arith,
       sound.tallied.work,
@@ -81,15 +67,15 @@ returns-in-Some-clause-tallied c =
     let sound = c.requires.sound in
     let test = is_waiting_on cell c.args.machine.0 in
     let first = some_job (find test before.parts.parts) c.in-Some.field-0
-    (waits cell before sound c.args.machine (Some c.in-Some.field-0) c.in-Some.ensures.job) in
+    (c.in-Some.ensures.job cell sound.tallied.same_cell) in
     let undone : first.0.done ≡ false =
     not-true _ (and_parts (not first.0.done) (resource_at cell (stage_of first.0) == c.args.machine.0)
     (find_passes test before.parts.parts first.0 first.1)).0 in
     let less : work cell c.finish_first.new.self.parts + 1 ≡ before.work =
-    ap (λ parts. work cell parts + 1) (now cell before sound c.args.machine c.finish_first.new.self c.in-Some.ensures.table)
+    ap (λ parts. work cell parts + 1) (now cell before sound c.args.machine c.finish_first.new.self (c.in-Some.ensures.table cell sound.tallied.same_cell))
     ∙ work_finished cell sound.fits before.parts.parts test first.0 first.1 undone
     ∙ sym sound.tallied.work in
-    tallied cell before sound c.args.machine c.finish_first.new.self c.in-Some.ensures.table (before.work - 1) (omega (arith, less))
+    tallied cell before sound c.args.machine c.finish_first.new.self (c.in-Some.ensures.table cell sound.tallied.same_cell) (before.work - 1) (omega (arith, less))
 
 pub returns-in_default-clause-tallied : goal.returns-in_default-clause-tallied
 returns-in_default-clause-tallied c =
@@ -97,10 +83,11 @@ returns-in_default-clause-tallied c =
     let before = c.args.tally.now in
     let sound = c.requires.sound in
     let test = is_waiting_on cell c.args.machine.0 in
-    let found = waits cell before sound c.args.machine c.finish_first.result c.finish_first.ensures.job in
+    let found = c.finish_first.ensures.job cell sound.tallied.same_cell in
+    let table = c.finish_first.ensures.table cell sound.tallied.same_cell in
     let nobody : find test before.parts.parts ≡ None = no_job (find test before.parts.parts) (sym c.in_default.is ∙ found) in
     let same : before.parts.parts ≡ c.finish_first.new.self.parts =
-    sym (now cell before sound c.args.machine c.finish_first.new.self c.finish_first.ensures.table
+    sym (now cell before sound c.args.machine c.finish_first.new.self table
     ∙ finish_first-none test before.parts.parts nobody) in
-    tallied cell before sound c.args.machine c.finish_first.new.self c.finish_first.ensures.table before.work
+    tallied cell before sound c.args.machine c.finish_first.new.self table before.work
     (sound.tallied.work ∙ ap (work cell) same)

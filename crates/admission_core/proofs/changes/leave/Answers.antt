@@ -5,7 +5,8 @@ use Rattle.cell_base.specs.Outcomes.{without}
 use Rattle.part_table.specs.declared.found.Found.{Found}
 use Rattle.policy_laws.proofs.Granting.{without-absent}
 use Rattle.policy_laws.proofs.Parts.{part_of-found}
-use Rattle.admission_core.proofs.Moving.{found_of_job, not_found, none_left}
+use Rattle.part_table.proofs.Finding.{found_of_job, not_found}
+use Rattle.admission_core.proofs.Moving.{none_left}
 use Rattle.admission_core.proofs.changes.leave.Goals as goal
 
 pub send_out-requires-clause-found : goal.send_out-requires-clause-found

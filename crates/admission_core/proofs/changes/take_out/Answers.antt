@@ -29,10 +29,8 @@ leave-requires-clause-held c =
     (mask_held c.args.table.now sound.fits c.args.tally.now.counts parts sound.tallied.counts c.args.found.part c.args.found.part
     sound.admitted.state.distinct stands)
 
-pub depart_near-requires : goal.depart_near-requires
-depart_near-requires c =
-    (part_known c.args.table.now c.args.tally.now.parts.parts c.args.found.part.job c.args.found.part c.requires.sound.admitted
-    c.requires.found).loaded
+pub depart_found-requires : goal.depart_found-requires
+depart_found-requires c = c.requires.found
 
 pub overflow_sub-tally : goal.overflow_sub-tally
 overflow_sub-tally c =
@@ -49,7 +47,7 @@ overflow_sub-tally c =
 
 pub returns-clause-parts : goal.returns-clause-parts
 returns-clause-parts c =
-    c.depart_near.ensures.parts
+    c.depart_found.ensures.parts
 
 pub returns-clause-tallied : goal.returns-clause-tallied
 returns-clause-tallied c =
@@ -60,13 +58,13 @@ returns-clause-tallied c =
     let part = c.args.found.part in
     let distinct = sound.admitted.state.distinct in
     let here = part_known cell parts part.job part sound.admitted c.requires.found in
-    let now : c.depart_near.new.self.parts ≡ without parts part.job = c.depart_near.ensures.parts in
+    let now : c.depart_found.new.self.parts ≡ without parts part.job = c.depart_found.ensures.parts in
     record {
-      same_cell = c.depart_near.ensures.cell ∙ tallied.same_cell;
+      same_cell = c.depart_found.ensures.told ∙ tallied.same_cell;
       enough = omega (
         arith,
         tallied.enough,
-        c.depart_near.ensures.spare,
+        c.depart_found.ensures.spare,
         ap length now,
         length-without parts part.job distinct here.loaded,
       );

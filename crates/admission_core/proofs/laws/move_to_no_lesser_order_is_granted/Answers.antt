@@ -4,6 +4,6 @@ use Rattle.admission_core.proofs.laws.move_to_no_lesser_order_is_granted.Goals a
 
 pub returns : goal.returns
 returns c part to may order =
-    (move_law c.args.core.now.cell c.cell-cell.ensures.fits c.args.core.now.parts c.cell-cell.ensures.admitted c.args.job
+    (move_law c.args.core.now.cell c.core_law.ensures.fits c.args.core.now.parts c.core_law.ensures.admitted c.args.job
     c.args.branch part to may
     order).granted

@@ -3,7 +3,6 @@ use Rattle.std.proofs.Common.{◌≡◌, ◌==◌, ◌<◌, length, find, Some, 
 use Rattle.std.specs.Int.{trailing_zeros}
 use Rattle.std.specs.Option.{option_map}
 use Rattle.std.proofs.lemmas.Option.{get_or_from_slice_get}
-use Rattle.cell_base.specs.declared.cells.Cell.{Cell}
 use Rattle.cell_base.specs.declared.cells.ResId.{ResId}
 use Rattle.cell_base.specs.Plans.{resource_of_part}
 use Rattle.part_table.specs.declared.found.Found.{Found}
@@ -36,9 +35,7 @@ loop-left-preserved c =
     (λ d within.
     ap (λ (q : ResId). find (λ part. resource_of_part c.args.table.now part == q.0) c.args.tally.now.parts.parts)
     (get_or_from_slice_get marked.ranks (trailing_zeros w64 c.loop-left.left) c.at.result d c.at.ensures)
-    ∙ ap (λ (cell : Cell). find (λ part. resource_of_part cell part == c.at.result.0) c.args.tally.now.parts.parts)
-    (sym c.requires.sound.tallied.same_cell)
-    ∙ sym c.find_on.ensures
+    ∙ sym (c.find_on.ensures cell c.requires.sound.tallied.same_cell)
     ∙ ap (option_map (λ (found : Found). found.part)) (none_left c.find_on.result c.in_default.not-Some))
 
 pub returns-in-Some : goal.returns-in-Some
@@ -52,9 +49,8 @@ returns-in-Some c =
     (subst (IsOfRanks c.args.occupied.now.ranks) c.mask-left.ensures.value c.mask-left.ensures.of_ranks) in
     let first : find (λ part. resource_of_part c.args.table.now part == c.at.result.0) c.args.tally.now.parts.parts
     ≡ Some c.in-Some.found.part =
-    ap (λ (cell : Cell). find (λ part. resource_of_part cell part == c.at.result.0) c.args.tally.now.parts.parts)
-    (sym c.requires.sound.tallied.same_cell)
-    ∙ sym c.find_on.ensures ∙ ap (option_map (λ (found : Found). found.part)) c.in-Some.is in
+    sym (c.find_on.ensures cell c.requires.sound.tallied.same_cell)
+    ∙ ap (option_map (λ (found : Found). found.part)) c.in-Some.is in
     sym
     (picked cell c.requires.sound.fits marked.ranks c.requires.marked.ranking parts c.requires.sound.admitted.state.standing rank
     c.at.result within (get_or_from_slice_get marked.ranks rank c.at.result c.at.result c.at.ensures)

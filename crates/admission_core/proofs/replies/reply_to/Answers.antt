@@ -1,6 +1,7 @@
 -- A part of the state is that of its job, and stands at a stage.
 use Rattle.std.proofs.Common.{sym, ◌∙◌}
-use Rattle.admission_core.proofs.Moving.{found_of_job, part_known}
+use Rattle.part_table.proofs.Finding.{found_of_job}
+use Rattle.admission_core.proofs.Moving.{part_known}
 use Rattle.admission_core.proofs.replies.reply_to.Goals as goal
 
 pub reply_to_move-requires-clause-found : goal.reply_to_move-requires-clause-found

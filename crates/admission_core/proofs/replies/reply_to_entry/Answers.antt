@@ -4,7 +4,8 @@ use Rattle.cell_base.specs.Policy.{is_loaded}
 use Rattle.cell_base.specs.Stages.{stage_of}
 use Rattle.neighborhood_counts.specs.Counts.{IsMaskOf, first_full}
 use Rattle.admission_core.specs.Replies.{reply_at}
-use Rattle.admission_core.proofs.Moving.{part_known, not_found, admit_reply}
+use Rattle.part_table.proofs.Finding.{not_found}
+use Rattle.admission_core.proofs.Moving.{part_known, admit_reply}
 use Rattle.admission_core.proofs.Saturating.{mask_is_of, entry_over}
 use Rattle.admission_core.proofs.replies.reply_to_entry.Goals as goal
 

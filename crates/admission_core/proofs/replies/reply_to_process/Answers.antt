@@ -1,5 +1,5 @@
 -- A part is found exactly where one waits.
-use Rattle.std.proofs.Common.{◌≡◌, ℕ, List, true, false, refl, length, find, ap, sym, ◌∙◌, arith}
+use Rattle.std.proofs.Common.{◌≡◌, ℕ, List, true, false, refl, find, ap, sym, ◌∙◌}
 use Rattle.std.specs.List.{list_any}
 use Rattle.std.specs.Option.{option_map}
 use Rattle.cell_base.specs.declared.cells.Cell.{Cell}
@@ -9,8 +9,7 @@ use Rattle.admission_core.proofs.Moving.{some_job, no_job, any_found, none_found
 use Rattle.admission_core.proofs.replies.reply_to_process.Goals as goal
 
 pub first_waiting-requires : goal.first_waiting-requires
-first_waiting-requires c =
-    omega (arith, c.requires.machine, ap (λ (cell : Cell). length cell.resources) c.requires.sound.tallied.same_cell)
+first_waiting-requires c = rw c.requires.sound.tallied.same_cell (record { told = sym c.stages.ensures })
 
 -- what is found in a cell is found in the same cell
 found : {cell same : Cell} (r : ℕ) (parts : List Part) → cell ≡ same
@@ -23,8 +22,7 @@ pub returns-in-Some : goal.returns-in-Some
 returns-in-Some c =
     let test = is_waiting_on c.args.table.now c.args.machine.0 in
     let parts = c.args.tally.now.parts.parts in
-    let same = found c.args.machine.0 parts c.requires.sound.tallied.same_cell in
-    let some = some_job (find test parts) c.in-Some.field-0 (sym c.in-Some.is ∙ c.first_waiting.ensures ∙ same) in
+    let some = some_job (find test parts) c.in-Some.field-0 (sym c.in-Some.is ∙ c.first_waiting.ensures ∙ found c.args.machine.0 parts c.stages.ensures) in
     let waits : list_any test parts ≡ true = any_found test parts some.0 some.1 in
     rw waits refl
 
@@ -32,7 +30,6 @@ pub returns-in-None : goal.returns-in-None
 returns-in-None c =
     let test = is_waiting_on c.args.table.now c.args.machine.0 in
     let parts = c.args.tally.now.parts.parts in
-    let same = found c.args.machine.0 parts c.requires.sound.tallied.same_cell in
     let idle : list_any test parts ≡ false =
-    none_found test parts (no_job (find test parts) (sym c.in-None.is ∙ c.first_waiting.ensures ∙ same)) in
+    none_found test parts (no_job (find test parts) (sym c.in-None.is ∙ c.first_waiting.ensures ∙ found c.args.machine.0 parts c.stages.ensures)) in
     rw idle refl

@@ -15,8 +15,8 @@ returns-clause-chained c =
     let long = subst (λ l. c.args.at < l) (sym (length-map links (λ (link : Link). link.next))) c.requires.inside in
     let found = entry_at (link_entries links) c.args.at inside in
     let is = c.requires.entry found.0 found.1 in
-    let entry : Entry = record { item = c.args.item; stays = true; seat = found.0.seat } in
-    let same : found.0 ≡ entry = λ i. record { item = is.0 i; stays = is.1 i; seat = found.0.seat } in
+    let entry : Entry = record { item = c.args.item; stays = true; slot = found.0.slot } in
+    let same : found.0 ≡ entry = λ i. record { item = is.0 i; stays = is.1 i; slot = found.0.slot } in
     rw (c.lead.ensures.entries, c.lead.ensures.next)
     (chained_joined (link_entries links) (nexts_of links) c.args.ends.now.items c.args.at entry c.index-end.result.now c.with.result
     c.requires.chained (found.1 ∙ ap Some same) refl c.requires.told c.index-end.ensures

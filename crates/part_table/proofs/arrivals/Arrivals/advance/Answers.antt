@@ -23,7 +23,7 @@ invariant_of-self c =
           ∙ sym (ap length after ∙ length_advanced items c.args.job c.args.place c.args.done c.args.on c.self.invariant.distinct present);
       within = c.self.invariant.within;
       fits = omega (arith, c.self.invariant.fits, c.advance.ensures.room, c.make_room.ensures.room);
-      seats = omega (arith, c.self.invariant.seats, c.advance.ensures.seats, c.make_room.ensures.seats);
+      slots = omega (arith, c.self.invariant.slots, c.advance.ensures.slots, c.make_room.ensures.slots);
     }
 
 pub returns-in_default-clause-items : goal.returns-in_default-clause-items

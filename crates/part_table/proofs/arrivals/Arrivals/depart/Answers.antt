@@ -26,7 +26,7 @@ invariant_of-self c =
       );
       within = omega (arith, c.self.invariant.within);
       fits = omega (arith, c.self.invariant.fits, c.take_out.ensures.room);
-      seats = omega (arith, c.self.invariant.seats, c.take_out.ensures.seats);
+      slots = omega (arith, c.self.invariant.slots, c.take_out.ensures.slots);
     }
 
 pub returns-in-Some-clause-items : goal.returns-in-Some-clause-items

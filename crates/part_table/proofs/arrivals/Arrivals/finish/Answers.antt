@@ -21,7 +21,7 @@ invariant_of-self c =
       counted = omega (arith, c.self.invariant.counted, ap length items, length-map (staying entries) (finish c.args.job));
       within = omega (arith, c.self.invariant.within);
       fits = omega (arith, c.self.invariant.fits, c.finish.ensures.room);
-      seats = omega (arith, c.self.invariant.seats, c.finish.ensures.seats);
+      slots = omega (arith, c.self.invariant.slots, c.finish.ensures.slots);
     }
 
 pub returns-in-Some-clause-items : goal.returns-in-Some-clause-items

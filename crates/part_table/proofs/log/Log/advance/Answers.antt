@@ -1,6 +1,6 @@
 -- The entry at the place of the job is gone, and the one after all others is found by the job.
 use Rattle.std.proofs.Common.{◌≡◌, cond, Some, length, length-set, nat_eq, ap, ◌∙◌}
-use Rattle.part_table.specs.Seats.{place_at}
+use Rattle.part_table.specs.Slots.{place_at}
 use Rattle.part_table.specs.Logs.{gone_entry, IsPlaceOf}
 use Rattle.part_table.proofs.Advancing.{places_advanced, staying_advanced}
 use Rattle.part_table.proofs.log.Log.advance.Goals as goal
@@ -13,9 +13,9 @@ invariant_of-self c =
     c.len.ensures ∙ ap length c.take_out-entry.ensures.entries ∙ length-set entries c.args.at (gone_entry c.take_out-entry.result) in
     rw (c.push.ensures.entries, c.take_out-entry.ensures.entries)
     (places_advanced entries c.args.job c.args.at c.take_out-entry.result c.args.place c.args.done c.args.on
-    c.take_out-entry.ensures.entry is c.self.inside.seats c.go_on.new.self c.self.invariant
-    (λ q. c.go_on.ensures.place q ∙ ap (λ n. cond (nat_eq c.args.job.0 q) (Some n) (place_at c.self.inside.seats q)) end)
-    c.go_on.ensures.seats)
+    c.take_out-entry.ensures.entry is c.self.inside.slots c.go_on.new.self c.self.invariant
+    (λ q. c.go_on.ensures.place q ∙ ap (λ n. cond (nat_eq c.args.job.0 q) (Some n) (place_at c.self.inside.slots q)) end)
+    c.go_on.ensures.slots)
 
 pub returns-clause-items : goal.returns-clause-items
 returns-clause-items c =

@@ -17,8 +17,8 @@ place_again-requires-clause-distinct c =
     rw c.compact.ensures.entries
     (subst HaveDistinctJobs (sym (parts_of_entries (filter (λ (x : Entry). x.stays) c.self.inside.chain.entries))) distinct)
 
-pub place_again-requires-clause-seated : goal.place_again-requires-clause-seated
-place_again-requires-clause-seated c k entry e stays =
+pub place_again-requires-clause-slotted : goal.place_again-requires-clause-slotted
+place_again-requires-clause-slotted c k entry e stays =
     let there = get_in_filter (λ (x : Entry). x.stays) c.self.inside.chain.entries k entry
     (ap (λ (xs : List Entry). slice_get xs k) (sym c.compact.ensures.entries) ∙ e) in
-    c.self.invariant.seated there.0 entry there.1 stays
+    c.self.invariant.slotted there.0 entry there.1 stays

@@ -9,4 +9,4 @@ invariant_of-self c =
     let entries = c.self.inside.chain.entries in
     let inside : c.args.at < length c.self.inside.chain.entries = rw (← c.self.view_is) at c.requires in
     let there = entry_at entries c.args.at inside in
-    rw (c.finish.ensures.entries there.0 there.1) (places_done entries c.self.inside.seats c.self.invariant c.args.at there.0 there.1)
+    rw (c.finish.ensures.entries there.0 there.1) (places_done entries c.self.inside.slots c.self.invariant c.args.at there.0 there.1)

@@ -4,7 +4,7 @@ use Rattle.std.proofs.lemmas.Bool.{true≢false, eqb-true, eq-eqb}
 use Rattle.std.proofs.lemmas.Option.{same_Some, slice_get_within}
 use Rattle.cell_base.specs.declared.requests.JobId.{JobId}
 use Rattle.part_table.specs.declared.standing.Entry.{Entry}
-use Rattle.part_table.specs.Seats.{place_at}
+use Rattle.part_table.specs.Slots.{place_at}
 use Rattle.part_table.specs.Logs.{entry_job, IsPlaceOf}
 use Rattle.part_table.proofs.Jobs.{place_staying}
 use Rattle.part_table.proofs.log.Log.is_at.Goals as goal
@@ -14,7 +14,7 @@ returns-then-entry-clause-here c is =
     let entries = c.self.inside.chain.entries in
     rw (← c.self.view_is)
     (subst (λ (n : ℕ). let job : JobId = record { 0 = n } in IsPlaceOf entries job c.args.at) (eqb-true _ _ is)
-    (place_staying entries (place_at c.self.inside.seats) c.self.invariant.placed c.args.at c.get-entry.result c.get-entry.ensures
+    (place_staying entries (place_at c.self.inside.slots) c.self.invariant.placed c.args.at c.get-entry.result c.get-entry.ensures
     c.if-entry.true))
 
 pub returns-then-entry-clause-away : goal.returns-then-entry-clause-away

@@ -9,7 +9,7 @@ use Rattle.part_table.proofs.log.Log.take_out.Goals as goal
 pub invariant_of-self : goal.invariant_of-self
 invariant_of-self c =
     rw (c.take_out.ensures.entries)
-    (places_gone c.self.inside.chain.entries c.self.inside.seats c.self.invariant c.args.at c.take_out.result c.take_out.ensures.entry)
+    (places_gone c.self.inside.chain.entries c.self.inside.slots c.self.invariant c.args.at c.take_out.result c.take_out.ensures.entry)
 
 pub returns-clause-entries : goal.returns-clause-entries
 returns-clause-entries c entry is =

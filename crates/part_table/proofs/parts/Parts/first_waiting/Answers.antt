@@ -1,10 +1,12 @@
 -- The resource that is kept is the one of the stage.
-use Rattle.std.proofs.Common.{◌∙◌}
-use Rattle.std.specs.Arc.{arc_value}
-use Rattle.part_table.proofs.Told.{waiting_job}
+use Rattle.std.proofs.Common.{sym, ◌∙◌}
+use Rattle.part_table.proofs.Told.{waiting_told}
 use Rattle.part_table.proofs.parts.Parts.first_waiting.Goals as goal
 
-pub returns : goal.returns
-returns c =
+pub returns-then-from-lt-MAX_RESOURCES : goal.returns-then-from-lt-MAX_RESOURCES
+returns-then-from-lt-MAX_RESOURCES c =
+    let told = rw (← c.self.view_is) at c.requires.told in
     rw (← c.self.view_is)
-    (c.first_waiting.ensures ∙ waiting_job (arc_value c.self.inside.cell) c.args.on c.self.inside.arrivals.items c.self.invariant.0)
+    (c.first_waiting.ensures
+    ∙ waiting_told c.self.inside.lanes c.args.table.now c.args.on c.self.inside.arrivals.items
+    (sym c.are_told.ensures ∙ c.if-are_told.true) told c.self.invariant.0)
