@@ -5,7 +5,7 @@ use admission_core::Core;
 use cell_base::{
     JobId, List, NoMemory, Refusal, Reply, Request, ResId, TypeId, cell_fits, request_fits,
 };
-use refusal_reason::{explain, laws, resource_line};
+use refusal_reason::{explain, laws, show_text};
 use small_cells::crossing;
 use std::alloc::Global;
 use std::test::Fail;
@@ -53,8 +53,13 @@ fn refusals_are_explained(rt: HostRuntime) -> Result<(), Fail> {
 #[test]
 fn resources_are_shown(rt: HostRuntime) -> Result<(), Fail> {
     let cell = crossing(rt.alloc())?;
-    assert!(rt; 0 < cell.resources.len());
-    let line = resource_line(&cell, ResId(0));
-    assert!(rt; line.bytes() == b"resource M1 capacity 1 order 1\n".as_slice());
+    assert!(rt; cell_fits(&cell));
+    let core = Core::open(rt.alloc(), cell)?;
+    let text = show_text(rt.alloc(), &core)?;
+    let first = b"resource M1 capacity 1 order 1\nstage A 0\nstage Z 1\n";
+    let second = b"resource M2 capacity 1 order 2\nstage A 0\nstage A 1\nstage Z 0\n";
+    assert_eq!(rt; text.len(), (first.len() + second.len()) as u64);
+    assert!(rt; text.as_slice().starts_with(first));
+    assert!(rt; text.as_slice().ends_with(second));
     Ok(())
 }

@@ -6,6 +6,8 @@ use Rattle.cell_base.specs.declared.cells.Cell.{Cell}
 use Rattle.cell_base.specs.Named.{resource_name, type_name}
 use Rattle.cell_base.specs.Stages.{Stage, resource_numbers, capacity_of, order_of}
 use Rattle.cell_base.specs.Neighborhoods.{neighborhood}
+use Rattle.cell_base.specs.Numbers.{stage_numbered}
+use Rattle.route_table.specs.declared.stage_table.StageNo.{StageNo}
 use Rattle.record_text.specs.Lines.{line_of}
 use Rattle.record_text.specs.BadLines.{is_newline}
 
@@ -22,6 +24,10 @@ stage_line cell s = line_of (codes "stage" ∷ type_name cell s.kind ∷ decimal
 -- the lines of the stages, in their order
 abbrev pub stage_lines : Cell → List Stage → List (List ℕ)
 stage_lines cell ss = map (stage_line cell) ss
+
+-- the lines of the stages of these numbers
+abbrev pub member_lines : Cell → List StageNo → List (List ℕ)
+member_lines cell members = map (λ stage. stage_line cell (stage_numbered cell stage.0)) members
 
 -- a resource with its neighborhood
 abbrev pub resource_lines : Cell → ℕ → List (List ℕ)

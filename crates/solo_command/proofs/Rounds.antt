@@ -18,7 +18,7 @@ use Rattle.policy_laws.proofs.States.{IsAdmitted-empty}
 use Rattle.record_text.specs.Fitting.{EntryFits}
 use Rattle.cell_texts.proofs.Fitting.{admitted_after, entries_fit}
 use Rattle.solo_rounds.specs.Asking.{AreAsking}
-use Rattle.solo_rounds.specs.declared.rounds.Rounds.{Rounds}
+use Rattle.solo_rounds.specs.Standing.{Standing}
 use Rattle.solo_rounds.proofs.Ends.{each_trace}
 use Rattle.cell_texts.proofs.Fitted.{Contains-filter, requests_fit}
 
@@ -42,7 +42,7 @@ none_halted (entry ∷ entries) all =
 
 module _ (cell : Cell) (fits : CellFits cell) (shift : Shift) (shift_fits : ShiftFits cell shift) where
   -- the entry that was asked last fits
-  pub last_fits : (core : CoreState) (history : List Entry) (entry : Entry) (at : Rounds) → core.cell ≡ cell
+  pub last_fits : (core : CoreState) (history : List Entry) (entry : Entry) (at : Standing) → core.cell ≡ cell
       → AreAsking shift core [] (history ++ entry ∷ []) at → EntryFits cell entry
   last_fits core history entry at on asking =
       let rounds = asking.underway.rounds in

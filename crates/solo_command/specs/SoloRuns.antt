@@ -12,7 +12,7 @@ use Rattle.cell_texts.specs.Blocks.{history_lines}
 use Rattle.cell_walks.specs.Outcomes.{IsDelivered, done}
 use Rattle.cell_walks.specs.declared.status.Status.{Status}
 use Rattle.solo_rounds.specs.Asking.{AreAsking}
-use Rattle.solo_rounds.specs.declared.rounds.Rounds.{Rounds}
+use Rattle.solo_rounds.specs.Standing.{Standing}
 use Rattle.solo_command.specs.Solo.{IsSoloRecord}
 
 -- a core without parts, and a shift that fits its cell
@@ -29,7 +29,7 @@ pub record ArePrinted (shift : Shift) (core : CoreState) (sink : SinkTold) : Typ
   pub took : TookAll sink (history_lines core.cell shift.number 0 history)
 
 -- the sessions are on their way, and the sink failed at the head or at the line of an entry
-pub record AreBrokenOff (shift : Shift) (core : CoreState) (rounds : Rounds) (sink : SinkTold) : Type 0 where
+pub record AreBrokenOff (shift : Shift) (core : CoreState) (rounds : Standing) (sink : SinkTold) : Type 0 where
   pub history : List Entry
   pub asking : AreAsking shift core [] history rounds
   pub took : TookSome sink (history_lines core.cell shift.number 0 history)

@@ -4,18 +4,29 @@ ghost use Rattle.solo_rounds.specs.Clauses.{Cell, CoreState, Entry, IsRoundRobin
 ghost use Rattle.solo_rounds.specs.Clauses.{Shift, ShiftFits, steps_of};
 ghost use Rattle.solo_rounds.specs.Underway.{AsksStep, CanGoOn, HasEndedAt, HaveEnded, HaveEndedFrom, IsNextGoing, IsUnderway, asks_left};
 ghost use Rattle.solo_rounds.specs.Asking.{AreAsking, AreReady, asks_left_in};
+ghost use Rattle.cell_base.specs.Histories.{after};
 
 use crate::progress::Progress;
 use admission_core::Core;
 use cell_base::{Entry, List, MAX_SESSIONS, Request, Shift, Told};
+use std::marker::Model;
 
 const SESSIONS: usize = MAX_SESSIONS as usize;
 
 /// Where the sessions of a shift stand, and which of them has its turn next. Session `k` has script `k - 1`, and stands at place `k - 1`.
+/// Contracts see it as the `Standing` of the definitions.
 #[derive(Drop)]
 pub struct Rounds {
     progress: [Progress; SESSIONS],
     next: u64,
+}
+
+impl Model for Rounds {
+    ghost use Rattle.solo_rounds.specs.Standing.{Standing};
+
+    ghost Value = { Standing };
+
+    ghost view = { λ s. record { progress = s.progress; next = s.next } };
 }
 
 impl Rounds {
@@ -44,6 +55,8 @@ impl Rounds {
             → IfSome result (λ entry. AreAsking shift.now core.new start (history ++ entry ∷ []) self.new) }
         ensures ended { (start : List Part) (history : List Entry) → AreAsking shift.now core.old start history self.old
             → IfNone result (IsRoundRobin core.old.cell start shift.now history × (core.new ≡ core.old)) }
+        ensures stays { IfNone result ((core.new ≡ core.old) × (self.new ≡ self.old)) }
+        ensures none { IfNone result (HaveEnded shift.now self.new.progress (length shift.now.scripts)) }
     {
         match next_going(&self.progress, self.next, shift) {
             Some(k) => {
@@ -55,12 +68,16 @@ impl Rounds {
         }
     }
 
-    /// Each session asks on to its end, and nobody is told.
+    /// Each session asks on to its end, and nobody is told: all have ended, and the core is in the state after the entries still to come.
     pub fn ask_rest(&mut self, core: &mut Core, shift: &Shift)
         requires shift { ShiftFits core.old.cell shift.now }
         requires ready { AreReady shift.now self.old }
         ensures rounds { (start : List Part) (history : List Entry) → AreAsking shift.now core.old start history self.old
             → (rest : List Entry) × IsRoundRobin core.old.cell start shift.now (history ++ rest) }
+        ensures state { (start : List Part) (history rest : List Entry) → AreAsking shift.now core.old start history self.old
+            → IsRoundRobin core.old.cell start shift.now (history ++ rest)
+            → core.new ≡ record core.old { parts = after core.old.cell start (history ++ rest) } }
+        ensures ended { HaveEnded shift.now self.new.progress (length shift.now.scripts) }
     {
         while let Some(_entry) = self.ask(core, shift) {}
     }

@@ -25,6 +25,11 @@ pub returns : goal.returns
 returns c =
     let known = c.loop-entry.invariant in
     record {
+      ended = c.in_default.ensures.none;
+      state = λ start history rest begun whole.
+          let so_far = known.asking start history begun in
+          left_after c.args.shift.now c.args.core.now c.loop-entry.core start (history ++ rest) (history ++ so_far.0) c.loop-entry.self
+          known.cell so_far.1 whole (c.in_default.ensures.ended start (history ++ so_far.0) so_far.1).0;
       rounds = λ start history begun.
           let so_far = known.asking start history begun in (
             so_far.0,
