@@ -3,6 +3,7 @@ use Rattle.std.specs.Prelude.{Option, option_and_then, ⊤}
 use Rattle.std.proofs.Common.{◌≡◌, ⊎_elim, ℕ, ◌≤◌, List, [], ◌∷◌, ◌++◌, set, sym, ap, ◌∙◌, subst, arith}
 use Rattle.atomic_table.proofs.Lists.{at_set}
 use Rattle.cell_base.specs.declared.shifts.Entry.{Entry}
+use Rattle.outside_io.specs.Disk.{Turns}
 use Rattle.outside_io.specs.Telling.{where_told, told, turned}
 use Rattle.durable_cell.specs.Acknowledged.{HasFirst, LeftOnly, HasSince}
 use Rattle.durable_cell.specs.DurableState.{DurableState}
@@ -11,7 +12,6 @@ use Rattle.cell_lock.specs.declared.board.Opening.{Opening}
 use Rattle.cell_lock.specs.declared.board.View.{View}
 use Rattle.cell_lock.specs.Law.{AllStand, Acknowledges}
 use Rattle.cell_lock.specs.Openings.{WhereTold, opening_of}
-use Rattle.cell_lock.specs.Steps.{StillTells}
 use Rattle.cell_lock.proofs.Views.{at_end}
 
 module _ {D : Type 0} (has : DurableState D → ℕ → ℕ → Type 0) (shift : ℕ) where
@@ -64,8 +64,9 @@ since_found reads_as may_leave moment left_since faults durable keeps = record {
 
 -- a moment since which each image has something is no later than now
 pub no_later : {D : Type 0} (reads_as : D → Option (List ℕ)) (moment : D → ℕ) (left_since : D → ℕ → List ℕ → Type 0) (o : Opening D)
-    (durable : DurableState D) (then count now : ℕ) → opening_of durable o.shift o.passes ≡ o → StillTells reads_as durable
-    → HasSince reads_as moment left_since durable then count → now ≡ moment durable.disk → WhereTold reads_as o (then ≤ now)
+    (durable : DurableState D) (then count now : ℕ) → opening_of durable o.shift o.passes ≡ o
+    → Turns (reads_as durable.entry) (reads_as durable.disk) (λ _ _. ⊤) → HasSince reads_as moment left_since durable then count
+    → now ≡ moment durable.disk → WhereTold reads_as o (then ≤ now)
 no_later {D} reads_as moment left_since o durable then count now same tells has is =
     where_told (option_and_then reads_as o.entry) (λ _. then ≤ now) (λ file told_it.
     let entry = ap (λ (x : Opening D). option_and_then reads_as x.entry) same in

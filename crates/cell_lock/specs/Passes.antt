@@ -1,6 +1,6 @@
 -- What contracts see of a lock and of its passes.
 use mathlib.Core.List.{IsPrefix}
-use Rattle.std.specs.Prelude.{◌≡◌, ℕ, zero, suc, ◌+◌, List, [], ◌∷◌, ◌++◌, length, Result, Ok, Err, Some, None, ⊤}
+use Rattle.std.specs.Prelude.{◌≡◌, ℕ, zero, suc, ◌+◌, List, [], ◌∷◌, ◌++◌, length, Result, Ok, Err, Option, Some, None, ⊤}
 use Rattle.atomic_table.specs.Seated.{TableId}
 use Rattle.cell_base.specs.declared.requests.Reply.{Reply}
 use Rattle.cell_base.specs.declared.requests.Request.{Request}
@@ -10,8 +10,10 @@ use Rattle.cell_base.specs.declared.shifts.Entry.{Entry}
 use Rattle.durable_cell.specs.declared.fault.AskFault.{AskFault}
 use Rattle.durable_cell.specs.declared.fault.AskFault.TheVariants.{Halted, Full, Device}
 use Rattle.durable_cell.specs.Asked.{halted_at, entry}
+use Rattle.durable_cell.specs.DurableState.{DurableState}
+use Rattle.durable_cell.specs.Kept.{KeepsDisk}
 use Rattle.cell_lock.specs.declared.board.Opening.{Opening}
-use Rattle.cell_lock.specs.Openings.{first_moment}
+use Rattle.cell_lock.specs.Openings.{Fits, first_moment}
 
 -- which lock it is, and what it was opened with
 pub record LockId (D : Type 0) : Type 0 where
@@ -60,6 +62,16 @@ pub record AreAll {D : Type 0} (lock : LockId D) (passes : List (PassState D)) :
 -- the pass has one answer more, and keeps the earlier ones
 abbrev pub HasAnswer : {D : Type 0} → PassState D → PassState D → Type 0
 HasAnswer old new = new.earlier ≡ answers_of old
+
+-- What a pass keeps as the moment of its last answer is the clock, at that answer, of the disk of the durable cell under the lock: the one
+-- with the history that the pass then saw.
+pub record IsClockOf {D : Type 0} (reads_as : D → Option (List ℕ)) (may_leave : D → List ℕ → Type 0) (moment : D → ℕ)
+    (left_since : D → ℕ → List ℕ → Type 0) (faults : D → ℕ) (opening : Opening D) (pass : PassState D) : Type 0 where
+  pub durable : DurableState D
+  pub fits : Fits opening durable
+  pub keeps : KeepsDisk reads_as may_leave moment left_since faults durable
+  pub seen : pass.seen ≡ durable.history
+  pub clock : pass.moment ≡ moment durable.disk
 
 -- the pass keeps its lock and its number
 pub record KeepsName {D : Type 0} (old new : PassState D) : Type 0 where

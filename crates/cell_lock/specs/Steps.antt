@@ -1,9 +1,8 @@
 -- What the steps at a seat say.
-use Rattle.std.specs.Prelude.{◌≡◌, ℕ, Option, None, false, List, [], ◌∷◌, ◌++◌, map, length, ⊤}
+use Rattle.std.specs.Prelude.{◌≡◌, ℕ, None, false, List, [], ◌∷◌, ◌++◌, map, length}
 use Rattle.atomic_table.specs.Seated.{TableId}
 use Rattle.atomic_table.specs.declared.shared.Seat.{Seat}
 use Rattle.cell_base.specs.declared.shifts.Entry.{Entry}
-use Rattle.outside_io.specs.Disk.{Turns}
 use Rattle.durable_cell.specs.DurableState.{DurableState}
 use Rattle.cell_lock.specs.declared.board.Opening.{Opening}
 use Rattle.cell_lock.specs.declared.board.View.{View}
@@ -24,10 +23,6 @@ pub record GrewBy {D : Type 0} (v : View D) (log : List Entry) : Type 0 where
   pub entry : Entry
   pub ends : log ≡ v.log ++ entry ∷ []
   pub own : entry.session ≡ v.first
-
--- the disk tells its bytes where it told them when it was handed in
-abbrev pub StillTells : {D : Type 0} → (D → Option (List ℕ)) → DurableState D → Type 0
-StillTells reads_as durable = Turns (reads_as durable.entry) (reads_as durable.disk) (λ _ _. ⊤)
 
 -- the lock that the seat is of
 abbrev pub lock_of : {D : Type 0} → Seat (DurableState D) (View D) → LockId D

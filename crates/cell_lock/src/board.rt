@@ -25,29 +25,29 @@ pub struct Opening<D> {
 /// What a seat knows: the numbers from `first`, `count` many, with the entries of each; of its answers, the last one first, the
 /// history that it saw and the disk's clock of then; and with the turn the history that it sees now, and the durable cell as it
 /// was taken. No value of it is made.
-pub struct View<D: Disk> {
-    pub opening: Opening<D>,
-    pub first: u64,
-    pub count: u64,
-    pub answers: LinkedList<(LinkedList<Entry>, u64)>,
-    pub mines: LinkedList<LinkedList<Entry>>,
-    pub log: LinkedList<Entry>,
-    pub taken: Option<Durable<D>>,
-    pub has_turn: bool,
+pub(crate) struct View<D: Disk> {
+    pub(crate) opening: Opening<D>,
+    pub(crate) first: u64,
+    pub(crate) count: u64,
+    pub(crate) answers: LinkedList<(LinkedList<Entry>, u64)>,
+    pub(crate) mines: LinkedList<LinkedList<Entry>>,
+    pub(crate) log: LinkedList<Entry>,
+    pub(crate) taken: Option<Durable<D>>,
+    pub(crate) has_turn: bool,
 }
 
 /// What the table is told once.
 #[derive(Drop)]
-pub struct Key<D: Disk, G: Recall> {
-    pub durable: Snapshot<Durable<D, G>>,
-    pub shift: u32,
-    pub passes: u16,
+pub(crate) struct Key<D: Disk, G: Recall> {
+    pub(crate) durable: Snapshot<Durable<D, G>>,
+    pub(crate) shift: u32,
+    pub(crate) passes: u16,
 }
 
 /// The rule of the table.
-pub struct Law;
+pub(crate) struct LockRule;
 
-impl<D: Disk, G: Recall> TableRule<Durable<D, G>, View<D>, Key<D, G>> for Law {
+impl<D: Disk, G: Recall> TableRule<Durable<D, G>, View<D>, Key<D, G>> for LockRule {
     ghost use Rattle.cell_lock.specs.Law.{Kept};
     ghost use Rattle.durable_cell.specs.Acknowledged.{HasSince};
     ghost use Rattle.cell_lock.specs.Openings.{opening_of};
@@ -60,10 +60,10 @@ impl<D: Disk, G: Recall> TableRule<Durable<D, G>, View<D>, Key<D, G>> for Law {
 }
 
 /// The table itself: its one slot holds the durable cell, and words 0 and 1 are the turn and the length of the history.
-pub type Board<D, G> = Table<Durable<D, G>, View<D>, Key<D, G>, Law, Global>;
+pub(crate) type LockTable<D, G> = Table<Durable<D, G>, View<D>, Key<D, G>, LockRule, Global>;
 
 /// What all seats of a table share.
-pub type Top<D, G> = Shared<Durable<D, G>, View<D>, Key<D, G>, Law>;
+pub(crate) type SharedTable<D, G> = Shared<Durable<D, G>, View<D>, Key<D, G>, LockRule>;
 
 /// A seat at a table, by which a pass knows its view.
-pub type Place<D, G> = Seat<Durable<D, G>, View<D>>;
+pub(crate) type Place<D, G> = Seat<Durable<D, G>, View<D>>;

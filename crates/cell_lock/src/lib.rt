@@ -27,10 +27,11 @@
 mod board;
 mod pass;
 mod plays;
+mod sending;
 mod setting;
 mod shared_cell;
 mod steps;
 
-pub use board::{Key, Law, Opening, View};
+pub use board::Opening;
 pub use pass::Pass;
 pub use shared_cell::SharedCell;

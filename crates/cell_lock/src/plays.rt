@@ -32,9 +32,9 @@ impl<D: Disk, G: Recall> Play<Durable<D, G>, View<D>> for Give {
 }
 
 /// A new seat that knows nothing, after the last number.
-pub(crate) struct Sit;
+pub(crate) struct NewSeat;
 
-impl<D: Disk, G: Recall> Play<Durable<D, G>, View<D>> for Sit {
+impl<D: Disk, G: Recall> Play<Durable<D, G>, View<D>> for NewSeat {
     ghost then = { sat };
 }
 

@@ -5,12 +5,12 @@ ghost use Rattle.cell_lock.specs.Views.{stock, passing, gathered, IsStock};
 ghost use Rattle.cell_lock.specs.Passes.{new_pass, new_passes, ArePassesNumbered};
 ghost use Rattle.cell_lock.specs.Steps.{IsWide, lock_of, gathering};
 
-use crate::board::{Board, Key, Place, Top};
+use crate::board::{Key, LockTable, Place, SharedTable};
 use crate::pass::Pass;
 use crate::plays::{Deal, Gather};
 use atomic_table::{Refused, Table};
 use cell_base::{List, NoMemory, Shelf};
-use durable_cell::{Durable, Recall};
+use durable_cell::{Durable, Recall, durable_law};
 use outside_io::Disk;
 use std::alloc::{AllocFailed, Global};
 use std::snapshot::Snapshot;
@@ -40,7 +40,7 @@ pub(crate) fn lay<D: Disk, G: Recall>(
     durable: Durable<D, G>,
     shift: u32,
     passes: u16,
-) -> Result<(Board<D, G>, Place<D, G>), (Durable<D, G>, NoMemory)>
+) -> Result<(LockTable<D, G>, Place<D, G>), (Durable<D, G>, NoMemory)>
     requires { durable.history ≡ [] }
     ensures wide { IfOk result (λ laid. IsWide laid.0.shared.table_id) }
     ensures key { IfOk result (λ laid.
@@ -51,7 +51,7 @@ pub(crate) fn lay<D: Disk, G: Recall>(
     ensures seat { IfOk result (λ laid. laid.1.me ≡ (stock (opening_of durable shift passes) 1 passes, [])) }
     ensures back { IfErr result (λ back. back.0 ≡ durable) }
 {
-    let _history = durable.history();
+    durable_law(&durable);
     let key = Key {
         durable: Snapshot::of(&durable),
         shift,
@@ -69,7 +69,11 @@ pub(crate) fn lay<D: Disk, G: Recall>(
 }
 
 // One pass more, with the least number that is left.
-fn deal_one<D: Disk, G: Recall>(top: &Top<D, G>, seat: &mut Place<D, G>, number: u16) -> Pass<D, G>
+fn deal_one<D: Disk, G: Recall>(
+    top: &SharedTable<D, G>,
+    seat: &mut Place<D, G>,
+    number: u16,
+) -> Pass<D, G>
     requires table { (seat.old.table_id ≡ top.now.table_id) × IsWide top.now.table_id }
     requires left { IsStock seat.old.me × (seat.old.me.0.first ≡ number) × (0 < seat.old.me.0.count) }
     ensures table { seat.new.table_id ≡ seat.old.table_id }
@@ -83,7 +87,7 @@ fn deal_one<D: Disk, G: Recall>(top: &Top<D, G>, seat: &mut Place<D, G>, number:
 
 /// Deals the passes from 1 on.
 pub(crate) fn deal<D: Disk, G: Recall>(
-    top: &Top<D, G>,
+    top: &SharedTable<D, G>,
     seat: &mut Place<D, G>,
     dealt: &mut Shelf<Pass<D, G>>,
     passes: u16,
@@ -101,7 +105,7 @@ pub(crate) fn deal<D: Disk, G: Recall>(
 
 // The pass's seat, which takes in the one with the numbers after it.
 fn gather_one<D: Disk, G: Recall>(
-    top: &Top<D, G>,
+    top: &SharedTable<D, G>,
     pass: Pass<D, G>,
     host: Place<D, G>,
 ) -> Place<D, G>
@@ -122,7 +126,7 @@ fn gather_one<D: Disk, G: Recall>(
 
 /// Takes in all passes, the last one first.
 pub(crate) fn gather<D: Disk, G: Recall>(
-    top: &Top<D, G>,
+    top: &SharedTable<D, G>,
     mut host: Place<D, G>,
     mut passes: List<Pass<D, G>>,
 ) -> Place<D, G>

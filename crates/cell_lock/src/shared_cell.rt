@@ -3,15 +3,15 @@ ghost use Rattle.std.specs.Prelude.{◌≡◌, ℕ, ◌≤◌, [], length, IfOk,
 ghost use mathlib.Core.List.{IsPrefix};
 ghost use Rattle.cell_lock.specs.Clauses.{HasSince, IsLegal, KeepsDisk, RequestFits, after, entries_of, grants, plan_step, unsure_grant};
 ghost use Rattle.cell_lock.specs.Openings.{Outside, WhereTold, first_parts, opening_of};
-ghost use Rattle.cell_lock.specs.Passes.{AreAll, Asked, HasAnswer, KeepsName, answers_of, new_passes};
+ghost use Rattle.cell_lock.specs.Passes.{AreAll, Asked, HasAnswer, IsClockOf, KeepsName, answers_of, new_passes};
 
-use crate::board::Board;
+use crate::board::LockTable;
 use crate::pass::Pass;
-use crate::plays::Sit;
+use crate::plays::NewSeat;
 use crate::setting::{deal, gather, lay};
 use crate::steps::{ask_held, give_turn, plan_held, take_turn};
 use cell_base::{Grant, List, NoMemory, Reply, Request, Shelf};
-use durable_cell::{AskFault, Durable, Recall};
+use durable_cell::{AskFault, Durable, Recall, durable_law};
 use outside_io::Disk;
 use std::alloc::Global;
 use std::marker::Model;
@@ -20,7 +20,7 @@ use std::sync::Wait;
 /// A durable cell under a lock. Contracts see it as what names it and what it was opened with.
 #[derive(Drop)]
 pub struct SharedCell<D: Disk, G: Recall = List<Grant>> {
-    table: Board<D, G>,
+    table: LockTable<D, G>,
     shift: u32,
 }
 
@@ -81,11 +81,11 @@ impl<D: Disk, G: Recall> SharedCell<D, G> {
         ensures disk { KeepsDisk D.reads_as D.may_leave D.moment D.left_since D.faults result }
     {
         let SharedCell { table, shift: _ } = self;
-        let (_, host) = table.shared.load_new_seat::<Sit>(0);
+        let (_, host) = table.shared.load_new_seat::<NewSeat>(0);
         let host = gather(&table.shared, host, passes);
         let mut closed = table.close_with(host);
         let durable = closed.take(0);
-        let _history = durable.history();
+        durable_law(&durable);
         closed.free();
         durable
     }
@@ -103,6 +103,7 @@ impl<D: Disk, G: Recall> SharedCell<D, G> {
         ensures seen { IsPrefix pass.old.seen pass.new.seen }
         ensures earlier { HasAnswer pass.old pass.new }
         ensures moment { WhereTold D.reads_as self.now.opening (pass.old.moment ≤ pass.new.moment) }
+        ensures clock { IsClockOf D.reads_as D.may_leave D.moment D.left_since D.faults self.now.opening pass.new }
         ensures legal { IsLegal self.now.opening.cell (first_parts self.now.opening) pass.new.seen }
         ensures within { length pass.new.seen ≤ self.now.opening.limit }
         ensures own { entries_of pass.new.number pass.new.seen ≡ pass.new.mine }
@@ -123,6 +124,7 @@ impl<D: Disk, G: Recall> SharedCell<D, G> {
         ensures seen { IsPrefix pass.old.seen pass.new.seen }
         ensures earlier { HasAnswer pass.old pass.new }
         ensures moment { WhereTold D.reads_as self.now.opening (pass.old.moment ≤ pass.new.moment) }
+        ensures clock { IsClockOf D.reads_as D.may_leave D.moment D.left_since D.faults self.now.opening pass.new }
         ensures legal { IsLegal self.now.opening.cell (first_parts self.now.opening) pass.new.seen }
         ensures within { length pass.new.seen ≤ self.now.opening.limit }
         ensures own { entries_of pass.new.number pass.new.seen ≡ pass.new.mine }

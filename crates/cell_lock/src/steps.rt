@@ -1,15 +1,15 @@
 //! The steps on the table, at the seat of a pass.
 ghost use Rattle.std.specs.Prelude.{◌≡◌, ◌∷◌, [], length};
-ghost use Rattle.cell_lock.specs.Clauses.{Answers, HasSince, MovesSafely, RequestFits, after, entries_of, grants, plan_step};
+ghost use Rattle.cell_lock.specs.Clauses.{Answers, HasSince, KeepsDisk, MovesSafely, RequestFits, after, entries_of, grants, plan_step};
 ghost use Rattle.cell_lock.specs.Openings.{Fits, first_parts};
 ghost use Rattle.cell_lock.specs.Views.{IsResting, IsActing, IsHolding, IsSafe, MayFind, held_of, seen_of, moment_of, earlier_of, mine_of};
-ghost use Rattle.cell_lock.specs.Steps.{IsWide, IsSame, GrewBy, StillTells};
+ghost use Rattle.cell_lock.specs.Steps.{IsWide, IsSame, GrewBy};
 
-use crate::board::{Place, Top};
+use crate::board::{Place, SharedTable};
 use crate::plays::{Give, Grow, Take};
 use cell_base::{Reply, Request};
 use crossbeam_utils::Backoff;
-use durable_cell::{AskFault, Recall};
+use durable_cell::{AskFault, Recall, durable_law};
 use outside_io::Disk;
 use std::sync::Wait;
 
@@ -17,7 +17,7 @@ use std::sync::Wait;
 /// given up unseen: a sleep is over at once where the word isn't 1 any more, and each turn that is given up ends one sleep.
 pub(crate) fn take_turn<D: Disk, G: Recall, R: Wait>(
     rt: &R,
-    top: &Top<D, G>,
+    top: &SharedTable<D, G>,
     seat: &mut Place<D, G>,
 )
     requires table { (seat.old.table_id ≡ top.now.table_id) × IsWide top.now.table_id }
@@ -46,7 +46,7 @@ pub(crate) fn take_turn<D: Disk, G: Recall, R: Wait>(
 
 // The answer, and the length of the history after it.
 fn decide<D: Disk, G: Recall>(
-    top: &Top<D, G>,
+    top: &SharedTable<D, G>,
     seat: &mut Place<D, G>,
     shift: u32,
     session: u16,
@@ -64,16 +64,16 @@ fn decide<D: Disk, G: Recall>(
     ensures disk { MovesSafely D.reads_as D.may_leave D.moment D.left_since (held_of top.now.key.durable.value seat.old.me)
         (held_of top.now.key.durable.value seat.new.me) }
     ensures length { result.1 ≡ length (held_of top.now.key.durable.value seat.new.me).history }
-    ensures tells { StillTells D.reads_as (held_of top.now.key.durable.value seat.new.me) }
+    ensures keeps { KeepsDisk D.reads_as D.may_leave D.moment D.left_since D.faults (held_of top.now.key.durable.value seat.new.me) }
 {
     let durable = seat.slot_mut(top, 0);
     let answer = durable.ask(shift, session, request);
-    let _history = durable.history();
+    durable_law(durable);
     (answer, durable.len())
 }
 
 // The history is longer by one entry of the pass's own.
-fn grow<D: Disk, G: Recall>(top: &Top<D, G>, seat: &mut Place<D, G>, len: u64)
+fn grow<D: Disk, G: Recall>(top: &SharedTable<D, G>, seat: &mut Place<D, G>, len: u64)
     requires table { (seat.old.table_id ≡ top.now.table_id) × IsWide top.now.table_id }
     requires acts { IsActing seat.old.me (held_of top.now.key.durable.value seat.old.me) }
     requires grew { GrewBy seat.old.me.0 (held_of top.now.key.durable.value seat.old.me).history }
@@ -89,7 +89,7 @@ fn grow<D: Disk, G: Recall>(top: &Top<D, G>, seat: &mut Place<D, G>, len: u64)
 
 /// Asks, and tells the table of the entry.
 pub(crate) fn ask_held<D: Disk, G: Recall>(
-    top: &Top<D, G>,
+    top: &SharedTable<D, G>,
     seat: &mut Place<D, G>,
     shift: u32,
     session: u16,
@@ -107,7 +107,7 @@ pub(crate) fn ask_held<D: Disk, G: Recall>(
         (held_of top.now.key.durable.value seat.new.me) }
     ensures answer { Answers (held_of top.now.key.durable.value seat.old.me) shift session request.now result
         (held_of top.now.key.durable.value seat.new.me) }
-    ensures tells { StillTells D.reads_as (held_of top.now.key.durable.value seat.new.me) }
+    ensures keeps { KeepsDisk D.reads_as D.may_leave D.moment D.left_since D.faults (held_of top.now.key.durable.value seat.new.me) }
 {
     let (answer, len) = decide(top, seat, shift, session, request);
     match answer {
@@ -126,7 +126,7 @@ pub(crate) fn ask_held<D: Disk, G: Recall>(
 
 /// The plan's step from the state of the durable cell in hand.
 pub(crate) fn plan_held<D: Disk, G: Recall>(
-    top: &Top<D, G>,
+    top: &SharedTable<D, G>,
     seat: &mut Place<D, G>,
 ) -> Option<Request>
     requires table { seat.old.table_id ≡ top.now.table_id }
@@ -138,15 +138,15 @@ pub(crate) fn plan_held<D: Disk, G: Recall>(
     ensures step { result ≡ plan_step seat.old.me.0.opening.cell
         (after seat.old.me.0.opening.cell (first_parts seat.old.me.0.opening)
         (held_of top.now.key.durable.value seat.old.me).history) }
-    ensures tells { StillTells D.reads_as (held_of top.now.key.durable.value seat.old.me) }
+    ensures keeps { KeepsDisk D.reads_as D.may_leave D.moment D.left_since D.faults (held_of top.now.key.durable.value seat.old.me) }
 {
     let durable = seat.slot_mut(top, 0);
-    let _history = durable.history();
+    durable_law(durable);
     durable.core().plan_step()
 }
 
 /// Puts the durable cell back, gives up the turn, and wakes one that sleeps.
-pub(crate) fn give_turn<D: Disk, G: Recall>(top: &Top<D, G>, seat: &mut Place<D, G>)
+pub(crate) fn give_turn<D: Disk, G: Recall>(top: &SharedTable<D, G>, seat: &mut Place<D, G>)
     requires table { (seat.old.table_id ≡ top.now.table_id) × IsWide top.now.table_id }
     requires holds { IsHolding seat.old.me (held_of top.now.key.durable.value seat.old.me) }
     requires safe { IsSafe (HasSince D.reads_as D.moment D.left_since) seat.old.me (held_of top.now.key.durable.value seat.old.me) }

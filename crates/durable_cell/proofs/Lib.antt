@@ -1,6 +1,7 @@
 -- Lemmas, grouped by subject.
 pub mod Acknowledging
 pub mod Grown
+pub mod HandedBack
 pub mod Halts
 pub mod Making
 pub mod Moving

@@ -26,7 +26,7 @@ module _ {D : Type 0} (reads_as : D → Option (List ℕ)) (may_leave : D → Li
   pub record Creates (cleared : D) (text : List ℕ) (made : Result (JournalState D) D) : Type 0 where
     pub empty : IfOk made (λ journal. journal.len ≡ 0)
     pub runs : IfOk made (λ journal. journal.is_halted ≡ false)
-    pub fed : IfOk made (λ journal. faults journal.disk ≡ faults cleared)
+    pub no_fault : IfOk made (λ journal. faults journal.disk ≡ faults cleared)
     pub device : IfErr made (λ disk. Rose (faults cleared) (faults disk))
     pub stored : IfOk made (λ journal. Shows reads_as may_leave journal.disk (λ file. IsJournal file text []))
     pub kept : IfErr made (λ disk. Shows reads_as may_leave disk (λ file. StandsFor file text []))
@@ -51,7 +51,7 @@ module _ {D : Type 0} (reads_as : D → Option (List ℕ)) (may_leave : D → Li
   made_none blank cleared text (Ok journal) clears creates = record {
     len = creates.empty;
     runs = creates.runs;
-    fed = creates.fed ∙ clears.cause;
+    no_fault = creates.no_fault ∙ clears.cause;
     tells = turns_on (reads_as blank) (reads_as cleared) (reads_as journal.disk) clears.tells creates.tells;
     stands = where_told (reads_as journal.disk) (λ file. Empty file × ((c : List ℕ) → may_leave journal.disk c → Empty c)) (λ file is.
         let stored = told _ _ file is creates.stored in

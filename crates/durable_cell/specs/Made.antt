@@ -14,7 +14,7 @@ pub record IsJournalOf {D : Type 0} (reads_as : D → Option (List ℕ)) (may_le
     (journal : JournalState D) : Type 0 where
   pub len : journal.len ≡ length grants
   pub runs : journal.is_halted ≡ false
-  pub fed : faults journal.disk ≡ faults old
+  pub no_fault : faults journal.disk ≡ faults old
   pub tells : Turns (reads_as old) (reads_as journal.disk) (λ _ _. ⊤)
   pub stands : Shows reads_as may_leave journal.disk (λ file. StandsFor file text grants)
   pub any_moment : IfSome (reads_as old) (λ _. LeavesOnly moment left_since old journal.disk (λ file. StandsFor file text grants))

@@ -1,9 +1,12 @@
 -- What the opening of a durable cell answers.
-use Rattle.std.specs.Prelude.{◌≡◌, ◌⊎◌, ℕ, Option, None, Result, Ok, Err, List, [], ⊤}
+use Rattle.std.specs.Prelude.{◌≡◌, ◌⊎◌, ℕ, Option, None, IfSome, Result, Ok, Err, List, [], ⊤}
 use Rattle.cell_base.specs.declared.cells.Cell.{Cell}
 use Rattle.cell_base.specs.declared.shifts.Grant.{Grant}
-use Rattle.outside_io.specs.Causes.{Rose}
 use Rattle.shift_recovery.specs.declared.faults.JournalFault.{JournalFault}
+use Rattle.shift_recovery.specs.declared.open_error.OpenError.{OpenError}
+use Rattle.shift_recovery.specs.declared.open_error.OpenFault.{OpenFault}
+use Rattle.shift_recovery.specs.declared.open_error.OpenFault.TheVariants as fault
+use Rattle.shift_recovery.specs.Opening.{HasOpenCause, IsOutside, IsRefusalOf, disk_of}
 use Rattle.shift_recovery.specs.Reads.{OnlyReads}
 use Rattle.durable_cell.specs.declared.opening.Heard.{Heard}
 use Rattle.durable_cell.specs.declared.opening.Opening.{Opening}
@@ -27,56 +30,60 @@ fresh cell text entry found disk opening limit = record {
   limit = limit;
 }
 
--- the opening without the taker
-abbrev pub durable_heard : {D G K : Type 0} → Opening D (Heard D G K) → Opening D (DurableState D)
-durable_heard (Open heard) = Open heard.durable
-durable_heard (Refused disk why) = Refused disk why
-durable_heard (Device disk) = Device disk
-durable_heard (Memory disk) = Memory disk
+-- an opening, as what was opened or the disk with the cause
+abbrev pub opened_of : {D O : Type 0} → Opening D O → Result O (OpenError D)
+opened_of (Open opened) = Ok opened
+opened_of (Refused disk why) = Err (record { disk = disk; why = fault.Refused why })
+opened_of (Device disk) = Err (record { disk = disk; why = fault.Device })
+opened_of (Memory disk) = Err (record { disk = disk; why = fault.Memory })
+
+-- the durable cell without the taker
+abbrev pub durable_heard : {D G K : Type 0} → Result (Heard D G K) (OpenError D) → Result (DurableState D) (OpenError D)
+durable_heard (Ok heard) = Ok heard.durable
+durable_heard (Err error) = Err error
+
+abbrev pub heard_of : {D G K : Type 0} → Opening D (Heard D G K) → Result (DurableState D) (OpenError D)
+heard_of opening = durable_heard (opened_of opening)
 
 -- what is opened is such a cell
-abbrev pub IsNew : {D : Type 0} → Cell → List ℕ → D → ℕ → Opening D (DurableState D) → Type 0
-IsNew cell text disk limit (Open durable) = durable ≡ fresh cell text disk durable.found durable.disk durable.opening limit
-IsNew cell text disk limit (Refused other why) = ⊤
-IsNew cell text disk limit (Device other) = ⊤
-IsNew cell text disk limit (Memory other) = ⊤
+abbrev pub IsNew : {D : Type 0} → Cell → List ℕ → D → ℕ → Result (DurableState D) (OpenError D) → Type 0
+IsNew cell text disk limit (Ok durable) = durable ≡ fresh cell text disk durable.found durable.disk durable.opening limit
+IsNew cell text disk limit (Err error) = ⊤
 
--- the answer is what the bytes open as
-abbrev pub IsAnswer : {D : Type 0} → Opening D (DurableState D) → Result (List Grant) JournalFault → Type 0
-IsAnswer (Open durable) opened = opened ≡ Ok durable.opening
-IsAnswer (Refused disk why) opened = opened ≡ Err why
-IsAnswer (Device disk) opened = ⊤
-IsAnswer (Memory disk) opened = ⊤
+-- the answer is what the bytes open as, where they are told
+abbrev pub IsAnswer : {D : Type 0} → Option (List ℕ) → (List ℕ → Result (List Grant) JournalFault) → Result (DurableState D) (OpenError D)
+    → Type 0
+IsAnswer told opens (Ok durable) = IfSome told (λ file. opens file ≡ Ok durable.opening)
+IsAnswer told opens (Err error) = IsRefusalOf told opens error.why
 
 -- what is opened stands after these grants, and the disk is not refused
-abbrev pub IsFound : {D : Type 0} → List Grant → Opening D (DurableState D) → Type 0
-IsFound grants (Open durable) = durable.opening ≡ grants
-IsFound grants (Refused disk why) = ⊥
-IsFound grants (Device disk) = ⊤
-IsFound grants (Memory disk) = ⊤
+abbrev pub IsFound : {D : Type 0} → List Grant → Result (DurableState D) (OpenError D) → Type 0
+IsFound grants (Ok durable) = durable.opening ≡ grants
+IsFound grants (Err error) = IsOutside error.why
 
 -- where a cell is opened, what is kept of its opening took its grants
-abbrev pub HasTaken : {D G K : Type 0} → (K → ℕ → List Grant → K → Type 0) → K → Opening D (Heard D G K) → Type 0
-HasTaken took old (Open heard) = (first : ℕ) × took old first heard.durable.opening heard.kept
-HasTaken took old (Refused disk why) = ⊤
-HasTaken took old (Device disk) = ⊤
-HasTaken took old (Memory disk) = ⊤
+abbrev pub HasTaken : {D G K : Type 0} → (K → ℕ → List Grant → K → Type 0) → K → Result (Heard D G K) (OpenError D) → Type 0
+HasTaken took old (Ok heard) = (first : ℕ) × took old first heard.durable.opening heard.kept
+HasTaken took old (Err error) = ⊤
 
 -- the count rises where the answer is that the device failed, and stays with every other answer
-abbrev pub HasCause : {D : Type 0} → (D → ℕ) → D → Opening D (DurableState D) → Type 0
-HasCause faults old (Open durable) = faults durable.disk ≡ faults old
-HasCause faults old (Refused disk why) = faults disk ≡ faults old
-HasCause faults old (Device disk) = Rose (faults old) (faults disk)
-HasCause faults old (Memory disk) = faults disk ≡ faults old
+abbrev pub HasCause : {D : Type 0} → (D → ℕ) → D → Result (DurableState D) (OpenError D) → Type 0
+HasCause {D} faults old result = HasOpenCause (faults old) (faults (disk_of (λ (durable : DurableState D). durable.disk) result)) result
 
--- What is opened keeps its disk. A disk that is handed back was only read; or the device failed in the making of a journal on a blank one.
-abbrev pub Leaves : {D : Type 0} → (D → Option (List ℕ)) → (D → List ℕ → Type 0) → (D → ℕ) → (D → ℕ → List ℕ → Type 0) → (D → ℕ)
-    → D → List ℕ → Opening D (DurableState D) → Type 0
-Leaves reads_as may_leave moment left_since faults old text (Open durable) =
-    KeepsDisk reads_as may_leave moment left_since faults durable
-Leaves reads_as may_leave moment left_since faults old text (Refused disk why) =
+-- a disk that is handed back was only read; or the device failed in the making of a journal on a blank one
+abbrev pub IsHandedBack : {D : Type 0} → (D → Option (List ℕ)) → (D → List ℕ → Type 0) → (D → ℕ) → (D → ℕ → List ℕ → Type 0)
+    → D → List ℕ → D → OpenFault → Type 0
+IsHandedBack reads_as may_leave moment left_since old text disk (fault.Refused why) =
     OnlyReads reads_as may_leave moment left_since old disk
-Leaves reads_as may_leave moment left_since faults old text (Device disk) =
+IsHandedBack reads_as may_leave moment left_since old text disk fault.Device =
     OnlyReads reads_as may_leave moment left_since old disk ⊎ IsUnmade reads_as may_leave moment left_since old text disk
-Leaves reads_as may_leave moment left_since faults old text (Memory disk) =
+IsHandedBack reads_as may_leave moment left_since old text disk fault.Memory =
     OnlyReads reads_as may_leave moment left_since old disk
+
+-- and what is opened keeps its disk
+abbrev pub Leaves : {D : Type 0} → (D → Option (List ℕ)) → (D → List ℕ → Type 0) → (D → ℕ) → (D → ℕ → List ℕ → Type 0) → (D → ℕ)
+    → D → List ℕ → Result (DurableState D) (OpenError D) → Type 0
+Leaves reads_as may_leave moment left_since faults old text (Ok durable) =
+    KeepsDisk reads_as may_leave moment left_since faults durable
+Leaves reads_as may_leave moment left_since faults old text (Err error) =
+    IsHandedBack reads_as may_leave moment left_since old text error.disk error.why

@@ -5,9 +5,10 @@ ghost use Rattle.durable_cell.specs.Clauses.{first_parts, opened_as, parts, repl
 ghost use Rattle.durable_cell.specs.Acknowledged.{HasSince, MovesSafely};
 ghost use Rattle.durable_cell.specs.Asked.{Answers, GoesOn, HasAskCause, WritesGrants, entry};
 ghost use Rattle.durable_cell.specs.Kept.{KeepsHistory, KeepsDisk};
-ghost use Rattle.durable_cell.specs.Openings.{IsNew, IsAnswer, IsFound, HasCause, HasTaken, Leaves, durable_heard};
+ghost use Rattle.durable_cell.specs.Openings.{IsNew, IsAnswer, IsFound, HasCause, HasTaken, Leaves, durable_heard, heard_of, opened_of};
 
 use crate::marks::mark_of;
+use crate::opening::unopened;
 use crate::recalled::{Recall, Recalled};
 use crate::recalling::Recalling;
 use crate::{AskFault, Finished, Heard, MAX_ROOM, Opening, Resumed, resume};
@@ -17,7 +18,7 @@ use cell_base::{Cell, Entry, Grant, List, NoMemory, Reply, Request, Shelf, Told}
 use move_journal::{Journal, MAX_CELL_TEXT};
 use outside_io::Disk;
 use policy_laws::refusal_law;
-use shift_recovery::{Taker, Unkept};
+use shift_recovery::{OpenError, OpenFault, Taker, Unkept};
 use std::alloc::Global;
 use std::marker::Model;
 
@@ -109,14 +110,14 @@ impl<D: Disk> Durable<D> {
         requires text { length cell_text.now ≤ MAX_CELL_TEXT }
         requires room { room ≤ MAX_ROOM }
         requires limit { limit ≤ MAX_ROOM }
-        ensures new { IsNew cell cell_text.now disk limit result }
-        ensures exact { IfSome (D.reads_as disk) (λ file. IsAnswer result (opened_as cell file cell_text.now room)) }
-        ensures cause { HasCause D.faults disk result }
-        ensures leaves { Leaves D.reads_as D.may_leave D.moment D.left_since D.faults disk cell_text.now result }
+        ensures new { IsNew cell cell_text.now disk limit (opened_of result) }
+        ensures exact { IsAnswer (D.reads_as disk) (λ file. opened_as cell file cell_text.now room) (opened_of result) }
+        ensures cause { HasCause D.faults disk (opened_of result) }
+        ensures leaves { Leaves D.reads_as D.may_leave D.moment D.left_since D.faults disk cell_text.now (opened_of result) }
 
         // What a durable cell may leave is opened.
         ensures stands { (file : Sequence ℕ) (grants : Sequence Grant) → D.reads_as disk ≡ Some file
-            → StandsFor file cell_text.now grants → AreDue cell grants → length grants ≤ room → IsFound grants result }
+            → StandsFor file cell_text.now grants → AreDue cell grants → length grants ≤ room → IsFound grants (opened_of result) }
     {
         match open_over(
             alloc,
@@ -128,10 +129,8 @@ impl<D: Disk> Durable<D> {
             List::new(alloc),
             Unkept,
         ) {
-            Opening::Open(Heard { durable, kept: _ }) => Opening::Open(durable),
-            Opening::Refused { disk, why } => Opening::Refused { disk, why },
-            Opening::Device { disk } => Opening::Device { disk },
-            Opening::Memory { disk } => Opening::Memory { disk },
+            Ok(Heard { durable, kept: _ }) => Opening::Open(durable),
+            Err(error) => unopened(error),
         }
     }
 
@@ -159,17 +158,17 @@ impl<D: Disk> Durable<D, Recalled> {
         requires room { room ≤ MAX_ROOM }
         requires limit { limit ≤ MAX_ROOM }
         requires none { (first : ℕ) → K.took kept first [] kept }
-        ensures new { IsNew cell cell_text.now disk limit (durable_heard result) }
-        ensures exact { IfSome (D.reads_as disk) (λ file. IsAnswer (durable_heard result) (opened_as cell file cell_text.now room)) }
-        ensures taken { HasTaken K.took kept result }
-        ensures cause { HasCause D.faults disk (durable_heard result) }
-        ensures leaves { Leaves D.reads_as D.may_leave D.moment D.left_since D.faults disk cell_text.now (durable_heard result) }
+        ensures new { IsNew cell cell_text.now disk limit (heard_of result) }
+        ensures exact { IsAnswer (D.reads_as disk) (λ file. opened_as cell file cell_text.now room) (heard_of result) }
+        ensures taken { HasTaken K.took kept (opened_of result) }
+        ensures cause { HasCause D.faults disk (heard_of result) }
+        ensures leaves { Leaves D.reads_as D.may_leave D.moment D.left_since D.faults disk cell_text.now (heard_of result) }
 
         // What a durable cell may leave is opened.
         ensures stands { (file : Sequence ℕ) (grants : Sequence Grant) → D.reads_as disk ≡ Some file
-            → StandsFor file cell_text.now grants → AreDue cell grants → length grants ≤ room → IsFound grants (durable_heard result) }
+            → StandsFor file cell_text.now grants → AreDue cell grants → length grants ≤ room → IsFound grants (heard_of result) }
     {
-        open_over(
+        match open_over(
             alloc,
             cell,
             cell_text,
@@ -178,7 +177,10 @@ impl<D: Disk> Durable<D, Recalled> {
             limit,
             Recalled::none(),
             kept,
-        )
+        ) {
+            Ok(heard) => Opening::Open(heard),
+            Err(error) => unopened(error),
+        }
     }
 }
 
@@ -192,7 +194,7 @@ fn open_over<D: Disk, G: Recall, K: Taker + Drop>(
     limit: u64,
     grants: G,
     kept: K,
-) -> Opening<D, Heard<D, G, K>>
+) -> Result<Heard<D, G, K>, OpenError<D>>
     requires fits { CellFits cell }
     requires text { length cell_text.now ≤ MAX_CELL_TEXT }
     requires room { room ≤ MAX_ROOM }
@@ -200,7 +202,7 @@ fn open_over<D: Disk, G: Recall, K: Taker + Drop>(
     requires no_grants { G.grants grants ≡ [] }
     requires none { (first : ℕ) → K.took kept first [] kept }
     ensures new { IsNew cell cell_text.now disk limit (durable_heard result) }
-    ensures exact { IfSome (D.reads_as disk) (λ file. IsAnswer (durable_heard result) (opened_as cell file cell_text.now room)) }
+    ensures exact { IsAnswer (D.reads_as disk) (λ file. opened_as cell file cell_text.now room) (durable_heard result) }
     ensures taken { HasTaken K.took kept result }
     ensures cause { HasCause D.faults disk (durable_heard result) }
     ensures leaves { Leaves D.reads_as D.may_leave D.moment D.left_since D.faults disk cell_text.now (durable_heard result) }
@@ -210,45 +212,46 @@ fn open_over<D: Disk, G: Recall, K: Taker + Drop>(
         → StandsFor file cell_text.now grants → AreDue cell grants → length grants ≤ room → IsFound grants (durable_heard result) }
 {
     let Ok(entry) = mark_of(alloc, &disk) else {
-        return Opening::Memory { disk };
+        return Err(OpenError {
+            disk,
+            why: OpenFault::Memory,
+        });
     };
-    match resume(
+    let Resumed { core, stored, kept } = resume(
         alloc,
         cell,
         cell_text,
         disk,
         room,
         Recalling { grants, kept },
-    ) {
-        Resumed::Open { core, stored, kept } => {
-            let Ok(shelves) = reserve(alloc, stored.disk(), cell_text, limit) else {
-                return Opening::Memory {
-                    disk: stored.into_disk(),
-                };
+    )?;
+    let Ok(shelves) = reserve(alloc, stored.disk(), cell_text, limit) else {
+        return Err(OpenError {
+            disk: stored.into_disk(),
+            why: OpenFault::Memory,
+        });
+    };
+    let Recalling { grants, kept } = kept;
+    match stored.into_journal(cell_text) {
+        Ok(journal) => {
+            let durable = Durable {
+                entry,
+                found: shelves.found,
+                core,
+                text: shelves.text,
+                journal,
+                opening: grants,
+                history: shelves.history,
+                added: shelves.added,
+                unsure: None,
+                limit,
             };
-            let Recalling { grants, kept } = kept;
-            match stored.into_journal(cell_text) {
-                Ok(journal) => {
-                    let durable = Durable {
-                        entry,
-                        found: shelves.found,
-                        core,
-                        text: shelves.text,
-                        journal,
-                        opening: grants,
-                        history: shelves.history,
-                        added: shelves.added,
-                        unsure: None,
-                        limit,
-                    };
-                    Opening::Open(Heard { durable, kept })
-                }
-                Err(disk) => Opening::Device { disk },
-            }
+            Ok(Heard { durable, kept })
         }
-        Resumed::Refused { disk, why } => Opening::Refused { disk, why },
-        Resumed::Device { disk } => Opening::Device { disk },
-        Resumed::Memory { disk } => Opening::Memory { disk },
+        Err(disk) => Err(OpenError {
+            disk,
+            why: OpenFault::Device,
+        }),
     }
 }
 

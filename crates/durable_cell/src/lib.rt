@@ -28,6 +28,7 @@
 mod durable;
 mod fault;
 mod finished;
+mod laws;
 mod marks;
 mod opening;
 mod recalled;
@@ -39,6 +40,7 @@ mod stored;
 pub use durable::Durable;
 pub use fault::AskFault;
 pub use finished::Finished;
+pub use laws::durable_law;
 pub use opening::{Heard, Opening};
 pub use recalled::{Recall, Recalled};
 pub use replays::MAX_ROOM;

@@ -1,8 +1,11 @@
 //! What the opening of a durable cell answers.
+ghost use Rattle.std.specs.Prelude.{◌≡◌, Err};
+ghost use Rattle.durable_cell.specs.Openings.{opened_of};
+
 use crate::Durable;
 use crate::recalled::Recall;
 use outside_io::Disk;
-use shift_recovery::JournalFault;
+use shift_recovery::{JournalFault, OpenError, OpenFault};
 
 /// What was opened, a durable cell unless it says otherwise, or the disk of which none could be made.
 #[derive(Drop)]
@@ -22,4 +25,16 @@ pub enum Opening<D: Disk, O = Durable<D>> {
 pub struct Heard<D: Disk, G: Recall, K> {
     pub durable: Durable<D, G>,
     pub kept: K,
+}
+
+/// Nothing was opened, for this cause.
+pub(crate) fn unopened<D: Disk, O>(error: OpenError<D>) -> Opening<D, O>
+    ensures { opened_of result ≡ Err error }
+{
+    let OpenError { disk, why } = error;
+    match why {
+        OpenFault::Refused(why) => Opening::Refused { disk, why },
+        OpenFault::Device => Opening::Device { disk },
+        OpenFault::Memory => Opening::Memory { disk },
+    }
 }

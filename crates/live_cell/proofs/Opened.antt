@@ -3,16 +3,14 @@ use Rattle.std.specs.Prelude.{Option, IfSome}
 use Rattle.std.proofs.Common.{◌≡◌, ℕ, List, [], subst}
 use Rattle.cell_base.specs.declared.cells.Cell.{Cell}
 use Rattle.cell_base.specs.declared.shifts.Grant.{Grant}
-use Rattle.admission_core.specs.CoreState.{CoreState}
 use Rattle.outside_io.specs.Disk.{Turns, LeavesOnly}
 use Rattle.move_journal.specs.Groups.{GroupState}
 use Rattle.move_journal.specs.Journals.{StandsFor}
 use Rattle.move_journal.specs.Kept.{JournalState}
 use Rattle.shift_recovery.specs.Reads.{OnlyReads}
 use Rattle.durable_cell.specs.Made.{IsJournalOf}
-use Rattle.durable_cell.specs.Resumed.{IsOpenedAfter}
-use Rattle.durable_cell.specs.StoredGrants.{disk_stored}
-use Rattle.durable_cell.specs.declared.stored.Stored.{Stored}
+use Rattle.durable_cell.specs.Resumed.{IsOpenedAfter, disk_resumed}
+use Rattle.durable_cell.specs.declared.resumed.Resumed.{Resumed}
 use Rattle.live_cell.specs.LiveState.{seen}
 use Rattle.live_cell.specs.Openings.{IsLiveAfter, IsOpened}
 
@@ -34,13 +32,14 @@ module _ {D : Type 0} (reads_as : D → Option (List ℕ)) (may_leave : D → Li
 
   -- with an empty group it is a live cell after these grants
   pub live_after : {K : Type 0} (cell : Cell) (text : List ℕ) (room most : ℕ) (took : K → ℕ → List Grant → K → Type 0) (disk : D) (old : K)
-      (core : CoreState) (held : Stored D) (new : K) (journal : JournalState D) (group : GroupState)
-      (resumed : IsOpenedAfter reads_as may_leave disk cell text room took old core held new)
-      → OnlyReads reads_as may_leave moment left_since disk (disk_stored held)
-      → IsJournalOf reads_as may_leave moment left_since faults (disk_stored held) text resumed.grants journal
+      (from : Resumed D K) (journal : JournalState D) (group : GroupState)
+      (resumed : IsOpenedAfter reads_as may_leave disk cell text room took old from)
+      → OnlyReads reads_as may_leave moment left_since disk (disk_resumed from)
+      → IsJournalOf reads_as may_leave moment left_since faults (disk_resumed from) text resumed.grants journal
       → group ≡ record { grants = []; spare = most }
-      → IsLiveAfter reads_as may_leave moment left_since cell text room most took disk old resumed.grants (seen core journal group room) new
-  live_after cell text room most took disk old core held new journal group resumed read made none = record {
+      → IsLiveAfter reads_as may_leave moment left_since cell text room most took disk old resumed.grants
+      (seen from.core journal group room) from.kept
+  live_after cell text room most took disk old from journal group resumed read made none = record {
     state = λ i. record {
       cell = (resumed.core.state i).cell;
       parts = (resumed.core.state i).parts;
@@ -55,5 +54,5 @@ module _ {D : Type 0} (reads_as : D → Option (List ℕ)) (may_leave : D → Li
     few = resumed.core.few;
     taken = (resumed.first, resumed.taken);
     exact = resumed.opened;
-    stands = opened disk (disk_stored held) text resumed.grants journal read made;
+    stands = opened disk (disk_resumed from) text resumed.grants journal read made;
   }

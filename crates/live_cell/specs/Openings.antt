@@ -1,16 +1,15 @@
 -- What the opening of a live cell answers.
-use Rattle.std.specs.Prelude.{◌≡◌, ◌⊎◌, ℕ, ◌≤◌, Option, IfSome, Ok, Err, List, length, ⊤}
+use Rattle.std.specs.Prelude.{◌≡◌, ℕ, ◌≤◌, Option, IfSome, Result, Ok, Err, List, length, ⊤}
 use Rattle.cell_base.specs.declared.cells.Cell.{Cell}
 use Rattle.cell_base.specs.declared.shifts.Grant.{Grant}
-use Rattle.outside_io.specs.Causes.{Rose}
 use Rattle.outside_io.specs.Disk.{Turns, LeavesOnly}
 use Rattle.move_journal.specs.Disks.{Shows}
 use Rattle.move_journal.specs.Journals.{StandsFor}
+use Rattle.shift_recovery.specs.declared.open_error.OpenError.{OpenError}
+use Rattle.shift_recovery.specs.Opening.{IsOutside, IsRefusalOf}
 use Rattle.shift_recovery.specs.Reads.{OnlyReads}
-use Rattle.durable_cell.specs.Made.{IsUnmade}
 use Rattle.shift_recovery.specs.Replayed.{AreDue, opened_as}
-use Rattle.live_cell.specs.declared.opening.LiveOpening.{LiveOpening}
-use Rattle.live_cell.specs.declared.opening.LiveOpening.TheVariants.{Open, Refused, Device, Memory}
+use Rattle.live_cell.specs.declared.opening.OpenedLive.{OpenedLive}
 use Rattle.live_cell.specs.LiveState.{LiveState, fresh}
 
 -- The disk was only read until it was found. At each moment since then each image stands for the grants that were found, as do the disk
@@ -36,35 +35,20 @@ pub record IsLiveAfter {D K : Type 0} (reads_as : D → Option (List ℕ)) (may_
 
 -- a cell is opened after some grants, or refused as the bytes say
 abbrev pub IsOpenedAs : {D K : Type 0} → (D → Option (List ℕ)) → (D → List ℕ → Type 0) → (D → ℕ) → (D → ℕ → List ℕ → Type 0)
-    → Cell → List ℕ → ℕ → ℕ → (K → ℕ → List Grant → K → Type 0) → D → K → LiveOpening D K → Type 0
-IsOpenedAs reads_as may_leave moment left_since cell text room most took disk old (Open live new) =
-    (grants : List Grant) × IsLiveAfter reads_as may_leave moment left_since cell text room most took disk old grants live new
-IsOpenedAs reads_as may_leave moment left_since cell text room most took disk old (Refused back why) =
-    IfSome (reads_as disk) (λ file. opened_as cell file text room ≡ Err why)
-IsOpenedAs reads_as may_leave moment left_since cell text room most took disk old (Device back) = ⊤
-IsOpenedAs reads_as may_leave moment left_since cell text room most took disk old (Memory back) = ⊤
+    → Cell → List ℕ → ℕ → ℕ → (K → ℕ → List Grant → K → Type 0) → D → K → Result (OpenedLive D K) (OpenError D) → Type 0
+IsOpenedAs reads_as may_leave moment left_since cell text room most took disk old (Ok opened) =
+    (grants : List Grant)
+    × IsLiveAfter reads_as may_leave moment left_since cell text room most took disk old grants opened.live opened.kept
+IsOpenedAs reads_as may_leave moment left_since cell text room most took disk old (Err error) =
+    IsRefusalOf (reads_as disk) (λ file. opened_as cell file text room) error.why
 
 -- what is opened stands after these grants, and the disk is not refused
 abbrev pub IsFound : {D K : Type 0} → (D → Option (List ℕ)) → (D → List ℕ → Type 0) → (D → ℕ) → (D → ℕ → List ℕ → Type 0)
-    → Cell → List ℕ → ℕ → ℕ → (K → ℕ → List Grant → K → Type 0) → D → K → List Grant → LiveOpening D K → Type 0
-IsFound reads_as may_leave moment left_since cell text room most took disk old grants (Open live new) =
-    IsLiveAfter reads_as may_leave moment left_since cell text room most took disk old grants live new
-IsFound reads_as may_leave moment left_since cell text room most took disk old grants (Refused back why) = ⊥
-IsFound reads_as may_leave moment left_since cell text room most took disk old grants (Device back) = ⊤
-IsFound reads_as may_leave moment left_since cell text room most took disk old grants (Memory back) = ⊤
+    → Cell → List ℕ → ℕ → ℕ → (K → ℕ → List Grant → K → Type 0) → D → K → List Grant → Result (OpenedLive D K) (OpenError D) → Type 0
+IsFound reads_as may_leave moment left_since cell text room most took disk old grants (Ok opened) =
+    IsLiveAfter reads_as may_leave moment left_since cell text room most took disk old grants opened.live opened.kept
+IsFound reads_as may_leave moment left_since cell text room most took disk old grants (Err error) = IsOutside error.why
 
--- the count rises where the answer is that the device failed, and stays with every other answer
-abbrev pub HasCause : {D K : Type 0} → (D → ℕ) → D → LiveOpening D K → Type 0
-HasCause faults old (Open live kept) = faults live.disk ≡ faults old
-HasCause faults old (Refused disk why) = faults disk ≡ faults old
-HasCause faults old (Device disk) = Rose (faults old) (faults disk)
-HasCause faults old (Memory disk) = faults disk ≡ faults old
-
--- A disk that is handed back was only read; or the device failed in the making of a journal on a blank one.
-abbrev pub Leaves : {D K : Type 0} → (D → Option (List ℕ)) → (D → List ℕ → Type 0) → (D → ℕ) → (D → ℕ → List ℕ → Type 0)
-    → D → List ℕ → LiveOpening D K → Type 0
-Leaves reads_as may_leave moment left_since old text (Open live kept) = ⊤
-Leaves reads_as may_leave moment left_since old text (Refused disk why) = OnlyReads reads_as may_leave moment left_since old disk
-Leaves reads_as may_leave moment left_since old text (Device disk) =
-    OnlyReads reads_as may_leave moment left_since old disk ⊎ IsUnmade reads_as may_leave moment left_since old text disk
-Leaves reads_as may_leave moment left_since old text (Memory disk) = OnlyReads reads_as may_leave moment left_since old disk
+-- the disk of what is opened
+abbrev pub disk_live : {D K : Type 0} → OpenedLive D K → D
+disk_live opened = opened.live.disk

@@ -2,10 +2,8 @@
 //!
 //! ```text
 //! let mut live = match LiveCell::open(alloc, cell, cell_text, disk, room, 512, Unkept) {
-//!     LiveOpening::Open { live, .. } => live,        // after the grants that stand on the disk
-//!     LiveOpening::Refused { disk, why } => ..,      // the file is damaged, of another cell, or of another program
-//!     LiveOpening::Device { disk } => ..,
-//!     LiveOpening::Memory { disk } => ..,
+//!     Ok(OpenedLive { live, .. }) => live,         // after the grants that stand on the disk
+//!     Err(OpenError { disk, why }) => ..,          // the file is refused, the device failed, or there was no memory
 //! };
 //! let first = live.ask(session, &request)?;       // decided, and if it is granted not yet stable
 //! let second = live.ask(other_session, &request)?;
@@ -30,7 +28,7 @@ mod opening;
 mod parted;
 
 pub use fault::JournalFull;
-pub use laws::acknowledged_law;
+pub use laws::{acknowledged_law, live_law};
 pub use live::LiveCell;
-pub use opening::LiveOpening;
+pub use opening::OpenedLive;
 pub use parted::LiveParts;

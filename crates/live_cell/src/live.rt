@@ -1,18 +1,18 @@
 //! The live cell.
 ghost use Rattle.std.specs.Prelude.{◌≡◌, ◌+◌, ◌<◌, ◌≤◌, ℕ, List as Sequence, [], ◌++◌, length};
-ghost use Rattle.std.specs.Prelude.{Some, true, false, OnOk, OnErr, IfOk, IfSome, ⊤};
+ghost use Rattle.std.specs.Prelude.{Some, true, false, OnOk, OnErr, IfOk, IfErr, IfSome, ⊤};
 ghost use Rattle.durable_cell.specs.Clauses.{CellFits, Grant, IsAdmitted, RequestFits, StandsFor, reply_to};
 ghost use Rattle.move_journal.specs.Disks.{Shows};
 ghost use Rattle.move_journal.specs.Journals.{IsBeforeOrAfterAll};
 ghost use Rattle.live_cell.specs.LiveState.{asked, committed};
 
-use crate::{JournalFull, LiveOpening, LiveParts};
+use crate::{JournalFull, LiveParts, OpenedLive};
 use admission_core::Core;
 use cell_base::{Cell, Grant, Reply, Request};
 use durable_cell::{MAX_ROOM, Resumed, resume};
 use move_journal::{Group, Journal, MAX_CELL_TEXT, MAX_GROUP};
 use outside_io::{Disk, Failed};
-use shift_recovery::Taker;
+use shift_recovery::{OpenError, OpenFault, Taker};
 use std::alloc::Global;
 use std::marker::Model;
 
@@ -53,7 +53,9 @@ impl<D: Disk> LiveCell<D> {
     ghost use Rattle.outside_io.specs.Causes.{Rose};
     ghost use Rattle.outside_io.specs.Disk.{Turns, LeavesOnly};
     ghost use Rattle.durable_cell.specs.Clauses.{AreDue, Granted};
-    ghost use Rattle.live_cell.specs.Openings.{IsOpenedAs, IsFound, HasCause, Leaves};
+    ghost use Rattle.durable_cell.specs.Openings.{IsHandedBack};
+    ghost use Rattle.shift_recovery.specs.Opening.{HasOpenCause, disk_of};
+    ghost use Rattle.live_cell.specs.Openings.{IsOpenedAs, IsFound, disk_live};
 
     /// The cell after the grants that stand on a disk with this cell text, if there are at most `room` of them, each of which is
     /// handed on as it is read; so many the journal may have in all. At most `most` grants may be pending. A disk that holds no
@@ -66,45 +68,44 @@ impl<D: Disk> LiveCell<D> {
         room: u64,
         most: u64,
         kept: K,
-    ) -> LiveOpening<D, K>
+    ) -> Result<OpenedLive<D, K>, OpenError<D>>
         requires fits { CellFits cell }
         requires text { length cell_text.now ≤ MAX_CELL_TEXT }
         requires room { room ≤ MAX_ROOM }
         requires group { most ≤ MAX_GROUP }
         requires none { (first : ℕ) → K.took kept first [] kept }
         ensures opened { IsOpenedAs D.reads_as D.may_leave D.moment D.left_since cell cell_text.now room most K.took disk kept result }
-        ensures cause { HasCause D.faults disk result }
-        ensures leaves { Leaves D.reads_as D.may_leave D.moment D.left_since disk cell_text.now result }
+        ensures cause { HasOpenCause (D.faults disk) (D.faults (disk_of disk_live result)) result }
+        ensures leaves { IfErr result (λ error.
+            IsHandedBack D.reads_as D.may_leave D.moment D.left_since disk cell_text.now error.disk error.why) }
 
         // What a live or durable cell may leave is opened.
         ensures stands { (file : Sequence ℕ) (grants : Sequence Grant) → D.reads_as disk ≡ Some file
             → StandsFor file cell_text.now grants → AreDue cell grants → length grants ≤ room
             → IsFound D.reads_as D.may_leave D.moment D.left_since cell cell_text.now room most K.took disk kept grants result }
     {
-        match resume(alloc, cell, cell_text, disk, room, kept) {
-            Resumed::Open { core, stored, kept } => {
-                let Ok(group) = Group::with_room(alloc, most) else {
-                    return LiveOpening::Memory {
-                        disk: stored.into_disk(),
-                    };
-                };
-                match stored.into_journal(cell_text) {
-                    Ok(journal) => LiveOpening::Open {
-                        live: LiveCell {
-                            core,
-                            journal,
-                            group,
-                            most,
-                            room,
-                        },
-                        kept,
-                    },
-                    Err(disk) => LiveOpening::Device { disk },
-                }
-            }
-            Resumed::Refused { disk, why } => LiveOpening::Refused { disk, why },
-            Resumed::Device { disk } => LiveOpening::Device { disk },
-            Resumed::Memory { disk } => LiveOpening::Memory { disk },
+        let Resumed { core, stored, kept } = resume(alloc, cell, cell_text, disk, room, kept)?;
+        let Ok(group) = Group::with_room(alloc, most) else {
+            return Err(OpenError {
+                disk: stored.into_disk(),
+                why: OpenFault::Memory,
+            });
+        };
+        match stored.into_journal(cell_text) {
+            Ok(journal) => Ok(OpenedLive {
+                live: LiveCell {
+                    core,
+                    journal,
+                    group,
+                    most,
+                    room,
+                },
+                kept,
+            }),
+            Err(disk) => Err(OpenError {
+                disk,
+                why: OpenFault::Device,
+            }),
         }
     }
 
@@ -152,7 +153,7 @@ impl<D: Disk> LiveCell<D> {
     pub fn commit(&mut self) -> Result<(), Failed>
         requires runs { self.old.is_halted ≡ false }
         ensures ok { OnOk result (self.new ≡ committed self.old self.new.disk) }
-        ensures fed { OnOk result (D.faults self.new.disk ≡ D.faults self.old.disk) }
+        ensures no_fault { OnOk result (D.faults self.new.disk ≡ D.faults self.old.disk) }
         ensures untouched { self.old.pending ≡ [] → self.new ≡ self.old }
 
         ensures halts { OnErr result (self.new ≡ record self.old { disk = self.new.disk; is_halted = true }) }
@@ -202,6 +203,7 @@ impl<D: Disk> LiveCell<D> {
         ensures core { result.now ≡ record { cell = self.now.cell; parts = self.now.parts } }
         ensures fits { CellFits self.now.cell }
         ensures admitted { IsAdmitted self.now.cell self.now.parts }
+        ensures room { self.now.len + length self.now.pending ≤ self.now.room }
     {
         let _cell = self.core.cell();
         &self.core

@@ -4,5 +4,6 @@ pub mod Reads
 pub mod Windows
 pub mod Walked
 pub mod Opening
+pub mod Recovering
 pub mod Scanning
 pub mod Replayed

@@ -1,45 +1,49 @@
--- The answers of recovery.
-use Rattle.std.specs.Prelude.{◌≡◌, ℕ, ◌≤◌, false, Option, Some, None, Result, Ok, Err, List, length, ⊤}
-use Rattle.cell_base.specs.declared.shifts.Grant.{Grant}
+-- What an opening answers: something that has a disk, or the cause in its place and the disk as it was handed in.
+use Rattle.std.specs.Prelude.{◌≡◌, ℕ, Option, IfSome, Result, Ok, Err, List, ⊤}
 use Rattle.outside_io.specs.Causes.{Rose}
-use Rattle.move_journal.specs.Blanks.{IsBlank}
 use Rattle.move_journal.specs.Disks.{Rests}
-use Rattle.move_journal.specs.Journals.{IsJournal}
 use Rattle.shift_recovery.specs.declared.faults.JournalFault.{JournalFault}
-use Rattle.shift_recovery.specs.declared.recoveries.Opened.{Opened}
-use Rattle.shift_recovery.specs.declared.recoveries.Opened.TheVariants.{Fresh, Found, Refused, Device, Memory}
+use Rattle.shift_recovery.specs.declared.faults.Stop.{Stop}
+use Rattle.shift_recovery.specs.declared.faults.Stop.TheVariants as stop
+use Rattle.shift_recovery.specs.declared.open_error.OpenError.{OpenError}
+use Rattle.shift_recovery.specs.declared.open_error.OpenFault.{OpenFault}
+use Rattle.shift_recovery.specs.declared.open_error.OpenFault.TheVariants.{Refused, Device, Memory}
 
 -- the disk that an answer has
-abbrev pub disk_of : {D : Type 0} → Opened D → D
-disk_of (Fresh blank) = blank
-disk_of (Found journal grants) = journal.disk
-disk_of (Refused disk why) = disk
-disk_of (Device disk) = disk
-disk_of (Memory disk) = disk
+abbrev pub disk_of : {T D : Type 0} → (T → D) → Result T (OpenError D) → D
+disk_of disk (Ok opened) = disk opened
+disk_of disk (Err error) = error.disk
 
--- the answer is what the bytes are read as
-abbrev pub IsAnswer : {D : Type 0} → Opened D → Result (Option (List Grant)) JournalFault → Type 0
-IsAnswer (Fresh blank) read = read ≡ Ok None
-IsAnswer (Found journal grants) read = read ≡ Ok (Some grants)
-IsAnswer (Refused disk why) read = read ≡ Err why
-IsAnswer (Device disk) read = ⊤
-IsAnswer (Memory disk) read = ⊤
+-- the count rises where the cause is that the device failed, and stays with every other
+abbrev pub HasFaultCause : ℕ → ℕ → OpenFault → Type 0
+HasFaultCause before now Device = Rose before now
+HasFaultCause before now Memory = now ≡ before
+HasFaultCause before now (Refused why) = now ≡ before
 
--- what is known of the disk, where it tells, and of the journal in any case
-abbrev pub Answers : {D : Type 0} → (D → Option (List ℕ)) → (D → List ℕ → Type 0) → List ℕ → Opened D → Type 0
-Answers reads_as may_leave text (Fresh blank) = Rests reads_as may_leave blank IsBlank
-Answers reads_as may_leave text (Found journal grants) =
-    (journal.len ≡ length grants) × (journal.is_halted ≡ false) × Rests reads_as may_leave journal.disk (λ file. IsJournal file text grants)
-Answers reads_as may_leave text (Refused disk why) = Rests reads_as may_leave disk (λ file. ⊤)
-Answers reads_as may_leave text (Device disk) = ⊤
-Answers reads_as may_leave text (Memory disk) = ⊤
+-- and with what is opened
+abbrev pub HasOpenCause : {T D : Type 0} → ℕ → ℕ → Result T (OpenError D) → Type 0
+HasOpenCause before now (Ok opened) = now ≡ before
+HasOpenCause before now (Err error) = HasFaultCause before now error.why
 
--- no more grants are found than there is room for, whether the disk tells or not
-abbrev pub HasRoom : {D : Type 0} → ℕ → Opened D → Type 0
-HasRoom room (Found journal grants) = length grants ≤ room
-HasRoom room answer = ⊤
+-- a refusal is what the bytes open as, where they are told
+abbrev pub IsRefusalOf : {X : Type 0} → Option (List ℕ) → (List ℕ → Result X JournalFault) → OpenFault → Type 0
+IsRefusalOf told opens (Refused why) = IfSome told (λ file. opens file ≡ Err why)
+IsRefusalOf told opens Device = ⊤
+IsRefusalOf told opens Memory = ⊤
 
--- the count rises where the answer is that the device failed, and stays with every other answer
-abbrev pub HasOpeningCause : {D : Type 0} → ℕ → ℕ → Opened D → Type 0
-HasOpeningCause before now (Device disk) = Rose before now
-HasOpeningCause before now answer = now ≡ before
+-- of a file that is refused the disk rests on what it reads as
+abbrev pub RestsWhereRefused : {D : Type 0} → (D → Option (List ℕ)) → (D → List ℕ → Type 0) → D → OpenFault → Type 0
+RestsWhereRefused reads_as may_leave disk (Refused why) = Rests reads_as may_leave disk (λ file. ⊤)
+RestsWhereRefused reads_as may_leave disk Device = ⊤
+RestsWhereRefused reads_as may_leave disk Memory = ⊤
+
+-- it is no refusal
+abbrev pub IsOutside : OpenFault → Type 0
+IsOutside (Refused why) = ⊥
+IsOutside Device = ⊤
+IsOutside Memory = ⊤
+
+-- why nothing is opened where the reading stopped
+abbrev pub at_stop : Stop → OpenFault
+at_stop stop.Device = Device
+at_stop stop.Memory = Memory

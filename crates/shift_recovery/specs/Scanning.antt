@@ -1,8 +1,7 @@
 -- What is found where the grants of a disk are handed on.
-use Rattle.std.specs.Prelude.{◌≡◌, ◌⊎◌, ℕ, ◌+◌, ◌*◌, ◌^◌, ◌≤◌, false, Option, Some, None, IfSome, Result, Ok, Err, List, [], length, ⊤}
+use Rattle.std.specs.Prelude.{◌≡◌, ◌⊎◌, ℕ, ◌+◌, ◌*◌, ◌^◌, ◌≤◌, false, Option, Some, None, IfSome, Result, Ok, Err, List, [], length}
 use Rattle.cell_base.specs.declared.shifts.Grant.{Grant}
 use Rattle.entry_codec.specs.declared.encoder.TheConstants.{ENTRY_SIZE}
-use Rattle.outside_io.specs.Causes.{Rose}
 use Rattle.move_journal.specs.declared.head_write.TheConstants.{TEXT_AT}
 use Rattle.move_journal.specs.Blanks.{HasForm, IsBlank}
 use Rattle.move_journal.specs.Disks.{Rests}
@@ -10,18 +9,15 @@ use Rattle.move_journal.specs.Journals.{IsJournal, gate_of}
 use Rattle.move_journal.specs.Kept.{JournalState}
 use Rattle.shift_recovery.specs.declared.faults.JournalFault.{JournalFault}
 use Rattle.shift_recovery.specs.declared.scans.Scanned.{Scanned}
-use Rattle.shift_recovery.specs.declared.scans.Scanned.TheVariants.{Fresh, Found, Refused, Device, Memory}
+use Rattle.shift_recovery.specs.declared.scans.Scanned.TheVariants.{Fresh, Found}
 use Rattle.shift_recovery.specs.declared.scans.Reading.{Reading}
 use Rattle.shift_recovery.specs.declared.scans.Reading.TheVariants as reading
 use Rattle.shift_recovery.specs.Readings.{read_as}
 
--- the disk that an answer has
+-- the disk of what stands on it
 abbrev pub disk_scanned : {D : Type 0} → Scanned D → D
 disk_scanned (Fresh blank) = blank
 disk_scanned (Found journal) = journal.disk
-disk_scanned (Refused disk why) = disk
-disk_scanned (Device disk) = disk
-disk_scanned (Memory disk) = disk
 
 -- The taker took the grants of a journal, no more than room. Where the disk tells, the bytes are read as these, the first gate stands
 -- after the head and the text, and the disk rests on the journal.
@@ -36,22 +32,13 @@ pub record IsHandedOn {D T : Type 0} (reads_as : D → Option (List ℕ)) (may_l
   pub read : IfSome (reads_as disk) (λ file. (read_as file text room ≡ Ok (Some grants)) × (first ≡ TEXT_AT + length text))
   pub rests : Rests reads_as may_leave journal.disk (λ file. IsJournal file text grants)
 
--- The answer is what the bytes are read as; and what is known of the disk, where it tells, and of the taker.
+-- What stands there is what the bytes are read as; and what is known of the disk, where it tells, and of the taker.
 abbrev pub IsScan : {D T : Type 0} → (D → Option (List ℕ)) → (D → List ℕ → Type 0) → D → List ℕ → ℕ → (T → ℕ → List Grant → T → Type 0)
     → T → T → Scanned D → Type 0
 IsScan reads_as may_leave disk text room took old new (Fresh blank) =
     IfSome (reads_as disk) (λ file. read_as file text room ≡ Ok None) × Rests reads_as may_leave blank IsBlank × (new ≡ old)
 IsScan reads_as may_leave disk text room took old new (Found journal) =
     IsHandedOn reads_as may_leave disk text room took old new journal
-IsScan reads_as may_leave disk text room took old new (Refused back why) =
-    IfSome (reads_as disk) (λ file. read_as file text room ≡ Err why) × Rests reads_as may_leave back (λ file. ⊤)
-IsScan reads_as may_leave disk text room took old new (Device back) = ⊤
-IsScan reads_as may_leave disk text room took old new (Memory back) = ⊤
-
--- the count rises where the answer is that the device failed, and stays with every other answer
-abbrev pub HasScanningCause : {D : Type 0} → ℕ → ℕ → Scanned D → Type 0
-HasScanningCause before now (Device disk) = Rose before now
-HasScanningCause before now answer = now ≡ before
 
 -- the bytes are read as these grants, where there is room
 abbrev pub IsFoundBy : Result (Option (List Grant)) JournalFault → ℕ → List Grant → Type 0

@@ -16,12 +16,14 @@
 //! is the same and there is room.
 //!
 //! `scan` is the same for grants that need not be kept: it hands each one to a `Taker` as it is read, so that a journal of any
-//! length takes the memory of a few pieces.
+//! length takes the memory of a few pieces. Where nothing stands that could be gone on with, it answers an `OpenError`, the disk with
+//! the cause, as each opening above does.
 #![tactic(auto)]
 
 mod faults;
 mod gates;
 mod heads;
+mod open_error;
 mod pieces;
 mod recoveries;
 mod scans;
@@ -30,6 +32,7 @@ mod texts;
 mod walks;
 
 pub use faults::JournalFault;
+pub use open_error::{OpenError, OpenFault};
 pub use recoveries::{Opened, recover};
 pub use scans::{Scanned, scan};
 pub use takers::{Taker, Unkept};

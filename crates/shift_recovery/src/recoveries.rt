@@ -4,10 +4,11 @@ ghost use Rattle.cell_base.specs.declared.shifts.Grant.{Grant};
 ghost use Rattle.move_journal.specs.Journals.{StandsFor};
 ghost use Rattle.shift_recovery.specs.Reads.{OnlyReads};
 ghost use Rattle.shift_recovery.specs.Readings.{read_as};
-ghost use Rattle.shift_recovery.specs.Opening.{disk_of, Answers, HasRoom, IsAnswer, HasOpeningCause};
+ghost use Rattle.shift_recovery.specs.Recovering.{disk_recovered, Answers, HasRoom, IsAnswer, HasOpeningCause};
 ghost use Rattle.shift_recovery.specs.Scanning.{IsFoundBy};
 
 use crate::faults::JournalFault;
+use crate::open_error::{OpenError, OpenFault};
 use crate::scans::{Scanned, scan};
 use cell_base::{Grant, List};
 use move_journal::{Blank, Journal};
@@ -42,11 +43,11 @@ pub enum Opened<D: Disk> {
 /// Finds what stands on a disk, with this cell text and with room for so many grants. Beside the grants it takes the memory
 /// of a few pieces of the file.
 pub fn recover<D: Disk>(alloc: Global, disk: D, cell_text: &[u8], room: u64) -> Opened<D>
-    ensures reads { OnlyReads D.reads_as D.may_leave D.moment D.left_since disk (disk_of result) }
+    ensures reads { OnlyReads D.reads_as D.may_leave D.moment D.left_since disk (disk_recovered result) }
     ensures exact { IfSome (D.reads_as disk) (λ file. IsAnswer result (read_as file cell_text.now room)) }
     ensures found { Answers D.reads_as D.may_leave cell_text.now result }
     ensures few { HasRoom room result }
-    ensures cause { HasOpeningCause (D.faults disk) (D.faults (disk_of result)) result }
+    ensures cause { HasOpeningCause (D.faults disk) (D.faults (disk_recovered result)) result }
 
     // What the calls of a journal may leave is found.
     ensures stands { (file : Sequence ℕ) (grants : Sequence Grant) → StandsFor file cell_text.now grants
@@ -54,10 +55,12 @@ pub fn recover<D: Disk>(alloc: Global, disk: D, cell_text: &[u8], room: u64) -> 
 {
     let mut grants = List::new(alloc);
     match scan(alloc, disk, cell_text, room, &mut grants) {
-        Scanned::Fresh(blank) => Opened::Fresh(blank),
-        Scanned::Found(journal) => Opened::Found { journal, grants },
-        Scanned::Refused { disk, why } => Opened::Refused { disk, why },
-        Scanned::Device { disk } => Opened::Device { disk },
-        Scanned::Memory { disk } => Opened::Memory { disk },
+        Ok(Scanned::Fresh(blank)) => Opened::Fresh(blank),
+        Ok(Scanned::Found(journal)) => Opened::Found { journal, grants },
+        Err(OpenError { disk, why }) => match why {
+            OpenFault::Refused(why) => Opened::Refused { disk, why },
+            OpenFault::Device => Opened::Device { disk },
+            OpenFault::Memory => Opened::Memory { disk },
+        },
     }
 }

@@ -15,7 +15,7 @@ new-requires g c =
     let a : DurableState g.row.D.Denot = c.of.result.value in
     let same : a ≡ c.args.durable = c.of.ensures in
     let new : a.history ≡ [] = ap (λ (x : DurableState g.row.D.Denot). x.history) same ∙ c.requires in
-    let kept = c.history-history.ensures.kept in
+    let kept = c.durable_law.ensures.kept in
     let none : a.added ≡ [] = ap (λ (x : DurableState g.row.D.Denot). x.added) same ∙ none_added c.args.durable kept c.requires in
     let sure : a.unsure ≡ None = ap (λ (x : DurableState g.row.D.Denot). x.unsure) same ∙ none_unsure c.args.durable kept c.requires in
     let fits : Fits (opening_of a c.args.shift c.args.passes) a = record {
@@ -29,6 +29,6 @@ new-requires g c =
     let begun : has a (g.D.Disk.moment a.found) 0 =
     subst (λ (x : DurableState g.row.D.Denot). has x (g.D.Disk.moment x.found) 0) (sym same)
     (since_found g.D.Disk.reads_as g.D.Disk.may_leave g.D.Disk.moment g.D.Disk.left_since g.D.Disk.faults c.args.durable
-    c.history-history.ensures.keeps_disk) in
+    c.durable_law.ensures.keeps_disk) in
     starts has g.D.Disk.moment (opening_of a c.args.shift c.args.passes) a c.args.passes _ _ refl
     (c.in_ok-slots.ensures.ok ∙ ap (λ (x : DurableState g.row.D.Denot). x ∷ []) (sym same)) new fits refl begun

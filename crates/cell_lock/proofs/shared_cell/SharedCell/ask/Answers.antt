@@ -3,7 +3,7 @@ use Rattle.std.proofs.Common.{◌≡◌, ℕ, ◌≤◌, ◌∙◌, ap, subst}
 use mathlib.Core.List.{IsPrefix}
 use Rattle.durable_cell.specs.DurableState.{DurableState}
 use Rattle.cell_lock.specs.declared.board.Opening.{Opening}
-use Rattle.cell_lock.specs.Openings.{WhereTold}
+use Rattle.cell_lock.specs.Openings.{Fits, WhereTold}
 use Rattle.cell_lock.specs.Views.{held_of, moment_of}
 use Rattle.cell_lock.specs.Passes.{LockId, PassState}
 use Rattle.cell_lock.proofs.Acknowledging.{no_later}
@@ -40,6 +40,22 @@ returns-clause-moment g c =
     ∙ ap (λ (l : LockId g.row.D.Denot). l.opening) c.requires.lock in
     let stands = c.ask_held-answer.ensures.disk.still _ _ c.take_turn.ensures.stands in
     let later = no_later g.D.Disk.reads_as g.D.Disk.moment g.D.Disk.left_since me.0.opening b _ _ _ c.ask_held-answer.ensures.holds.1.same
-    c.ask_held-answer.ensures.tells stands c.give_turn.ensures.moment in
+    c.ask_held-answer.ensures.keeps.tells stands c.give_turn.ensures.moment in
     subst (λ (z : Opening g.row.D.Denot × ℕ). WhereTold g.D.Disk.reads_as z.0 (z.1 ≤ moment_of c.give_turn.new.seat.me.0))
     (λ i. (opening i, (c.pass.view_is i).moment)) later
+
+pub returns-clause-clock : goal.returns-clause-clock
+returns-clause-clock g c =
+    let me = c.ask_held-answer.new.seat.me in
+    let b : DurableState g.row.D.Denot = held_of c.self.inside.table.shared.key.durable.value me in
+    let opening : me.0.opening ≡ c.args.self.now.opening =
+    c.ask_held-answer.ensures.same.opening ∙ c.take_turn.ensures.same.opening
+    ∙ ap (λ (s : PassState g.row.D.Denot). s.lock.opening) c.pass.view_is
+    ∙ ap (λ (l : LockId g.row.D.Denot). l.opening) c.requires.lock in
+    record {
+      durable = b;
+      fits = subst (λ (o : Opening g.row.D.Denot). Fits o b) opening c.ask_held-answer.ensures.holds.1;
+      keeps = c.ask_held-answer.ensures.keeps;
+      seen = c.give_turn.ensures.seen;
+      clock = c.give_turn.ensures.moment;
+    }

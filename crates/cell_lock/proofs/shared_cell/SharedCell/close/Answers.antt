@@ -51,6 +51,6 @@ returns g c =
       seen = all_seen ps a.history began;
       mine = all_mine c.args.self 1 ps a.history c.requires.all.numbered mines;
       acknowledged = all_stand has c.args.self.opening.shift a ps stand;
-      disk = c.history-history.ensures.keeps_disk;
+      disk = c.durable_law.ensures.keeps_disk;
       others = λ n out. end.3 n (subst (λ (x : Opening g.row.D.Denot). Outside x n) (sym opening_is) out);
     }

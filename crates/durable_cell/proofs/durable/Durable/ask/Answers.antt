@@ -64,7 +64,8 @@ invariant_of-self g c =
     let right : reply_to i.core.cell (parts old) request ≡ Refused c.in-Refused.why =
     ap (λ ps. reply_to i.core.cell ps request) (sym state_is) ∙ sym c.in-Refused.ensures.reply in
     let stays = law (parts old) request c.in-Refused.why right in
-    let more = seen_more i.entry i.found old.entry old.found i.core i.core i.text i.journal i.journal (g.G.Recall.grants i.opening) i.history.items
+    let more = seen_more i.entry i.found old.entry old.found i.core i.core i.text i.journal i.journal (g.G.Recall.grants i.opening)
+    i.history.items
     c.push.new.self.items i.added.items i.added.items i.unsure i.unsure i.limit c.args.shift e v.2.first v.2.second refl
     (c.push.ensures.items ∙ ap (λ (x : Entry). i.history.items ++ x ∷ []) c.entry.ensures) (sym (append-nil i.added.items)) none in
     subst (λ (d : DurableState _). Keeps g.D.Disk.reads_as g.D.Disk.may_leave g.D.Disk.moment g.D.Disk.left_since g.D.Disk.faults d
@@ -91,7 +92,8 @@ returns-in-Refused-clause-answer g c =
     let none = none_by_test i.unsure (sym c.is_some.ensures ∙ c.if-is_some.false) in
     let room : length i.history.items < i.limit = omega (arith, c.len-len.ensures, c.if-len-self.false) in
     let state_is = ap (λ (k : CoreState). k.parts) v.2.state in
-    let more = seen_more i.entry i.found old.entry old.found i.core i.core i.text i.journal i.journal (g.G.Recall.grants i.opening) i.history.items
+    let more = seen_more i.entry i.found old.entry old.found i.core i.core i.text i.journal i.journal (g.G.Recall.grants i.opening)
+    i.history.items
     c.push.new.self.items i.added.items i.added.items i.unsure i.unsure i.limit c.args.shift e v.2.first v.2.second refl
     (c.push.ensures.items ∙ ap (λ (x : Entry). i.history.items ++ x ∷ []) c.entry.ensures) (sym (append-nil i.added.items)) none in (
       more ∙ ap (λ (d : DurableState _). with_entry d i.journal.disk c.args.shift e) c.self.view_is,
@@ -120,7 +122,8 @@ pub returns-in-Refused-clause-disk : goal.returns-in-Refused-clause-disk
 returns-in-Refused-clause-disk g c =
     let i = c.self.inside in
     let old = seen i.entry i.found i.core i.text i.journal (g.G.Recall.grants i.opening) i.history.items i.added.items i.unsure i.limit in
-    let new = seen i.entry i.found i.core i.text i.journal (g.G.Recall.grants i.opening) c.push.new.self.items i.added.items i.unsure i.limit in
+    let new = seen i.entry i.found i.core i.text i.journal (g.G.Recall.grants i.opening) c.push.new.self.items i.added.items i.unsure
+    i.limit in
     subst (λ (d : DurableState _). MovesSafely g.D.Disk.reads_as g.D.Disk.may_leave g.D.Disk.moment g.D.Disk.left_since d new)
     c.self.view_is
     (unwritten g.D.Disk.reads_as g.D.Disk.may_leave g.D.Disk.moment g.D.Disk.left_since g.D.Disk.faults old c.push.new.self.items old.added

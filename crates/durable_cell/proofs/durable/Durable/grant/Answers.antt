@@ -33,7 +33,8 @@ invariant_of-self g c =
     } in
     let core_is = c.apply.ensures
     ∙ ap (λ (k : CoreState). after k) v.2.state in
-    let more = seen_more i.entry i.found old.entry old.found i.core c.apply.new.self i.text i.journal c.append.new.self (g.G.Recall.grants i.opening)
+    let more = seen_more i.entry i.found old.entry old.found i.core c.apply.new.self i.text i.journal c.append.new.self
+    (g.G.Recall.grants i.opening)
     i.history.items c.push-in-Ok.new.self.items i.added.items c.push.new.self.items i.unsure i.unsure i.limit grant.shift e
     v.2.first v.2.second
     (ap (λ (k : CoreState). k.cell) c.apply.ensures)
@@ -66,7 +67,8 @@ invariant_of-self-in-Err g c =
       any_moment = λ file grants is stands. c.in-Err.ensures.any_moment file i.text grants is stands running;
     } in
     let device = device_alone c.in-Err.field-0 i.journal.is_halted c.in-Err.ensures.halted_only running in
-    let more = seen_more i.entry i.found old.entry old.found i.core i.core i.text i.journal c.append.new.self (g.G.Recall.grants i.opening)
+    let more = seen_more i.entry i.found old.entry old.found i.core i.core i.text i.journal c.append.new.self
+    (g.G.Recall.grants i.opening)
     i.history.items c.push-in-Err.new.self.items i.added.items i.added.items i.unsure (Some grant) i.limit grant.shift e v.2.first
     v.2.second refl (c.push-in-Err.ensures.items ∙ ap (λ (x : Entry). i.history.items ++ x ∷ []) c.entry-in-Err.ensures) (sym
     (append-nil i.added.items)) refl in
@@ -92,7 +94,8 @@ returns-in-Ok-clause-answer g c =
     let old = seen i.entry i.found i.core i.text i.journal (g.G.Recall.grants i.opening) i.history.items i.added.items i.unsure i.limit in
     let e : Entry = entry grant.session grant.request (Answered Granted) in
     let goes = goes_before old c.args.self.now grant.request v.0 c.self.view_is c.requires.goes_on c.requires.granted in
-    let more = seen_more i.entry i.found old.entry old.found i.core c.apply.new.self i.text i.journal c.append.new.self (g.G.Recall.grants i.opening)
+    let more = seen_more i.entry i.found old.entry old.found i.core c.apply.new.self i.text i.journal c.append.new.self
+    (g.G.Recall.grants i.opening)
     i.history.items c.push-in-Ok.new.self.items i.added.items c.push.new.self.items i.unsure i.unsure i.limit grant.shift e
     v.2.first v.2.second
     (ap (λ (k : CoreState). k.cell) c.apply.ensures)

@@ -28,7 +28,7 @@ returns-in_ok-clear-in-Nothing g c grants held =
     (record {
       empty = creates.empty;
       runs = creates.runs;
-      fed = creates.fed;
+      no_fault = creates.fed;
       device = creates.device;
       stored = creates.stored;
       kept = creates.kept;
