@@ -72,7 +72,8 @@ module _ (shift : Shift) (grants : List Grant) where
       ];
     }
       where
-        early : (j : ℕ) (at : Progress) → slice_get (progress ++ next ∷ []) j ≡ Some at → j < length progress → slice_get progress j ≡ Some at
+        early : (j : ℕ) (at : Progress) → slice_get (progress ++ next ∷ []) j ≡ Some at → j < length progress
+            → slice_get progress j ≡ Some at
         early j at there before =
             slice_get-get_or progress j at before
             ∙ ap Some (sym (get_or-append progress (next ∷ []) at j before)

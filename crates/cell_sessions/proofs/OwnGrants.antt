@@ -11,11 +11,9 @@ use Rattle.cell_base.specs.Histories.{requests_of}
 use Rattle.cell_base.specs.Rounds.{IsSession}
 use Rattle.cell_base.specs.Scripts.{granted_to, script_of}
 use Rattle.cell_base.specs.Starts.{AreFirstSteps, IsOtherShift}
-use Rattle.cell_sessions.specs.declared.fault.BeginFault.{BeginFault}
-use Rattle.cell_sessions.specs.declared.fault.BeginFault.TheVariants.{OtherShift, Memory}
 use Rattle.cell_sessions.specs.declared.progress.Progress.{Progress}
 use Rattle.cell_sessions.specs.Progressing.{start_at}
-use Rattle.cell_sessions.specs.Starting.{AreBegun, IsBeginFault, of_shift}
+use Rattle.cell_sessions.specs.Starting.{AreBegun, of_shift}
 
 module _ (number : ℕ) where
   abbrev is_own : Grant → Bool
@@ -137,7 +135,8 @@ module _ (shift : Shift) where
     known = All-filter (λ (grant : Grant). grant.shift == shift.number) IsKnown grants started.known;
   }
 
-  other_all : (grants : List Grant) (session : ℕ) → IsOtherShift shift (own_of grants) session → IsOtherShift shift grants session
+  -- a stray is one of all grants
+  pub other_all : (grants : List Grant) (session : ℕ) → IsOtherShift shift (own_of grants) session → IsOtherShift shift grants session
   other_all grants session other = record {
     before = at.front;
     stray = other.stray;
@@ -157,11 +156,6 @@ module _ (shift : Shift) where
           filter-append (λ (grant : Grant). grant.shift == shift.number) at.front (other.stray ∷ [])
           ∙ ap (λ (gs : List Grant). own_of at.front ++ gs) (cond-true (other.stray.shift == shift.number) (other.stray ∷ []) [] at.stray_own)
           ∙ ap (λ (gs : List Grant). gs ++ other.stray ∷ []) at.own
-
-  -- a fault is the same
-  pub fault_all : (grants : List Grant) (fault : BeginFault) → IsBeginFault shift (own_of grants) fault → IsBeginFault shift grants fault
-  fault_all grants (OtherShift session) other = other_all grants session other
-  fault_all grants Memory memory = tt
 
   -- and so is where each session starts
   pub begun_all : (grants : List Grant) (progress : List Progress) → AreBegun shift (own_of grants) progress → AreBegun shift grants progress

@@ -1,5 +1,6 @@
 -- Where the sessions of a shift start after the grants that a journal has.
-use Rattle.std.specs.Prelude.{◌≡◌, ℕ, ◌+◌, ◌==◌, List, filter, length, slice_get, Option, None, Some, ⊤}
+use Rattle.std.specs.Prelude.{◌≡◌, ℕ, ◌+◌, ◌==◌, List, filter, length, slice_get, take, Option, None, Some, ⊤}
+use Rattle.cell_base.specs.declared.limits.TheConstants.{MAX_STEPS}
 use Rattle.cell_base.specs.declared.shifts.Grant.{Grant}
 use Rattle.cell_base.specs.declared.shifts.Shift.{Shift}
 use Rattle.cell_base.specs.Scripts.{Progress, begin_at, first_step, script_of}
@@ -28,6 +29,10 @@ pub record AreBegun (shift : Shift) (opening : List Grant) (progress : List OneP
 -- the grants of a shift's number
 abbrev pub of_shift : ℕ → List Grant → List Grant
 of_shift number grants = filter (λ grant. grant.shift == number) grants
+
+-- the first of them, one more than any shift has steps
+abbrev pub first_of_shift : ℕ → List Grant → List Grant
+first_of_shift number grants = take (MAX_STEPS + 1) (of_shift number grants)
 
 -- the grants are first steps of the scripts, and the sessions stand after them
 pub record IsReached (shift : Shift) (grants : List Grant) (progress : List Progress) : Type 0 where

@@ -5,12 +5,12 @@ ghost use Rattle.cell_base.specs.declared.shifts.Grant.{Grant as OneGrant};
 ghost use Rattle.cell_base.specs.Fits.{steps_of};
 ghost use Rattle.cell_base.specs.Starts.{AreFirstSteps};
 ghost use Rattle.cell_sessions.specs.Progressing.{start_at};
-ghost use Rattle.cell_sessions.specs.Starting.{AreBegun, IsBeginFault, IsReached, of_shift};
+ghost use Rattle.cell_sessions.specs.Starting.{AreBegun, IsBeginFault, IsReached, first_of_shift};
 
 use crate::fault::BeginFault;
 use crate::progress::Progress;
 use crate::session_starts::{SESSIONS, SessionStarts};
-use cell_base::{Grant, List, NoMemory, Request, Shift};
+use cell_base::{Grant, List, MAX_STEPS, NoMemory, Request, Shift};
 use shift_recovery::Taker;
 use solo_rounds::Progress as Stand;
 use std::alloc::Global;
@@ -68,7 +68,8 @@ fn start_at(script: &List<Request>, step: u64) -> Progress
     }
 }
 
-/// A taker that keeps the grants of one shift's number, which `begin` needs, and of the others none.
+/// A taker that keeps the grants of one shift's number, which `begin` needs, and of the others none. Once it has more than any shift has
+/// steps it keeps no more, since one of these is no next step.
 #[derive(Drop)]
 pub struct ShiftGrants {
     /// The number of the shift.
@@ -90,10 +91,11 @@ impl ShiftGrants {
 }
 
 impl Taker for ShiftGrants {
-    ghost took = { λ start _ grants now. start.grants ≡ [] → (now.number ≡ start.number) × (now.grants ≡ of_shift start.number grants) };
+    ghost took = { λ start _ grants now. start.grants ≡ []
+        → (now.number ≡ start.number) × (now.grants ≡ first_of_shift start.number grants) };
 
     fn take(&mut self, _at: u64, grant: Grant) -> Result<(), NoMemory> {
-        if grant.shift == self.number {
+        if grant.shift == self.number && self.grants.len() <= MAX_STEPS {
             self.grants.try_push(grant)?;
         }
         Ok(())

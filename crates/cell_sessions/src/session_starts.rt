@@ -60,7 +60,8 @@ impl<'a> SessionStarts<'a> {
 
     /// The step that the grants of session `k + 1` reach; or the session of the first grant that was no next step.
     pub(crate) fn reached(&self) -> Result<&[Stand; SESSIONS], BeginFault>
-        ensures reached { (grants : Sequence OneGrant) → HasLed grants self.now → IfOk result (λ stands. IsReached self.now.shift grants stands.now) }
+        ensures reached { (grants : Sequence OneGrant) → HasLed grants self.now
+            → IfOk result (λ stands. IsReached self.now.shift grants stands.now) }
         ensures fault { (grants : Sequence OneGrant) → HasLed grants self.now → IfErr result (IsBeginFault self.now.shift grants) }
     {
         match self.stray {

@@ -24,7 +24,8 @@ pub begin_at-requires-clause-reached : goal.begin_at-requires-clause-reached
 begin_at-requires-clause-reached c = (
   c.args.opening.now,
   subst (λ (shift : Shift). IsReached shift c.args.opening.now c.in-Ok.reached.now) c.loop-grant.invariant.shift
-      (c.in-Ok.ensures.reached c.args.opening.now (led_all c.args.opening.now c.loop-grant.starts c.loop-grant.grant-index c.loop-grant.invariant.led c.loop-grant-test.false)),
+      (c.in-Ok.ensures.reached c.args.opening.now
+      (led_all c.args.opening.now c.loop-grant.starts c.loop-grant.grant-index c.loop-grant.invariant.led c.loop-grant-test.false)),
 )
 
 where_ok : {X E : Type 0} (P : Type 0) (result : Result X E) → P → IfOk result (λ _. P)
@@ -34,15 +35,18 @@ where_ok P (Err why) is = tt
 pub returns-in-Ok-clause-started : goal.returns-in-Ok-clause-started
 returns-in-Ok-clause-started c =
     let reached = subst (λ (shift : Shift). IsReached shift c.args.opening.now c.in-Ok.reached.now) c.loop-grant.invariant.shift
-    (c.in-Ok.ensures.reached c.args.opening.now (led_all c.args.opening.now c.loop-grant.starts c.loop-grant.grant-index c.loop-grant.invariant.led c.loop-grant-test.false)) in
+    (c.in-Ok.ensures.reached c.args.opening.now
+    (led_all c.args.opening.now c.loop-grant.starts c.loop-grant.grant-index c.loop-grant.invariant.led c.loop-grant-test.false)) in
     where_ok _ c.begin_at.result reached.started
 
 pub returns-in-Ok-clause-begun : goal.returns-in-Ok-clause-begun
 returns-in-Ok-clause-begun c = c.begin_at.ensures.begun c.args.opening.now
     (subst (λ (shift : Shift). IsReached shift c.args.opening.now c.in-Ok.reached.now) c.loop-grant.invariant.shift
-    (c.in-Ok.ensures.reached c.args.opening.now (led_all c.args.opening.now c.loop-grant.starts c.loop-grant.grant-index c.loop-grant.invariant.led c.loop-grant-test.false)))
+    (c.in-Ok.ensures.reached c.args.opening.now
+    (led_all c.args.opening.now c.loop-grant.starts c.loop-grant.grant-index c.loop-grant.invariant.led c.loop-grant-test.false)))
 
 pub returns-in-Err-clause-fault : goal.returns-in-Err-clause-fault
 returns-in-Err-clause-fault c =
     subst (λ (shift : Shift). IsBeginFault shift c.args.opening.now c.in-Err.stray) c.loop-grant.invariant.shift
-    (c.in-Err.ensures.fault c.args.opening.now (led_all c.args.opening.now c.loop-grant.starts c.loop-grant.grant-index c.loop-grant.invariant.led c.loop-grant-test.false))
+    (c.in-Err.ensures.fault c.args.opening.now
+    (led_all c.args.opening.now c.loop-grant.starts c.loop-grant.grant-index c.loop-grant.invariant.led c.loop-grant-test.false))

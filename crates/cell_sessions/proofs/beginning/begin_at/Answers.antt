@@ -19,7 +19,8 @@ start_at-requires c =
 
 pub loop-k-preserved : goal.loop-k-preserved
 loop-k-preserved c grants are =
-    let inside : c.loop-k.k < length c.args.reached.now = omega (arith, c.type_inv.reached, c.loop-k-test.true, c.len-k-end.ensures, c.requires.sessions) in
+    let inside : c.loop-k.k < length c.args.reached.now =
+    omega (arith, c.type_inv.reached, c.loop-k-test.true, c.len-k-end.ensures, c.requires.sessions) in
     let more = one_more c.args.shift.now grants c.args.reached.now are c.loop-k.k c.get-script.result.now c.get-script.ensures
     c.index-reached-k.result inside c.loop-k.progress c.start_at.result (c.start_at.ensures ∙ ap (λ (step : ℕ).
     start_at c.get-script.result.now step) c.step.ensures) (c.loop-k.invariant grants are) in
@@ -27,6 +28,7 @@ loop-k-preserved c grants are =
 
 pub returns-clause-begun : goal.returns-clause-begun
 returns-clause-begun c grants are =
-    let count : c.loop-k.k ≡ length c.args.shift.now.scripts = omega (arith, c.loop-k-test.false, c.loop-k.auto.k-end, c.len-k-end.ensures) in
+    let count : c.loop-k.k ≡ length c.args.shift.now.scripts =
+    omega (arith, c.loop-k-test.false, c.loop-k.auto.k-end, c.len-k-end.ensures) in
     all_begun c.args.shift.now grants c.loop-k.progress
     (subst (λ (n : ℕ). HaveBegun c.args.shift.now grants n c.loop-k.progress) count (c.loop-k.invariant grants are))

@@ -14,7 +14,8 @@ use Rattle.cell_sessions.proofs.session.run_session.Goals as goal
 pub after-at-requires-clause-step : goal.after-at-requires-clause-step
 after-at-requires-clause-step g c =
     let i = c.asks.invariant in let at : Place = place_of c.asks.at in
-    let going : HasEnded c.args.script.now c.args.patience at → ⊥ = λ ended. false≢true (sym (not-true c.asks.at.ended c.asks-test.true) ∙ i.tells.1 ended) in
+    let going : HasEnded c.args.script.now c.args.patience at → ⊥ =
+    λ ended. false≢true (sym (not-true c.asks.at.ended c.asks-test.true) ∙ i.tells.1 ended) in
     let left = step_left c.args.script.now c.args.patience at i.within going in
     omega (arith, left, c.requires.steps)
 
@@ -24,7 +25,8 @@ asks-preserved g c =
     let patience = c.args.patience in
     let at : Place = place_of c.asks.at in
     let i = c.asks.invariant in
-    let going : HasEnded script patience at → ⊥ = λ ended. false≢true (sym (not-true c.asks.at.ended c.asks-test.true) ∙ i.tells.1 ended) in
+    let going : HasEnded script patience at → ⊥ =
+    λ ended. false≢true (sym (not-true c.asks.at.ended c.asks-test.true) ∙ i.tells.1 ended) in
     let patient = patience_left script patience at i.within going in
     let step = step_left script patience at i.within going in
     let goes = c.after-at.ensures.place in
@@ -49,7 +51,8 @@ asks-smaller g c =
     let patience = c.args.patience in
     let at : Place = place_of c.asks.at in
     let i = c.asks.invariant in
-    let going : HasEnded script patience at → ⊥ = λ ended. false≢true (sym (not-true c.asks.at.ended c.asks-test.true) ∙ i.tells.1 ended) in
+    let going : HasEnded script patience at → ⊥ =
+    λ ended. false≢true (sym (not-true c.asks.at.ended c.asks-test.true) ∙ i.tells.1 ended) in
     script_asks_left-falls script patience at (place_of c.after-at.result) c.in-Ok.reply (step_left script patience at i.within going)
     (patience_left script patience at i.within going) c.after-at.ensures.place
 
@@ -59,7 +62,8 @@ returns-in_default g c =
     let patience = c.args.patience in
     let at : Place = place_of c.asks.at in
     let i = c.asks.invariant in
-    let going : HasEnded script patience at → ⊥ = λ ended. false≢true (sym (not-true c.asks.at.ended c.asks-test.true) ∙ i.tells.1 ended) in
+    let going : HasEnded script patience at → ⊥ =
+    λ ended. false≢true (sym (not-true c.asks.at.ended c.asks-test.true) ∙ i.tells.1 ended) in
     let asks : Asks script patience (place_of c.args.start) at c.args.pass.now c.asks.pass c.ask.new.pass c.get.result.now = record {
       asked = i.run;
       patient = patience_left script patience at i.within going;
