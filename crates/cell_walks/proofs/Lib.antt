@@ -5,5 +5,6 @@ pub mod OpenedOnce
 pub mod Promising
 pub mod Standing
 pub mod Steps
+pub mod Telling
 pub mod TwoTests
 pub mod Walked

@@ -84,9 +84,10 @@ module _ (seen : Observed) (sink : SinkTold) (walk : Walk) (status : Status) (en
     abbrev outcome : Outcome
     outcome = ends.outcome
 
-    whole : (status ≡ SinkFault → ⊥) → (status ≡ outcome.status) × TookAll sink outcome.pieces
+    whole : (status ≡ SinkFault → ⊥)
+        → (status ≡ outcome.status) × TookAll sink outcome.pieces × (sink.faults_after ≡ sink.faults)
     whole other = elim ends.delivered [
-      | Whole is taken took kept ↦ (is, took)
+      | Whole is taken took kept ↦ (is, took, kept)
       | Cut eight took rose ↦ absurd (other eight)
     ]
 

@@ -4,5 +4,6 @@ pub mod DiskTold
 pub mod Observed
 pub mod Outcomes
 pub mod Promises
+pub mod StatusTells
 pub mod Statuses
 pub mod Walks

@@ -190,10 +190,12 @@ abbrev pub IsEndedBy : SinkTold → EarlyEnd → Status → Type 0
 IsEndedBy sink end status = ((status ≡ early_status end) × TookAll sink (early_line end ∷ [])) ⊎ (status ≡ NoMemory)
 
 pub record Promises (seen : Observed) (sink : SinkTold) (walk : Walk) (status : Status) : Type 0 where
-  -- What was put, and done to the disk, is that of an outcome that the walk allows, with its status; each piece by one put.
+  -- What was put, and done to the disk, is that of an outcome that the walk allows, with its status; each piece by one put. So it is with
+  -- every status but that of a failed sink, and the sink's count of faults stayed then.
   pub outcome : Outcome
   pub allowed : IsAllowed seen walk outcome
-  pub whole : (status ≡ SinkFault → ⊥) → (status ≡ outcome.status) × TookAll sink outcome.pieces
+  pub whole : (status ≡ SinkFault → ⊥)
+      → (status ≡ outcome.status) × TookAll sink outcome.pieces × (sink.faults_after ≡ sink.faults)
   -- Where the sink fails, a prefix of the pieces was put.
   pub cut : status ≡ SinkFault → IsCut sink outcome.pieces
   -- No end without its cause: the outside failed, or a test is refused so, or the tests pass and it answers so.
