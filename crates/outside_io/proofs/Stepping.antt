@@ -55,6 +55,9 @@ module _ (first : List ℕ) (old new : List DiskStep) (bytes : List ℕ) (same :
   stays : Aged old
   stays = record { later = omega arith; nothing_else = λ t c le left. inl left; keeps = λ t c le left. left }
 
+  pub stands : new ≡ old → Aged new
+  stands none = subst Aged (sym none) stays
+
   -- a sync
   pub settled_state : Extends old new (λ state. at_rest state.seen) → is ≡ at_rest bytes
   settled_state more = after_extension (at_rest first) old new _ more ∙ ap at_rest same
@@ -102,7 +105,7 @@ module _ (first : List ℕ) (old new : List DiskStep) (bytes : List ℕ) (same :
     ]
 
     pub lost_ages : Aged new
-    lost_ages = elim failed [ inl more ↦ ages _ more.0 | inr none ↦ subst Aged (sym none.0) stays ]
+    lost_ages = elim failed [ inl more ↦ ages _ more.0 | inr none ↦ stands none.0 ]
 
   -- a write
   module _ (at : ℕ) (piece : List ℕ) (more : Extends old new (λ state. wrote state at piece)) where

@@ -1,5 +1,5 @@
 -- The bytes so far are drawn, by as many draws as there are written offsets among theirs.
-use Rattle.std.proofs.Common.{◌≡◌, ◌+◌, ℕ, length, map}
+use Rattle.std.proofs.Common.{◌≡◌, ◌+◌, map}
 use Rattle.std.specs.List.{range_with_len}
 use Rattle.outside_io.specs.Draws.{number_after}
 use Rattle.outside_io.specs.DrawnImages.{drawn_byte, written_below}
