@@ -2,6 +2,7 @@ pub mod AskedSteps
 pub mod Clauses
 pub mod FaultNumbers
 pub mod JournalReads
+pub mod Openings
 pub mod Recorded
 pub mod Records
 pub mod Starting

@@ -19,7 +19,7 @@ mod recorded;
 mod refusals;
 
 pub use made::Made;
-pub use opening::{OpenedJournal, Unopened, open_journal};
+pub use opening::{Unopened, open_journal, open_journal_with};
 pub use readers::{AfterGrants, Found, find_grants, read_journal};
 pub use recorded::{Asked, Closed, Recorded, give_back, print_recorded, record_of};
 pub use refusals::{at_journal_fault, at_other_shift};

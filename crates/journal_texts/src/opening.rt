@@ -6,21 +6,15 @@ ghost use Rattle.durable_cell.specs.declared.replays.TheConstants.{MAX_ROOM};
 ghost use Rattle.cell_walks.specs.Clauses.{IsNotOpened, disk_told};
 ghost use Rattle.cell_texts.specs.Clauses.{CellFits, MAX_CELL_BYTES, known};
 ghost use Rattle.journal_texts.specs.Clauses.{to_add};
+ghost use Rattle.journal_texts.specs.Openings.{opened_or_end};
 
 use crate::refusals::at_journal_fault;
 use cell_texts::CellFile;
 use cell_walks::EarlyEnd;
-use durable_cell::{Durable, Opening};
+use durable_cell::{Durable, Heard, Opening, Recalled};
 use outside_io::Disk;
 use shift_recovery::Taker;
 use std::alloc::Global;
-
-/// A journal that was opened to be added to, and what is kept of its grants.
-#[derive(Drop)]
-pub struct OpenedJournal<D: Disk, K> {
-    pub durable: Durable<D>,
-    pub kept: K,
-}
 
 /// Why a journal was not opened, and the disk that was handed in.
 #[derive(Drop)]
@@ -29,33 +23,64 @@ pub struct Unopened<D> {
     pub disk: D,
 }
 
-/// The durable cell after the grants of a journal that has at most `room` of them, each of which is handed on as it is read, or the end
-/// in its place. At most `limit` requests may be decided.
-pub fn open_journal<D: Disk, K: Taker + Drop>(
+/// The durable cell after the grants of a journal that has at most `room` of them, with a list of these, or the end in its place. At most
+/// `limit` requests may be decided.
+pub fn open_journal<D: Disk>(
+    alloc: Global,
+    held: CellFile,
+    disk: D,
+    room: u64,
+    limit: u64,
+) -> Result<Durable<D>, Unopened<D>>
+    requires fits { CellFits held.cell }
+    requires short { length held.text.items ≤ MAX_CELL_BYTES }
+    requires room { room ≤ MAX_ROOM }
+    requires limit { limit ≤ MAX_ROOM }
+    ensures new { IfOk result (λ durable.
+        durable ≡ fresh held.cell held.text.items disk durable.found durable.disk durable.opening limit) }
+    ensures opening { IfOk result (λ durable.
+        IfSome (D.reads_as disk) (λ file. opened_as held.cell file held.text.items room ≡ Ok durable.opening)) }
+    ensures ended { IfErr result (λ unopened.
+        IsNotOpened (disk_told D.reads_as D.may_leave D.moment D.left_since D.faults disk unopened.disk) (to_add (known held) room)
+        unopened.end) }
+{
+    let CellFile { cell, text } = held;
+    opened_or_end(Durable::open(alloc, cell, &text, disk, room, limit))
+}
+
+/// The same without a list of the grants: each is handed on as it is read.
+pub fn open_journal_with<D: Disk, K: Taker + Drop>(
     alloc: Global,
     held: CellFile,
     disk: D,
     room: u64,
     limit: u64,
     kept: K,
-) -> Result<OpenedJournal<D, K>, Unopened<D>>
+) -> Result<Heard<D, Recalled, K>, Unopened<D>>
     requires fits { CellFits held.cell }
     requires short { length held.text.items ≤ MAX_CELL_BYTES }
     requires room { room ≤ MAX_ROOM }
     requires limit { limit ≤ MAX_ROOM }
     requires none { (first : ℕ) → K.took kept first [] kept }
-    ensures new { IfOk result (λ opened. let durable = opened.durable in
+    ensures new { IfOk result (λ heard. let durable = heard.durable in
         durable ≡ fresh held.cell held.text.items disk durable.found durable.disk durable.opening limit) }
-    ensures opening { IfOk result (λ opened.
-        IfSome (D.reads_as disk) (λ file. opened_as held.cell file held.text.items room ≡ Ok opened.durable.opening)) }
-    ensures taken { IfOk result (λ opened. (first : ℕ) × K.took kept first opened.durable.opening opened.kept) }
+    ensures opening { IfOk result (λ heard.
+        IfSome (D.reads_as disk) (λ file. opened_as held.cell file held.text.items room ≡ Ok heard.durable.opening)) }
+    ensures taken { IfOk result (λ heard. (first : ℕ) × K.took kept first heard.durable.opening heard.kept) }
     ensures ended { IfErr result (λ unopened.
         IsNotOpened (disk_told D.reads_as D.may_leave D.moment D.left_since D.faults disk unopened.disk) (to_add (known held) room)
         unopened.end) }
 {
     let CellFile { cell, text } = held;
-    match Durable::open(alloc, cell, &text, disk, room, limit, kept) {
-        Opening::Open { durable, kept } => Ok(OpenedJournal { durable, kept }),
+    opened_or_end(Durable::open_with(alloc, cell, &text, disk, room, limit, kept))
+}
+
+// What was opened, or the end of the command.
+fn opened_or_end<D: Disk, O>(opening: Opening<D, O>) -> Result<O, Unopened<D>>
+    ensures { result ≡ opened_or_end opening }
+{
+    match opening {
+        Opening::Open(opened) => Ok(opened),
         Opening::Refused { disk, why } => Err(Unopened {
             end: at_journal_fault(why),
             disk,

@@ -13,7 +13,7 @@ use admission_core::Core;
 use cell_base::{Entry, List, Told};
 use cell_texts::{print_block, print_history};
 use cell_walks::{EarlyEnd, Status, finish_early};
-use durable_cell::{Durable, Finished};
+use durable_cell::{Durable, Finished, Recall};
 use outside_io::{Disk, Sink};
 
 /// What was asked: the core after it, the number that it was asked under, how many grants there were before it, and what was decided.
@@ -42,7 +42,7 @@ pub struct Closed<D> {
 }
 
 /// Takes a durable cell apart in which everything was asked under one number.
-pub fn record_of<D: Disk>(durable: Durable<D>, number: u32) -> Closed<D>
+pub fn record_of<D: Disk, G: Recall>(durable: Durable<D, G>, number: u32) -> Closed<D>
     requires { IsAskedUnder number durable }
     ensures recorded { IsRecordedOrHalted durable.cell number durable.opening (IsUnhaltedIn durable) (IsHaltedIn durable)
         (recorded_outcome result.recorded) }
@@ -78,7 +78,7 @@ pub fn record_of<D: Disk>(durable: Durable<D>, number: u32) -> Closed<D>
 }
 
 /// Gives the disk of a durable cell back of which nothing was asked, with the end of the command in the place of a record.
-pub fn give_back<D: Disk>(durable: Durable<D>, end: EarlyEnd) -> Made<Recorded, D>
+pub fn give_back<D: Disk, G: Recall>(durable: Durable<D, G>, end: EarlyEnd) -> Made<Recorded, D>
     requires fresh { IsFresh durable }
     ensures made { result.made ≡ Err end }
     ensures stands { StandsForAdded (disk_told D.reads_as D.may_leave D.moment D.left_since D.faults durable.entry result.disk)

@@ -1,0 +1,16 @@
+-- What becomes of an opening: what was opened goes on, or the command ends and gives its disk back.
+use Rattle.std.specs.Prelude.{Result, Ok, Err, Some}
+use Rattle.durable_cell.specs.declared.opening.Opening.{Opening}
+use Rattle.durable_cell.specs.declared.opening.Opening.TheVariants.{Open, Refused, Device, Memory}
+use Rattle.cell_walks.specs.Walks.{end_with}
+use Rattle.cell_walks.specs.declared.early_end.EarlyEnd.TheVariants.{DeviceFailed, WantOfMemory}
+use Rattle.cell_walks.specs.declared.early_end.Subject.TheVariants.{Journal}
+use Rattle.journal_texts.specs.Tests.{journal_line}
+use Rattle.journal_texts.specs.declared.opening.Unopened.{Unopened}
+
+-- what was opened, or the end of the command with the disk that was handed in
+abbrev pub opened_or_end : {D O : Type 0} → Opening D O → Result O (Unopened D)
+opened_or_end (Open opened) = Ok opened
+opened_or_end (Refused disk why) = Err (record { end = end_with Journal (Some (journal_line why)); disk = disk })
+opened_or_end (Device disk) = Err (record { end = DeviceFailed; disk = disk })
+opened_or_end (Memory disk) = Err (record { end = WantOfMemory; disk = disk })
