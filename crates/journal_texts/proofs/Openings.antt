@@ -1,13 +1,15 @@
 -- What is handed on of an opening, by what the opening says.
-use Rattle.std.specs.Prelude.{IfErr, IfOk, IfSome, Result, Ok}
+use Rattle.std.specs.Prelude.{IfErr, IfOk, IfSome, Result, Ok, Err}
 use Rattle.std.proofs.Common.{◌≡◌, ℕ, List, Option, refl, sym, subst}
 use Rattle.cell_base.specs.declared.shifts.Grant.{Grant}
 use Rattle.shift_recovery.specs.Replayed.{opened_as}
+use Rattle.shift_recovery.specs.declared.open_error.OpenError.{OpenError}
+use Rattle.shift_recovery.specs.declared.open_error.OpenFault.TheVariants as fault
 use Rattle.durable_cell.specs.DurableState.{DurableState}
 use Rattle.durable_cell.specs.declared.opening.Heard.{Heard}
 use Rattle.durable_cell.specs.declared.opening.Opening.{Opening}
 use Rattle.durable_cell.specs.declared.opening.Opening.TheVariants.{Open, Refused, Device, Memory}
-use Rattle.durable_cell.specs.Openings.{HasCause, HasTaken, IsAnswer, IsNew, Leaves, durable_heard, fresh}
+use Rattle.durable_cell.specs.Openings.{HasCause, HasTaken, IsAnswer, IsNew, Leaves, fresh, heard_of, opened_of}
 use Rattle.cell_walks.specs.Allowed.{IsNotOpened, OpeningFailed, OpeningRefused, OpeningStarved}
 use Rattle.cell_walks.specs.DiskTold.{disk_told}
 use Rattle.cell_texts.specs.Tests.{KnownCell}
@@ -16,12 +18,15 @@ use Rattle.journal_texts.specs.Tests.{to_add}
 use Rattle.journal_texts.specs.declared.opening.Unopened.{Unopened}
 use Rattle.journal_texts.proofs.Disks.{adds_nothing, only_read}
 
--- what is opened, as contracts see its durable cell
-abbrev pub seen : {D O : Type 0} → (O → DurableState D) → Opening D O → Opening D (DurableState D)
-seen durable (Open opened) = Open (durable opened)
-seen durable (Refused disk why) = Refused disk why
-seen durable (Device disk) = Device disk
-seen durable (Memory disk) = Memory disk
+-- what contracts see of an opening, as a result
+abbrev pub Shown : Type 0 → Type 0
+Shown D = Result (DurableState D) (OpenError D)
+
+abbrev pub seen : {D O : Type 0} → (O → DurableState D) → Opening D O → Shown D
+seen durable (Open opened) = Ok (durable opened)
+seen durable (Refused disk why) = Err (record { disk = disk; why = fault.Refused why })
+seen durable (Device disk) = Err (record { disk = disk; why = fault.Device })
+seen durable (Memory disk) = Err (record { disk = disk; why = fault.Memory })
 
 module _ {D O : Type 0} (durable : O → DurableState D) (reads_as : D → Option (List ℕ)) (may_leave : D → List ℕ → Type 0)
     (moment : D → ℕ) (left_since : D → ℕ → List ℕ → Type 0) (faults : D → ℕ) (held : KnownCell) (disk : D) (room limit : ℕ) where
@@ -37,11 +42,11 @@ module _ {D O : Type 0} (durable : O → DurableState D) (reads_as : D → Optio
       IsNotOpened (disk_told reads_as may_leave moment left_since faults disk unopened.disk) (to_add held room) unopened.end
 
   -- what the opening says
-  abbrev Answers : List ℕ → Opening D (DurableState D) → Type 0
-  Answers text opening = IfSome (reads_as disk) (λ file. IsAnswer opening (opened_as held.cell file text room))
+  abbrev Answers : List ℕ → Shown D → Type 0
+  Answers text shown = IsAnswer (reads_as disk) (λ file. opened_as held.cell file text room) shown
 
-  abbrev LeavesAs : List ℕ → Opening D (DurableState D) → Type 0
-  LeavesAs text opening = Leaves reads_as may_leave moment left_since faults disk text opening
+  abbrev LeavesAs : List ℕ → Shown D → Type 0
+  LeavesAs text shown = Leaves reads_as may_leave moment left_since faults disk text shown
 
   new : (opening : Opening D O) → IsNew held.cell held.text disk limit (seen durable opening) → IfOk (opened_or_end opening) IsNewOpened
   new (Open opened) is = is
@@ -65,19 +70,19 @@ module _ {D O : Type 0} (durable : O → DurableState D) (reads_as : D → Optio
   ends (Memory other) is cause leaves = OpeningStarved refl (only_read reads_as may_leave moment left_since faults disk other leaves)
 
   -- the same of what contracts see of the opening, and of what is handed on
-  module _ (text : List ℕ) (text_is : text ≡ held.text) (opening : Opening D O) (shown : Opening D (DurableState D))
+  module _ (text : List ℕ) (text_is : text ≡ held.text) (opening : Opening D O) (shown : Shown D)
       (shown_is : shown ≡ seen durable opening) (result : Result O (Unopened D)) (result_is : result ≡ opened_or_end opening) where
     answers : Answers text shown → Answers held.text (seen durable opening)
-    answers is = subst (λ (o : Opening D (DurableState D)). Answers held.text o) shown_is
+    answers is = subst (λ (o : Shown D). Answers held.text o) shown_is
         (subst (λ (t : List ℕ). Answers t shown) text_is is)
 
     leaves_as : LeavesAs text shown → LeavesAs held.text (seen durable opening)
-    leaves_as is = subst (λ (o : Opening D (DurableState D)). LeavesAs held.text o) shown_is
+    leaves_as is = subst (λ (o : Shown D). LeavesAs held.text o) shown_is
         (subst (λ (t : List ℕ). LeavesAs t shown) text_is is)
 
     pub is_new : IsNew held.cell text disk limit shown → IfOk result IsNewOpened
     is_new is = subst (λ (r : Result O (Unopened D)). IfOk r IsNewOpened) (sym result_is)
-        (new opening (subst (λ (o : Opening D (DurableState D)). IsNew held.cell held.text disk limit o) shown_is
+        (new opening (subst (λ (o : Shown D). IsNew held.cell held.text disk limit o) shown_is
         (subst (λ (t : List ℕ). IsNew held.cell t disk limit shown) text_is is)))
 
     pub is_opened_as : Answers text shown → IfOk result IsOpenedAs
@@ -85,10 +90,10 @@ module _ {D O : Type 0} (durable : O → DurableState D) (reads_as : D → Optio
 
     pub ended : Answers text shown → HasCause faults disk shown → LeavesAs text shown → IfErr result Ends
     ended is cause leaves = subst (λ (r : Result O (Unopened D)). IfErr r Ends) (sym result_is)
-        (ends opening (answers is) (subst (λ (o : Opening D (DurableState D)). HasCause faults disk o) shown_is cause) (leaves_as leaves))
+        (ends opening (answers is) (subst (λ (o : Shown D). HasCause faults disk o) shown_is cause) (leaves_as leaves))
 
 -- a durable cell is seen as it is
-pub seen-durable : {D : Type 0} (opening : Opening D (DurableState D)) → opening ≡ seen (λ durable. durable) opening
+pub seen-durable : {D : Type 0} (opening : Opening D (DurableState D)) → opened_of opening ≡ seen (λ durable. durable) opening
 seen-durable (Open durable) = refl
 seen-durable (Refused disk why) = refl
 seen-durable (Device disk) = refl
@@ -96,13 +101,13 @@ seen-durable (Memory disk) = refl
 
 module _ {D G K : Type 0} where
   -- one with a taker without it
-  pub seen-heard : (opening : Opening D (Heard D G K)) → durable_heard opening ≡ seen (λ heard. heard.durable) opening
+  pub seen-heard : (opening : Opening D (Heard D G K)) → heard_of opening ≡ seen (λ heard. heard.durable) opening
   seen-heard (Open heard) = refl
   seen-heard (Refused disk why) = refl
   seen-heard (Device disk) = refl
   seen-heard (Memory disk) = refl
 
-  taken_of : (took : K → ℕ → List Grant → K → Type 0) (old : K) (opening : Opening D (Heard D G K)) → HasTaken took old opening
+  taken_of : (took : K → ℕ → List Grant → K → Type 0) (old : K) (opening : Opening D (Heard D G K)) → HasTaken took old (opened_of opening)
       → IfOk (opened_or_end opening) (λ heard. (first : ℕ) × took old first heard.durable.opening heard.kept)
   taken_of took old (Open heard) is = is
   taken_of took old (Refused disk why) is = tt
@@ -110,7 +115,7 @@ module _ {D G K : Type 0} where
   taken_of took old (Memory disk) is = tt
 
   pub taken : (took : K → ℕ → List Grant → K → Type 0) (old : K) (opening : Opening D (Heard D G K))
-      (result : Result (Heard D G K) (Unopened D)) → result ≡ opened_or_end opening → HasTaken took old opening
+      (result : Result (Heard D G K) (Unopened D)) → result ≡ opened_or_end opening → HasTaken took old (opened_of opening)
       → IfOk result (λ heard. (first : ℕ) × took old first heard.durable.opening heard.kept)
   taken took old opening result result_is is =
       subst (λ (r : Result (Heard D G K) (Unopened D)). IfOk r (λ heard. (first : ℕ) × took old first heard.durable.opening heard.kept))

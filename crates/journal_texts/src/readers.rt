@@ -12,7 +12,7 @@ use cell_texts::CellFile;
 use cell_walks::EarlyEnd;
 use durable_cell::{MAX_ROOM, Resumed, resume};
 use outside_io::Disk;
-use shift_recovery::{Taker, Unkept};
+use shift_recovery::{OpenError, OpenFault, Taker, Unkept};
 use std::alloc::Global;
 
 /// A core in the state after grants, and how many these are.
@@ -102,7 +102,7 @@ fn replay_journal<D: Disk, K: Taker + Drop>(
 {
     let CellFile { cell, text } = held;
     match resume(alloc, cell, &text, disk, MAX_ROOM, kept) {
-        Resumed::Open { core, stored, kept } => Made {
+        Ok(Resumed { core, stored, kept }) => Made {
             made: Ok(Replayed {
                 core,
                 count: stored.count(),
@@ -110,17 +110,19 @@ fn replay_journal<D: Disk, K: Taker + Drop>(
             }),
             disk: stored.into_disk(),
         },
-        Resumed::Refused { disk, why } => Made {
-            made: Err(at_journal_fault(why)),
-            disk,
-        },
-        Resumed::Device { disk } => Made {
-            made: Err(EarlyEnd::DeviceFailed),
-            disk,
-        },
-        Resumed::Memory { disk } => Made {
-            made: Err(EarlyEnd::WantOfMemory),
-            disk,
+        Err(OpenError { disk, why }) => match why {
+            OpenFault::Refused(why) => Made {
+                made: Err(at_journal_fault(why)),
+                disk,
+            },
+            OpenFault::Device => Made {
+                made: Err(EarlyEnd::DeviceFailed),
+                disk,
+            },
+            OpenFault::Memory => Made {
+                made: Err(EarlyEnd::WantOfMemory),
+                disk,
+            },
         },
     }
 }

@@ -7,9 +7,9 @@ use Rattle.cell_walks.specs.Allowed.{OpeningRefused}
 use Rattle.journal_texts.proofs.Disks.{only_read}
 use Rattle.journal_texts.proofs.readers.replay_journal.Goals as goal
 
-pub returns-in-Open-clause-replayed : goal.returns-in-Open-clause-replayed
-returns-in-Open-clause-replayed g c =
-    let after = c.in-Open.ensures.resumed in
+pub returns-in-Ok-clause-replayed : goal.returns-in-Ok-clause-replayed
+returns-in-Ok-clause-replayed g c =
+    let after = c.in-Ok.ensures.resumed in
     record {
       first = after.first;
       grants = after.grants;
@@ -27,7 +27,8 @@ pub returns-in-Refused-clause-ended : goal.returns-in-Refused-clause-ended
 returns-in-Refused-clause-ended g c =
     OpeningRefused c.in-Refused.why
     (subst (λ (text : List ℕ). IfSome (g.D.Disk.reads_as c.args.disk)
-    (λ file. opened_as c.args.held.cell file text MAX_ROOM ≡ Err c.in-Refused.why)) c.deref.ensures.value c.in-Refused.ensures.resumed)
-    (only_read g.D.Disk.reads_as g.D.Disk.may_leave g.D.Disk.moment g.D.Disk.left_since g.D.Disk.faults c.args.disk c.in-Refused.disk
-    c.in-Refused.ensures.reads)
+    (λ file. opened_as c.args.held.cell file text MAX_ROOM ≡ Err c.in-Refused.why)) c.deref.ensures.value
+    (rw c.in-Refused.is at c.in-Err.ensures.refused))
+    (only_read g.D.Disk.reads_as g.D.Disk.may_leave g.D.Disk.moment g.D.Disk.left_since g.D.Disk.faults c.args.disk c.in-Err.field-0.disk
+    c.in-Err.ensures.reads)
     c.at_journal_fault.ensures
