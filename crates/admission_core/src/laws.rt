@@ -1,7 +1,8 @@
 //! What holds of each core, and what the policy never refuses, each the contract of a function that does nothing.
 ghost use Rattle.std.specs.Prelude.{◌≡◌, ◌≢◌, ℕ, ◌≤◌};
 ghost use Rattle.policy_laws.specs.Laws.{MayMove};
-ghost use Rattle.admission_core.specs.Clauses.{CellFits, Granted, IsAdmitted, Move, Part, Refused, ResId, Saturated, Stage, Unload, order_at, reply_to, stage_of};
+ghost use Rattle.admission_core.specs.Clauses.{CellFits, Granted, IsAdmitted, Move, Part, Refused, ResId, Saturated, Stage, Unload};
+ghost use Rattle.admission_core.specs.Clauses.{order_at, reply_to, stage_of};
 
 use crate::Core;
 use cell_base::JobId;

@@ -1,5 +1,6 @@
 -- What is read in the flat list of a cell's resources is the resource of the stage.
-use Rattle.std.proofs.Common.{◌≡◌, ◌≤◌, ◌<◌, ℕ, ◌+◌, ◌*◌, ⊎_elim, List, [], Option, Some, None, length, slice_get, arith, ap, ap₂, refl, sym, ◌∙◌}
+use Rattle.std.proofs.Common.{◌≡◌, ◌≤◌, ◌<◌, ℕ, ◌+◌, ◌*◌, ⊎_elim, List, [], Option, Some, None, length}
+use Rattle.std.proofs.Common.{slice_get, arith, ap, ap₂, refl, sym, ◌∙◌}
 use Rattle.std.specs.Option.{ForSome, option_map_or}
 use Rattle.std.specs.Prelude.{unwrap_or}
 use Rattle.std.proofs.lemmas.Nat.{div-mul-add, mod-mul-add}
@@ -79,4 +80,8 @@ pub told_small : (told : Option Cell) (resources : List ℕ) → AreLanes told r
 told_small None resources are kind place r near e =
     absurd (none-some r (sym (ap (λ (xs : List ℕ). slice_get xs (kind * MAX_PLACES + place)) are.all) ∙ e))
 told_small (Some cell) resources are kind place r near e =
-    omega (arith, told_read (Some cell) resources are kind place (Some r) near e cell refl, resource_small cell (are.fits cell refl) (stage kind place))
+    omega (
+      arith,
+      told_read (Some cell) resources are kind place (Some r) near e cell refl,
+      resource_small cell (are.fits cell refl) (stage kind place),
+    )

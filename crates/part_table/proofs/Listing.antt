@@ -72,7 +72,8 @@ reassigned_more first entries i last slots next slot inside read distinct items 
     let pushed : ArePlaces (take i entries ++ (record { item = last.item; stays = true; slot = slot }) ∷ []) next = record {
       placed = known_pushed (take i entries) (place_at slots) (place_at next) (λ k entry. k) are.placed last.item slot absent
           (λ q. placed q ∙ ap (λ n. cond (nat_eq last.item.part.job.0 q) (Some n) (place_at slots q)) (sym far));
-      slotted = known_pushed (take i entries) (slot_of slots) (slot_of next) (λ k entry. entry.slot) are.slotted last.item slot absent slotted;
+      slotted = known_pushed (take i entries) (slot_of slots) (slot_of next) (λ k entry. entry.slot) are.slotted last.item slot absent
+          slotted;
     } in
     record {
       items = map-set_same (λ (entry : Entry). entry.item) entries i (with_slot last slot) last (ap (λ (e : Entry). e.item) read) ∙ items;

@@ -2,10 +2,10 @@
 //!
 //! The entries that were told a resource are linked in their order, also those that are gone, so that the next one that stays is found
 //! by one step for each of them that is gone. One chain serves both: the next that stays, and the next that stays and is not done.
-ghost use Rattle.cell_base.specs.Outcomes.{is_waiting_on};
+ghost use Rattle.std.specs.Prelude.{◌≡◌, ◌≢◌, ℕ, ◌+◌, ◌<◌, ◌≤◌, ◌∷◌, ◌++◌, [], true, not, ◌&&◌, if◌then◌else◌, nat_le, min};
+ghost use Rattle.std.specs.Prelude.{map, filter, find, length, All, Some, None, slice_get, slice_set, slice_index, MatchOption, IfOk, vec_capacity};
 ghost use Rattle.std.specs.Option.{option_map};
-ghost use Rattle.std.specs.Prelude.{◌≡◌, ◌≢◌, ℕ, ◌+◌, ◌<◌, ◌≤◌, ◌∷◌, ◌++◌, [], true, not, ◌&&◌, if◌then◌else◌, nat_le, min, map, filter, find};
-ghost use Rattle.std.specs.Prelude.{length, All, Some, None, slice_get, slice_set, slice_index, MatchOption, IfOk, vec_capacity};
+ghost use Rattle.cell_base.specs.Outcomes.{is_waiting_on};
 ghost use Rattle.part_table.specs.Chains.{OFF, link_entries, nexts_of, told_key, key_of, standing_key, waiting_key};
 ghost use Rattle.part_table.specs.Chains.{IsFirst, IsOnWay, WasFirst, AreLinked, AreNone, IsChained, linked};
 ghost use Rattle.part_table.specs.Logs.{gone_entry, done_entry, with_slot, staying};

@@ -1,8 +1,8 @@
 //! A log of parts as they came, which is found by job and by resource.
-ghost use Rattle.cell_base.specs.Outcomes.{is_waiting_on};
-ghost use Rattle.std.specs.Option.{option_map};
 ghost use Rattle.std.specs.Prelude.{◌≡◌, ◌≢◌, ◌<◌, ◌≤◌, ◌∷◌, ◌++◌, [], true, false, length, Some};
 ghost use Rattle.std.specs.Prelude.{slice_get, slice_set, MatchOption, IfOk, nat_le, map, filter, find, All, None};
+ghost use Rattle.std.specs.Option.{option_map};
+ghost use Rattle.cell_base.specs.Outcomes.{is_waiting_on};
 ghost use Rattle.part_table.specs.declared.standing.Entry.{Entry};
 ghost use Rattle.part_table.specs.declared.chain.TheConstants.{NOWHERE};
 ghost use Rattle.part_table.specs.Logs.{gone_entry, done_entry, staying, entry_job, IsAbsent, IsPlaceOf};

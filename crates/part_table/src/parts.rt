@@ -1,5 +1,6 @@
 //! The table of parts.
-ghost use Rattle.std.specs.Prelude.{◌≡◌, ◌+◌, ◌<◌, ◌≤◌, ◌==◌, true, false, [], ◌∷◌, ◌++◌, length, Some, None, slice_get, find, IfOk, IfSome};
+ghost use Rattle.std.specs.Prelude.{◌≡◌, ◌+◌, ◌<◌, ◌≤◌, ◌==◌, true, false, [], ◌∷◌, ◌++◌, length, Some, None};
+ghost use Rattle.std.specs.Prelude.{slice_get, find, IfOk, IfSome};
 ghost use Rattle.std.specs.Option.{option_map, ForSome};
 ghost use Rattle.cell_base.specs.Policy.{is_of_job, is_loaded, HaveDistinctJobs};
 ghost use Rattle.cell_base.specs.Outcomes.{part_of, without, is_waiting_on, finish_first};

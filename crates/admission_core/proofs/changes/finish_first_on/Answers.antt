@@ -23,7 +23,8 @@ finish_first-requires c =
     omega (arith, c.requires.machine, c.requires.sound.fits.resource_count.1)
 
 module _ (cell : Cell) (before : Tally) (sound : IsSound cell before) (machine : ResId) where
-  module _ (new : Table) (change : new ≡ record before.parts { parts = finish_first (is_waiting_on cell machine.0) before.parts.parts }) where
+  module _ (new : Table)
+      (change : new ≡ record before.parts { parts = finish_first (is_waiting_on cell machine.0) before.parts.parts }) where
     -- the parts after the work
     now : new.parts ≡ finish_first (is_waiting_on cell machine.0) before.parts.parts
     now = ap (λ (table : Table). table.parts) change
@@ -68,14 +69,15 @@ returns-in-Some-clause-tallied c =
     let test = is_waiting_on cell c.args.machine.0 in
     let first = some_job (find test before.parts.parts) c.in-Some.field-0
     (c.in-Some.ensures.job cell sound.tallied.same_cell) in
+    let table = c.in-Some.ensures.table cell sound.tallied.same_cell in
     let undone : first.0.done ≡ false =
     not-true _ (and_parts (not first.0.done) (resource_at cell (stage_of first.0) == c.args.machine.0)
     (find_passes test before.parts.parts first.0 first.1)).0 in
     let less : work cell c.finish_first.new.self.parts + 1 ≡ before.work =
-    ap (λ parts. work cell parts + 1) (now cell before sound c.args.machine c.finish_first.new.self (c.in-Some.ensures.table cell sound.tallied.same_cell))
+    ap (λ parts. work cell parts + 1) (now cell before sound c.args.machine c.finish_first.new.self table)
     ∙ work_finished cell sound.fits before.parts.parts test first.0 first.1 undone
     ∙ sym sound.tallied.work in
-    tallied cell before sound c.args.machine c.finish_first.new.self (c.in-Some.ensures.table cell sound.tallied.same_cell) (before.work - 1) (omega (arith, less))
+    tallied cell before sound c.args.machine c.finish_first.new.self table (before.work - 1) (omega (arith, less))
 
 pub returns-in_default-clause-tallied : goal.returns-in_default-clause-tallied
 returns-in_default-clause-tallied c =

@@ -22,7 +22,8 @@ pub returns-in-Some : goal.returns-in-Some
 returns-in-Some c =
     let test = is_waiting_on c.args.table.now c.args.machine.0 in
     let parts = c.args.tally.now.parts.parts in
-    let some = some_job (find test parts) c.in-Some.field-0 (sym c.in-Some.is ∙ c.first_waiting.ensures ∙ found c.args.machine.0 parts c.stages.ensures) in
+    let same = found c.args.machine.0 parts c.stages.ensures in
+    let some = some_job (find test parts) c.in-Some.field-0 (sym c.in-Some.is ∙ c.first_waiting.ensures ∙ same) in
     let waits : list_any test parts ≡ true = any_found test parts some.0 some.1 in
     rw waits refl
 
@@ -30,6 +31,7 @@ pub returns-in-None : goal.returns-in-None
 returns-in-None c =
     let test = is_waiting_on c.args.table.now c.args.machine.0 in
     let parts = c.args.tally.now.parts.parts in
+    let same = found c.args.machine.0 parts c.stages.ensures in
     let idle : list_any test parts ≡ false =
-    none_found test parts (no_job (find test parts) (sym c.in-None.is ∙ c.first_waiting.ensures ∙ found c.args.machine.0 parts c.stages.ensures)) in
+    none_found test parts (no_job (find test parts) (sym c.in-None.is ∙ c.first_waiting.ensures ∙ same)) in
     rw idle refl

@@ -8,7 +8,8 @@ use Rattle.part_table.proofs.parts.Parts.arrive.Goals as goal
 pub invariant_of-self : goal.invariant_of-self
 invariant_of-self c = (
   λ cell told. subst (AreOn cell) (sym c.arrive.ensures.items)
-      (AreOn-push cell c.self.inside.arrivals.items c.args.part c.on-on.result (c.self.invariant.0 cell told) (c.on-on.ensures.told cell told)),
+      (AreOn-push cell c.self.inside.arrivals.items c.args.part c.on-on.result (c.self.invariant.0 cell told)
+      (c.on-on.ensures.told cell told)),
   c.arrive.ensures.resources ∙ c.self.invariant.1,
 )
 
