@@ -10,15 +10,17 @@ use Rattle.cell_base.specs.declared.shifts.Shift.{Shift}
 use Rattle.cell_base.specs.Fits.{steps_of}
 use Rattle.cell_base.specs.Histories.{entries_of, grants}
 use Rattle.cell_base.specs.Rounds.{IsSession}
-use Rattle.cell_base.specs.Scripts.{Progress, IsTrace, IsWholeTrace, begin_at, holds_halt, script_of, first_step}
+use Rattle.cell_base.specs.Scripts.{IsTrace, IsWholeTrace, begin_at, holds_halt, script_of, first_step}
+use Rattle.cell_base.specs.Scripts.{Progress as Place}
 use Rattle.durable_cell.specs.Asked.{unsure_grant}
 use Rattle.durable_cell.specs.DurableState.{DurableState}
 use Rattle.cell_lock.specs.declared.board.Opening.{Opening}
 use Rattle.cell_lock.specs.Openings.{Outside, opening_of}
 use Rattle.cell_lock.specs.Passes.{AreAll, ArePassesNumbered, LockId, PassState, new_pass, new_passes}
-use Rattle.solo_rounds.specs.Underway.{IsWithinScript, progress_at}
 use Rattle.cell_base.specs.Starts.{AreFirstSteps}
 use Rattle.run_command.specs.JournalRuns.{HasGone, IsAfterSessions}
+use Rattle.cell_sessions.specs.declared.progress.Progress.{Progress}
+use Rattle.cell_sessions.specs.Progressing.{Starts, place_of, progress_at, start_at}
 use Rattle.cell_sessions.specs.Sessions.{HasRun, IsCutShort}
 use Rattle.cell_sessions.specs.Starting.{AreBegun}
 use Rattle.run_command.proofs.RunHistories.{all_sessions, starts_within}
@@ -55,15 +57,19 @@ module _ {D : Type 0} (moment : D → ℕ) (lock : LockId D) where
 -- ---- where they start
 
 module _ (shift : Shift) (opening : List Grant) (progress : List Progress) (begun : AreBegun shift opening progress) where
-  progress_is : (k : ℕ) → k < length shift.scripts → progress_at progress k ≡ begin_at (first_step shift (k + 1) opening)
+  progress_is : (k : ℕ) → k < length shift.scripts
+      → progress_at progress k ≡ start_at (script_of shift (k + 1)) (first_step shift (k + 1) opening)
   progress_is k within =
-      begun.each k (progress_at progress k) (slice_get-get_or progress k (begin_at 0) (omega (arith, within, begun.count)))
+      begun.each k (progress_at progress k) (slice_get-get_or progress k (start_at [] 0) (omega (arith, within, begun.count)))
 
-  pub begun_within : AreFirstSteps shift opening → (k : ℕ) → k < length shift.scripts
-      → IsWithinScript (script_of shift (k + 1)) shift.patience (progress_at progress k)
-  begun_within started k within =
-      subst (IsWithinScript (script_of shift (k + 1)) shift.patience) (sym (progress_is k within))
-      (record { step = starts_within shift opening started (k + 1) (omega arith, omega (arith, within)); refusals = omega arith })
+  place_is : (k : ℕ) → k < length shift.scripts → place_of (progress_at progress k) ≡ begin_at (first_step shift (k + 1) opening)
+  place_is k within = ap (λ (at : Progress). place_of at) (progress_is k within)
+
+  pub begun_starts : AreFirstSteps shift opening → (k : ℕ) → k < length shift.scripts
+      → Starts (script_of shift (k + 1)) (progress_at progress k)
+  begun_starts started k within =
+      subst (Starts (script_of shift (k + 1))) (sym (progress_is k within))
+      (record { within = starts_within shift opening started (k + 1) (omega arith, omega (arith, within)); is_start = refl })
 
 -- ---- after the sessions
 
@@ -82,7 +88,7 @@ module _ {D : Type 0} (moment : D → ℕ) (shift : Shift) (lock : LockId D) (pr
     (old_are : old ≡ new_passes moment lock 1 lock.opening.passes) (sessions : lock.opening.passes ≡ length shift.scripts)
     (begun : AreBegun shift lock.opening.grants progress) (new_are : AreAll lock new)
     (run : (k : ℕ) (d : PassState D) → k < length old
-    → HasRun (script_of shift (k + 1)) shift.patience (progress_at progress k) (get_or old k d) (get_or new k d))
+    → HasRun (script_of shift (k + 1)) shift.patience (place_of (progress_at progress k)) (get_or old k d) (get_or new k d))
     (closed : IsClosed lock new durable) where
   abbrev other : PassState D
   other = new_pass moment lock 0
@@ -104,7 +110,7 @@ module _ {D : Type 0} (moment : D → ℕ) (shift : Shift) (lock : LockId D) (pr
     abbrev pass : PassState D
     pass = get_or new k other
 
-    ran : HasRun (script_of shift (k + 1)) shift.patience (progress_at progress k) (get_or old k other) pass
+    ran : HasRun (script_of shift (k + 1)) shift.patience (place_of (progress_at progress k)) (get_or old k other) pass
     ran = run k other (omega (arith, within, old_count))
 
     inside : k < length new
@@ -116,20 +122,20 @@ module _ {D : Type 0} (moment : D → ℕ) (shift : Shift) (lock : LockId D) (pr
         ∙ All-get_or (λ (p : PassState D). entries_of p.number durable.history ≡ p.mine) new k other inside closed.mine
         ∙ ran.mine ∙ ap (λ (es : List Entry). es ++ ran.entries) (old_mine k within)
 
-    from : progress_at progress k ≡ begin_at (first_step shift (k + 1) lock.opening.grants)
-    from = progress_is shift lock.opening.grants progress begun k within
+    from : place_of (progress_at progress k) ≡ begin_at (first_step shift (k + 1) lock.opening.grants)
+    from = place_is shift lock.opening.grants progress begun k within
 
     pass_limit : (get_or old k other).lock.opening.limit ≡ steps_of shift * shift.patience
     pass_limit =
         ap (λ (passes : List (PassState D)). (get_or passes k other).lock.opening.limit) old_are
         ∙ ap (λ (l : LockId D). l.opening.limit) (old_lock 1 lock.opening.passes k (omega (arith, within, sessions))) ∙ limit
 
-    abbrev Goes : (Progress → List Entry → Type 0) → Type 0
+    abbrev Goes : (Place → List Entry → Type 0) → Type 0
     Goes P = P (begin_at (first_step shift (k + 1) lock.opening.grants)) (entries_of (k + 1) durable.history)
 
-    goes : (P : Progress → List Entry → Type 0) → P (progress_at progress k) ran.entries → Goes P
-    goes P is = subst (λ (at : Progress). P at (entries_of (k + 1) durable.history)) from
-        (subst (λ (es : List Entry). P (progress_at progress k) es) (sym own) is)
+    goes : (P : Place → List Entry → Type 0) → P (place_of (progress_at progress k)) ran.entries → Goes P
+    goes P is = subst (λ (at : Place). P at (entries_of (k + 1) durable.history)) from
+        (subst (λ (es : List Entry). P (place_of (progress_at progress k)) es) (sym own) is)
 
     gone : HasGone shift lock.opening.grants durable.history (k + 1)
     gone = record {
@@ -139,8 +145,8 @@ module _ {D : Type 0} (moment : D → ℕ) (shift : Shift) (lock : LockId D) (pr
       ended = by_end ran.ends;
     }
       where
-        by_end : IsWholeTrace (script_of shift (k + 1)) shift.patience (progress_at progress k) ran.entries
-            ⊎ IsCutShort (script_of shift (k + 1)) shift.patience (progress_at progress k) ran.entries pass.seen
+        by_end : IsWholeTrace (script_of shift (k + 1)) shift.patience (place_of (progress_at progress k)) ran.entries
+            ⊎ IsCutShort (script_of shift (k + 1)) shift.patience (place_of (progress_at progress k)) ran.entries pass.seen
             (get_or old k other).lock.opening.limit
             → IsWholeTrace (script_of shift (k + 1)) shift.patience (begin_at (first_step shift (k + 1) lock.opening.grants))
             (entries_of (k + 1) durable.history)

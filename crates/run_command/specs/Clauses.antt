@@ -4,7 +4,7 @@ pub use Rattle.cell_base.specs.Starts.{AreFirstSteps}
 pub use Rattle.shift_recovery.specs.Replayed.{AreDue}
 pub use Rattle.cell_lock.specs.Openings.{opening_of}
 pub use Rattle.cell_lock.specs.Passes.{new_passes}
-pub use Rattle.cell_sessions.specs.Starting.{AreBegun, HasLed}
+pub use Rattle.cell_sessions.specs.Starting.{AreBegun, first_of_shift}
 pub use Rattle.cell_walks.specs.Allowed.{StandsForAdded}
 pub use Rattle.run_command.specs.JournalRuns.{HasStarted, IsAfterSessions, IsRunOnJournal}
 pub use Rattle.run_command.specs.Run.{IsShiftRun, run}

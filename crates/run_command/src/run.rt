@@ -7,10 +7,10 @@ ghost use Rattle.run_command.specs.Clauses.{IsRunOnJournal, ShiftFits, run};
 
 use crate::sessions::start;
 use cell_base::Shift;
-use cell_sessions::SessionStarts;
+use cell_sessions::ShiftGrants;
 use cell_texts::{CellFile, CommandEnd, read_cell, read_shift};
 use cell_walks::leaves_only_now;
-use journal_texts::{Made, Recorded, open_journal, print_recorded};
+use journal_texts::{Made, Recorded, open_journal_with, print_recorded};
 use outside_io::{Disk, Files, Pace, Sink};
 use solo_rounds::{asks_of, steps_of};
 use std::alloc::Global;
@@ -89,8 +89,8 @@ fn run_journal<R: Threads + Wait + Sync, D: Disk + Send, P: Pace + Sync>(
     ensures fits { IfOk result.made EntriesFit }
 {
     let room = MAX_RUN_ROOM - steps_of(shift);
-    let starts = SessionStarts::of(shift);
-    match open_journal(alloc, held, disk, room, asks_of(shift), starts) {
+    let own = ShiftGrants::of(alloc, shift.number);
+    match open_journal_with(alloc, held, disk, room, asks_of(shift), own) {
         Ok(opened) => start(rt, alloc, opened.durable, &opened.kept, shift, pace),
         Err(unopened) => Made {
             made: Err(unopened.end),

@@ -2,42 +2,43 @@
 ghost use Rattle.std.specs.Prelude.{◌≡◌, ◌*◌, IfOk, length};
 ghost use Rattle.cell_walks.specs.Clauses.{disk_told};
 ghost use Rattle.journal_texts.specs.Clauses.{EntriesFit, IsFresh, recorded_outcome};
-ghost use Rattle.run_command.specs.Clauses.{AreBegun, AreDue, AreFirstSteps, HasLed, HasStarted, IsAfterSessions, IsShiftRun};
-ghost use Rattle.run_command.specs.Clauses.{ShiftFits, StandsForAdded, new_passes, opening_of, steps_of};
+ghost use Rattle.run_command.specs.Clauses.{AreBegun, AreDue, AreFirstSteps, HasStarted, IsAfterSessions, IsShiftRun};
+ghost use Rattle.run_command.specs.Clauses.{ShiftFits, StandsForAdded, first_of_shift, new_passes, opening_of, steps_of};
 
 use cell_base::{List, NoMemory, Shift};
 use cell_lock::{Pass, SharedCell};
-use cell_sessions::{BeginFault, Progress, SessionStarts, run_shift};
+use cell_sessions::laws::own_grants_law;
+use cell_sessions::{BeginFault, Progress, ShiftGrants, begin, run_shift};
 use cell_walks::EarlyEnd;
-use durable_cell::Durable;
+use durable_cell::{Durable, Recalled};
 use journal_texts::{Closed, Made, Recorded, at_other_shift, give_back, record_of};
 use outside_io::{Disk, Pace};
 use std::alloc::Global;
 use std::sync::Wait;
 use std::thread::Threads;
 
-/// Runs the sessions from where they start after the grants of the opening; or gives the disk back with the early end in the place of
-/// their record.
+/// Runs the sessions from where they start after the grants of the opening, of which those of the shift's number are told; or gives the
+/// disk back with the early end in the place of their record.
 pub fn start<R: Threads + Wait + Sync, D: Disk + Send, P: Pace + Sync>(
     rt: &R,
     alloc: Global,
-    durable: Durable<D>,
-    starts: &SessionStarts<'_>,
+    durable: Durable<D, Recalled>,
+    own: &ShiftGrants,
     shift: &Shift,
     pace: &P,
 ) -> Made<Recorded, D>
     requires fresh { IsFresh durable }
     requires limit { durable.limit ≡ steps_of shift.now * shift.now.patience }
     requires shift { ShiftFits durable.cell shift.now }
-    requires own { starts.now.shift ≡ shift.now }
-    requires led { HasLed durable.opening starts.now }
+    requires own { own.now.grants ≡ first_of_shift shift.now.number durable.opening }
     ensures started { HasStarted (disk_told D.reads_as D.may_leave D.moment D.left_since D.faults durable.entry result.disk)
         durable.cell durable.text shift.now durable.opening result.made }
     ensures due { AreDue durable.cell durable.opening }
     ensures fits { IfOk result.made EntriesFit }
 {
     let _kept = durable.core();
-    match starts.begin(alloc) {
+    own_grants_law(shift);
+    match begin(alloc, shift, own.grants.as_slice()) {
         Ok(progress) => share(rt, alloc, durable, progress, shift, pace),
         Err(BeginFault::OtherShift { session }) => give_back(durable, at_other_shift(session)),
         Err(BeginFault::Memory) => give_back(durable, EarlyEnd::WantOfMemory),
@@ -48,7 +49,7 @@ pub fn start<R: Threads + Wait + Sync, D: Disk + Send, P: Pace + Sync>(
 fn share<R: Threads + Wait + Sync, D: Disk + Send, P: Pace + Sync>(
     rt: &R,
     alloc: Global,
-    durable: Durable<D>,
+    durable: Durable<D, Recalled>,
     progress: List<Progress>,
     shift: &Shift,
     pace: &P,
@@ -78,12 +79,12 @@ fn share<R: Threads + Wait + Sync, D: Disk + Send, P: Pace + Sync>(
 // Runs the sessions to their ends, and gives the durable cell after them.
 fn run_sessions<R: Threads + Wait + Sync, D: Disk + Send, P: Pace + Sync>(
     rt: &R,
-    cell: SharedCell<D>,
-    mut passes: List<Pass<D>>,
+    cell: SharedCell<D, Recalled>,
+    mut passes: List<Pass<D, Recalled>>,
     progress: &List<Progress>,
     shift: &Shift,
     pace: &P,
-) -> Durable<D>
+) -> Durable<D, Recalled>
     requires limit { cell.opening.limit ≡ steps_of shift.now * shift.now.patience }
     requires number { cell.opening.shift ≡ shift.now.number }
     requires shift { ShiftFits cell.opening.cell shift.now }
@@ -105,7 +106,7 @@ fn run_sessions<R: Threads + Wait + Sync, D: Disk + Send, P: Pace + Sync>(
 }
 
 // Takes the durable cell after the sessions apart.
-fn finish<D: Disk>(durable: Durable<D>, shift: &Shift) -> Closed<D>
+fn finish<D: Disk>(durable: Durable<D, Recalled>, shift: &Shift) -> Closed<D>
     requires after { IsAfterSessions shift.now durable }
     requires shift { ShiftFits durable.cell shift.now }
     requires started { AreFirstSteps shift.now durable.opening }

@@ -7,7 +7,7 @@ use Rattle.std.proofs.lemmas.Option.{get_or_from_slice_get, slice_get_within}
 use Rattle.cell_base.specs.declared.shifts.Grant.{Grant}
 use Rattle.standby_link.specs.declared.frame.Frame.{Frame}
 use Rattle.standby_link.specs.Frames.{bytes_at, frame_of, framed}
-use Rattle.standby_commands.specs.Feed.{frames_at}
+use Rattle.standby_link.specs.Fed.{frames_at}
 
 -- the frame at an index is the first of those from there on
 pub frame_there : (grants : List Grant) (at : ℕ) (bytes : List ℕ) → bytes_at grants at ≡ Some bytes

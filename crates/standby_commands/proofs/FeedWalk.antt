@@ -2,14 +2,12 @@
 use Rattle.std.specs.Prelude.{IfErr, IfOk, nat_le, ok_or, Option, Some, None, ◌-◌, ◌^◌}
 use Rattle.std.specs.List.{All}
 use Rattle.std.proofs.Common.{◌≡◌, ℕ, ◌<◌, ◌≤◌, Bool, true, false, cond, List, length, Result, Ok, Err, refl, ◌∙◌, sym, ap, subst, arith}
-use Rattle.std.proofs.lemmas.Bool.{le-leb, leb-true, lt-ltb}
+use Rattle.std.proofs.lemmas.Bool.{le-leb, leb-true}
 use Rattle.std.proofs.lemmas.List.Elements.{All-weaker}
 use Rattle.cell_base.specs.declared.cells.Cell.{Cell}
-use Rattle.cell_base.specs.declared.requests.Request.{Request}
-use Rattle.cell_base.specs.declared.requests.Request.TheVariants.{Load, Process, Move, Unload, Place}
 use Rattle.cell_base.specs.declared.shifts.Grant.{Grant}
 use Rattle.cell_base.specs.Fits.{RequestFits}
-use Rattle.entry_codec.specs.Records.{HasRecord, request_has_record}
+use Rattle.entry_codec.specs.Records.{HasRecord}
 use Rattle.step_text.specs.Words.{number_of}
 use Rattle.cell_walks.specs.Allowed.{AllowsFrom, ByRefusal, IsAllowed, IsEndedAt, IsOpenedAs}
 use Rattle.cell_walks.specs.Allowed.{JournalOpened, NotOpened, Passed, Stopped, Unasked}
@@ -24,6 +22,7 @@ use Rattle.cell_texts.specs.Numbers.{number}
 use Rattle.cell_texts.specs.Tests.{KnownCell, cell_file, cell_reads}
 use Rattle.journal_texts.specs.Tests.{to_read}
 use Rattle.standby_link.specs.Frames.{Feeding}
+use Rattle.standby_link.proofs.FeedIsFed.{fit_has_record}
 use Rattle.standby_commands.specs.Feed.{EndsFeeding, HasFed, HasTooFew, IsFeeding, TooFew, Unopened}
 use Rattle.standby_commands.specs.Feed.{fed_from, feed, feed_of, feed_outcome, within}
 use Rattle.standby_commands.specs.Lines.{feed_refused}
@@ -40,14 +39,7 @@ too_few first grants more = by_test (nat_le first (length grants)) refl
     by_test false is = ap (λ (t : Bool). cond t (Ok tt) (Err (length grants))) is
     by_test true is = absurd (let some = leb-true first (length grants) is in omega (arith, some, more))
 
--- a request that fits a cell has a record
-fit_has_record : (cell : Cell) (request : Request) → RequestFits cell request → request_has_record request ≡ true
-fit_has_record cell (Load job kind) fits = refl
-fit_has_record cell (Process machine) fits = refl
-fit_has_record cell (Move job branch) fits = lt-ltb branch _ fits
-fit_has_record cell (Unload job) fits = refl
-fit_has_record cell (Place done kind job place) fits = refl
-
+-- requests that fit a cell have records
 pub fit_have_records : (cell : Cell) (grants : List Grant) → All (λ (grant : Grant). RequestFits cell grant.request) grants
     → All HasRecord grants
 fit_have_records cell grants fit =

@@ -1,5 +1,5 @@
 -- `feed CELL JOURNAL FROM`: the grants of the journal from an index on, as frames.
-use Rattle.std.specs.Prelude.{◌≡◌, ℕ, ◌+◌, nat_le, if◌then◌else◌, Some, List, [], ◌∷◌, length, map, drop, Result, Ok, Err, ⊤}
+use Rattle.std.specs.Prelude.{◌≡◌, ℕ, nat_le, if◌then◌else◌, Some, List, length, Result, Ok, Err, ⊤}
 use Rattle.cell_base.specs.declared.shifts.Grant.{Grant}
 use Rattle.cell_walks.specs.Allowed.{IsNotOpened, IsOpenedAs}
 use Rattle.cell_walks.specs.DiskTold.{DiskTold}
@@ -13,18 +13,9 @@ use Rattle.cell_texts.specs.Numbers.{number}
 use Rattle.cell_texts.specs.OneWay.{once, reads_by}
 use Rattle.cell_texts.specs.Tests.{cell_file}
 use Rattle.journal_texts.specs.Tests.{to_read}
-use Rattle.standby_link.specs.declared.frame.Frame.{Frame}
-use Rattle.standby_link.specs.Frames.{Feeding, frame_of, framed}
+use Rattle.standby_link.specs.Fed.{fed}
+use Rattle.standby_link.specs.Frames.{Feeding}
 use Rattle.standby_commands.specs.Lines.{feed_refused}
-
--- the frames of grants, the first of which has this index
-abbrev pub frames_at : ℕ → List Grant → List Frame
-frames_at at [] = []
-frames_at at (grant ∷ grants) = framed at grant ∷ frames_at (at + 1) grants
-
--- the bytes of the frames of grants from an index on
-abbrev pub fed : ℕ → List Grant → List (List ℕ)
-fed first grants = map frame_of (frames_at first (drop first grants))
 
 -- the index is no more than the number of the grants
 abbrev pub within : ℕ → List Grant → Result ⊤ ℕ

@@ -10,11 +10,11 @@ use crate::frames::{FRAME_BYTES, read_frames};
 use crate::printing::print_acks;
 use crate::refusals::follow_refused;
 use admission_core::Core;
-use cell_base::{Grant, List, NoMemory, Shelf};
+use cell_base::{NoMemory, Shelf};
 use cell_texts::{CellFile, CommandEnd, read_cell};
 use cell_walks::{EarlyEnd, Status, finish, finish_early};
 use durable_cell::{Durable, Finished, MAX_ROOM};
-use journal_texts::{Made, OpenedJournal, give_back, open_journal};
+use journal_texts::{Made, give_back, open_journal};
 use outside_io::{Disk, Files, Sink};
 use record_text::left_line;
 use standby_link::{Follower, TakeFault};
@@ -95,8 +95,8 @@ fn follow_journal<D: Disk>(
             disk,
         };
     };
-    match open_journal(alloc, held, disk, MAX_ROOM, count, List::new(alloc)) {
-        Ok(OpenedJournal { durable, kept }) => follow_opened(alloc, durable, kept, bytes, acks),
+    match open_journal(alloc, held, disk, MAX_ROOM, count) {
+        Ok(durable) => follow_opened(alloc, durable, bytes, acks),
         Err(unopened) => Made {
             made: Err(unopened.end),
             disk: unopened.disk,
@@ -104,16 +104,14 @@ fn follow_journal<D: Disk>(
     }
 }
 
-// The same of a journal that was opened, and its grants; or the disk, where there is no memory for these.
+// The same of a journal that was opened; or the disk, where there is no memory for its grants.
 fn follow_opened<D: Disk>(
     alloc: Global,
     durable: Durable<D>,
-    grants: List<Grant>,
     bytes: &[u8],
     mut acks: Shelf<u64>,
 ) -> Made<Followed, D>
     requires fresh { IsFresh durable }
-    requires opening { grants ≡ durable.opening }
     requires limit { length (frames_in bytes.now) ≤ durable.limit }
     requires acks { acks.items ≡ [] }
     requires room { length (frames_in bytes.now) ≤ acks.spare }
@@ -123,7 +121,7 @@ fn follow_opened<D: Disk>(
     ensures fits { IfOk result.made StopFits }
 {
     let _kept = durable.core();
-    match Follower::open(alloc, durable, grants, bytes.len() as u64 / FRAME_BYTES) {
+    match Follower::open(alloc, durable, bytes.len() as u64 / FRAME_BYTES) {
         Ok(mut follower) => {
             let stop = take_frames(&mut follower, bytes, &mut acks);
             let Finished {

@@ -1,8 +1,8 @@
 //! Frames and answers on their way to the sink, each one `put`.
 ghost use Rattle.std.specs.Prelude.{◌≤◌, [], ◌∷◌, length, map, OnOk, OnErr};
 ghost use Rattle.cell_walks.specs.Clauses.{HasCause, TookAll, TookSome, sink_told};
-ghost use Rattle.standby_commands.specs.Feed.{fed};
 ghost use Rattle.standby_commands.specs.Lines.{ack_line};
+ghost use Rattle.standby_link.specs.Fed.{fed};
 
 use crate::refusals::ack_line;
 use cell_texts::print_line;

@@ -4,11 +4,12 @@ use Rattle.std.specs.List.{refill}
 use Rattle.std.proofs.lemmas.List.{take_at}
 use mathlib.Core.List.{IsPrefix}
 use Rattle.cell_base.specs.Histories.{entries_of}
-use Rattle.cell_base.specs.Scripts.{Progress, script_of}
+use Rattle.cell_base.specs.Scripts.{script_of}
 use Rattle.cell_lock.specs.Passes.{AreAll, PassState}
+use Rattle.cell_sessions.specs.declared.progress.Progress.{Progress}
+use Rattle.cell_sessions.specs.Progressing.{Starts, progress_at}
 use Rattle.cell_sessions.specs.Starting.{AreBegun}
-use Rattle.solo_rounds.specs.Underway.{IsWithinScript, progress_at}
-use Rattle.run_command.proofs.RunSessions.{all_new, begun_within, after_sessions}
+use Rattle.run_command.proofs.RunSessions.{all_new, begun_starts, after_sessions}
 use Rattle.run_command.proofs.sessions.run_sessions.Goals as goal
 
 -- a list that is written over as a whole
@@ -27,12 +28,11 @@ run_shift-requires-clause-sessions g c κs inside = (
   ap length c.as_slice.ensures ∙ c.requires.begun.count,
 )
 
-pub run_shift-requires-clause-within : goal.run_shift-requires-clause-within
-run_shift-requires-clause-within g c κs inside = λ k within.
-    subst (λ (progress : List Progress). IsWithinScript (script_of c.args.shift.now (k + 1)) c.args.shift.now.patience
-    (progress_at progress k))
+pub run_shift-requires-clause-start : goal.run_shift-requires-clause-start
+run_shift-requires-clause-start g c κs inside = λ k within.
+    subst (λ (progress : List Progress). Starts (script_of c.args.shift.now (k + 1)) (progress_at progress k))
     (sym c.as_slice.ensures)
-    (begun_within c.args.shift.now c.args.cell.opening.grants c.args.progress.now c.requires.begun c.requires.started k within)
+    (begun_starts c.args.shift.now c.args.cell.opening.grants c.args.progress.now c.requires.begun c.requires.started k within)
 
 pub close-requires : goal.close-requires
 close-requires g c = record {

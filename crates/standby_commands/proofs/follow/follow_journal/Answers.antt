@@ -40,7 +40,7 @@ pub returns-in-Ok-open_journal-clause-followed : goal.returns-in-Ok-open_journal
 returns-in-Ok-open_journal-clause-followed g c =
     followed_opened g.D.Disk.reads_as g.D.Disk.may_leave g.D.Disk.moment g.D.Disk.left_since g.D.Disk.faults (known c.args.held)
     (frames_in c.args.bytes.now) c.args.disk c.follow_opened.result.disk
-    c.in-Ok-open_journal.field-0.durable _ c.follow_opened.result.made c.in-Ok-open_journal.ensures.new c.in-Ok-open_journal.ensures.opening
+    c.in-Ok-open_journal.durable _ c.follow_opened.result.made c.in-Ok-open_journal.ensures.new c.in-Ok-open_journal.ensures.opening
     c.follow_opened.ensures.due c.follow_opened.ensures.followed
 
 pub returns-in-Err-clause-followed : goal.returns-in-Err-clause-followed

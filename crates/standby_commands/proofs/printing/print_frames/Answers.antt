@@ -5,7 +5,7 @@ use Rattle.outside_io.specs.Puts.{SinkTold, sink_told}
 use Rattle.cell_texts.proofs.Delivered.{Underway, breaks_off, ends, goes_on}
 use Rattle.standby_link.specs.declared.frame.Frame.{Frame}
 use Rattle.standby_link.specs.Frames.{frame_of}
-use Rattle.standby_commands.specs.Feed.{frames_at}
+use Rattle.standby_link.specs.Fed.{frames_at}
 use Rattle.standby_commands.proofs.FedFrames.{frame_there}
 use Rattle.standby_commands.proofs.printing.print_frames.Goals as goal
 
@@ -14,7 +14,7 @@ returns-in-Err-clause-part g c =
     let grants = c.args.feeder.now.grants in let first = c.args.first in let at = c.loop-at.at in
     let told : SinkTold = sink_told g.K.Sink.taken g.K.Sink.was_put g.K.Sink.faults c.args.out.now c.loop-at.out in
     let every : List Frame = frames_at first (drop first grants) in
-    let there = frame_there grants at c.frame.result c.frame.ensures in
+    let there = frame_there grants at c.frame.result c.frame.ensures.bytes in
     breaks_off g.K.Sink.taken g.K.Sink.was_put g.K.Sink.faults frame_of every c.args.out.now c.loop-at.out c.print_frame.new.out there.0
     (frames_at (at + 1) (drop (at + 1) grants))
     c.frame.result there.1 (subst (Underway told frame_of every) there.2 c.loop-at.invariant.printed) c.in-Err.ensures.part
@@ -24,7 +24,7 @@ loop-at-preserved g c =
     let grants = c.args.feeder.now.grants in let first = c.args.first in let at = c.loop-at.at in
     let told : SinkTold = sink_told g.K.Sink.taken g.K.Sink.was_put g.K.Sink.faults c.args.out.now c.loop-at.out in
     let every : List Frame = frames_at first (drop first grants) in
-    let there = frame_there grants at c.frame.result c.frame.ensures in
+    let there = frame_there grants at c.frame.result c.frame.ensures.bytes in
     record {
       printed = goes_on g.K.Sink.taken g.K.Sink.was_put g.K.Sink.faults frame_of every c.args.out.now c.loop-at.out
           c.print_frame.new.out there.0

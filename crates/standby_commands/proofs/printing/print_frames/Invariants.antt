@@ -3,7 +3,7 @@ use Rattle.std.proofs.Common.{◌≡◌, drop}
 use Rattle.outside_io.specs.Puts.{sink_told}
 use Rattle.cell_texts.proofs.Delivered.{Underway}
 use Rattle.standby_link.specs.Frames.{frame_of}
-use Rattle.standby_commands.specs.Feed.{frames_at}
+use Rattle.standby_link.specs.Fed.{frames_at}
 use Rattle.standby_commands.proofs.printing.print_frames.Given as goal
 
 abbrev pub invariant-loop-at : goal.invariant-loop-at
