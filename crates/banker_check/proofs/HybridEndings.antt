@@ -2,10 +2,11 @@
 use Rattle.std.proofs.Common.{◌≡◌, ◌≢◌, ◌<◌, ℕ, nat_lt, length, Bool, true, false, not, cond, if◌then◌else◌, List, [], ◌∷◌, ◌++◌}
 use Rattle.std.proofs.Common.{Contains, Option, Some, None, ap, refl, sym, subst, inl, inr, ⊎_elim, arith, ◌∙◌}
 use Rattle.std.specs.List.{list_any}
-use Rattle.std.specs.Option.{option_map_or}
+use Rattle.std.specs.Option.{option_and_then, option_map, option_map_or}
 use Rattle.std.proofs.lemmas.Bool.{cond_both, false≢true, ltb-true}
 use Rattle.cell_base.specs.declared.cells.Cell.{Cell}
 use Rattle.cell_base.specs.declared.cells.ResId.{ResId}
+use Rattle.cell_base.specs.declared.requests.JobId.{JobId}
 use Rattle.cell_base.specs.declared.requests.Part.{Part}
 use Rattle.cell_base.specs.declared.requests.Request.{Request}
 use Rattle.cell_base.specs.declared.requests.Request.TheVariants.{Load, Process, Move, Unload, Place}
@@ -28,8 +29,7 @@ use Rattle.policy_laws.proofs.Stages.{arrival_stage, successor_stage, first_stag
 use Rattle.policy_laws.proofs.Parts.{part_of-found, without-others}
 use Rattle.policy_laws.proofs.States.{count-without, count-finish_first, IsState-push, IsState-without, IsState-finish_first}
 use Rattle.policy_laws.proofs.States.{first_over-none, within-first_over}
-use Rattle.policy_laws.proofs.Requests.{moved}
-use Rattle.policy_laws.specs.Decisions.{is_saturation}
+use Rattle.policy_laws.specs.Decisions.{is_saturation, onward, wanted}
 use Rattle.banker_check.specs.Orders.{IsOrdered, is_ordered}
 use Rattle.banker_check.specs.Hybrid.{IsHybrid, as_hybrid, refuse_h, block, admit_h, outcome_h, outcome_h_of_entry, outcome_h_of_step}
 use Rattle.banker_check.specs.Hybrid.{outcome_h_of_move}
@@ -41,16 +41,16 @@ use Rattle.banker_check.proofs.Ordered.{ordered_law, ordered-finish_first}
 pub hybrid-state : (cell : Cell) (parts : List Part) → IsHybrid cell parts → IsState cell parts
 hybrid-state cell parts hybrid = ⊎_elim (λ admitted. admitted.state) (λ ordered. ordered.state) hybrid
 
--- the ways in which a request ends by both: refused for another reason than a full neighborhood, granted so that the state stays
--- hybrid, or granted where the next state passes
-pub data Ending (cell : Cell) (parts : List Part) : Reply × List Part → HybridReply × List Part → Type 0 where
-  refused : (why : Refusal) → is_saturation why ≡ false → Ending cell parts (refuse why parts) (refuse_h why parts)
-  granted : (next : List Part) → (IsHybrid cell parts → IsHybrid cell next) → Ending cell parts (Permitted, next) (Granted, next)
-  admitted : (next : List Part) → IsState cell next → Ending cell parts (admit cell parts next) (admit_h cell parts next)
+-- the ways in which a request that asks for the state `next` ends by both: refused for another reason than a full neighborhood, granted
+-- so that the state stays hybrid, or granted where that state passes
+pub data Ending (cell : Cell) (parts next : List Part) : Reply × List Part → HybridReply × List Part → Type 0 where
+  refused : (why : Refusal) → is_saturation why ≡ false → Ending cell parts next (refuse why parts) (refuse_h why parts)
+  granted : (IsHybrid cell parts → IsHybrid cell next) → Ending cell parts next (Permitted, next) (Granted, next)
+  admitted : IsState cell next → Ending cell parts next (admit cell parts next) (admit_h cell parts next)
 
 -- an ending with the reply of the policy
-abbrev EndingTold : Cell → List Part → Reply × List Part → Type 0
-EndingTold cell parts o = Ending cell parts o (as_hybrid o.0, o.1)
+abbrev EndingTold : Cell → List Part → List Part → Reply × List Part → Type 0
+EndingTold cell parts next o = Ending cell parts next o (as_hybrid o.0, o.1)
 
 module _ (cell : Cell) where
   hybrid-finish_first : (test : Part → Bool) (parts : List Part) → IsHybrid cell parts → IsHybrid cell (finish_first test parts)
@@ -73,35 +73,40 @@ module _ (cell : Cell) where
 
 module _ (cell : Cell) (fits : CellFits cell) (parts : List Part) (state : IsState cell parts) where
   entry_ending : (part : Part) → IsStage cell (stage_of part)
-      → Ending cell parts (outcome_of_entry cell parts part) (outcome_h_of_entry cell parts part)
+      → Ending cell parts (parts ++ part ∷ []) (outcome_of_entry cell parts part) (outcome_h_of_entry cell parts part)
   entry_ending part stage = at (is_loaded parts part.job) refl
     where
       at : (b : Bool) → is_loaded parts part.job ≡ b
-          → Ending cell parts (cond b (refuse JobLoaded parts) (admit cell parts (parts ++ part ∷ [])))
+          → Ending cell parts (parts ++ part ∷ []) (cond b (refuse JobLoaded parts) (admit cell parts (parts ++ part ∷ [])))
           (cond b (refuse_h JobLoaded parts) (admit_h cell parts (parts ++ part ∷ [])))
       at true e = refused JobLoaded refl
-      at false e = admitted (parts ++ part ∷ []) (IsState-push cell parts part state (others_from_not_loaded parts part.job e) stage)
+      at false e = admitted (IsState-push cell parts part state (others_from_not_loaded parts part.job e) stage)
 
-  process_ending : (r : ℕ) → EndingTold cell parts (outcome_of_process cell parts r)
+  process_ending : (r : ℕ) → EndingTold cell parts (finish_first (is_waiting_on cell r) parts) (outcome_of_process cell parts r)
   process_ending r =
       cond_both (list_any (is_waiting_on cell r) parts) (Permitted, finish_first (is_waiting_on cell r) parts)
-      (refuse Idle parts) (EndingTold cell parts)
-      (λ e. granted (finish_first (is_waiting_on cell r) parts) (hybrid-finish_first cell (is_waiting_on cell r) parts))
+      (refuse Idle parts) (EndingTold cell parts (finish_first (is_waiting_on cell r) parts))
+      (λ e. granted (hybrid-finish_first cell (is_waiting_on cell r) parts))
       (λ e. refused Idle refl)
+
+  -- the parts where one of them goes on, if there is one and it has a stage to go to
+  abbrev gone_on : Option Part → List Part
+  gone_on next = option_map_or (λ part. without parts part.job ++ part ∷ []) next parts
 
   -- a part that goes on by a branch
   step_ending : (part : Part) → (o : Option Stage)
       → ((to : Stage) → o ≡ Some to → Contains (successors cell (stage_of part)) to)
-      → Ending cell parts (outcome_of_step cell parts part o) (outcome_h_of_step cell parts part o)
+      → Ending cell parts (gone_on (option_map (λ (to : Stage). arrival cell part.job part.kind to.place) o))
+      (outcome_of_step cell parts part o) (outcome_h_of_step cell parts part o)
   step_ending part None next = refused NoBranch refl
-  step_ending part (Some to) next = admitted (moved cell parts part to)
+  step_ending part (Some to) next = admitted
       (IsState-push cell (without parts part.job) (arrival cell part.job part.kind to.place)
       (IsState-without cell parts part.job state) (without-others parts part.job)
       (subst (IsStage cell) (sym (arrival_stage cell fits part to (next to refl)))
       (successor_stage cell fits (stage_of part) to (next to refl))))
 
-  move_ending : (branch : ℕ) (o : Option Part) → Ending cell parts (outcome_of_move cell parts o branch)
-      (outcome_h_of_move cell parts o branch)
+  move_ending : (branch : ℕ) (o : Option Part) → Ending cell parts (gone_on (option_and_then (onward cell branch) o))
+      (outcome_of_move cell parts o branch) (outcome_h_of_move cell parts o branch)
   move_ending branch None = refused NoSuchJob refl
   move_ending branch (Some part) = on_done (not part.done)
     where
@@ -111,33 +116,46 @@ module _ (cell : Cell) (fits : CellFits cell) (parts : List Part) (state : IsSta
       step_h : HybridReply × List Part
       step_h = outcome_h_of_step cell parts part (successor cell (stage_of part) branch)
 
-      on_last : (last : Bool) → Ending cell parts (cond last (refuse AtLast parts) step) (cond last (refuse_h AtLast parts) step_h)
+      next : List Part
+      next = gone_on (onward cell branch part)
+
+      on_last : (last : Bool) → Ending cell parts next (cond last (refuse AtLast parts) step) (cond last (refuse_h AtLast parts) step_h)
       on_last true = refused AtLast refl
       on_last false =
           step_ending part (successor cell (stage_of part) branch) (Contains-slice_get (successors cell (stage_of part)) branch)
 
       on_done : (waiting : Bool)
-          → Ending cell parts (cond waiting (refuse NotProcessed parts) (cond (is_last cell (stage_of part)) (refuse AtLast parts) step))
+          → Ending cell parts next
+          (cond waiting (refuse NotProcessed parts) (cond (is_last cell (stage_of part)) (refuse AtLast parts) step))
           (cond waiting (refuse_h NotProcessed parts) (cond (is_last cell (stage_of part)) (refuse_h AtLast parts) step_h))
       on_done true = refused NotProcessed refl
       on_done false = on_last (is_last cell (stage_of part))
 
-  unload_ending : (o : Option Part) → ((part : Part) → o ≡ Some part → Contains parts part)
-      → EndingTold cell parts (outcome_of_unload cell parts o)
-  unload_ending None found = refused NoSuchJob refl
-  unload_ending (Some part) found =
+  -- a part that goes out
+  out_ending : (part : Part) → Contains parts part
+      → EndingTold cell parts (without parts part.job) (outcome_of_unload cell parts (Some part))
+  out_ending part found =
       let onward : Reply × List Part = if is_last cell (stage_of part) then (Permitted, without parts part.job) else refuse NotLast parts in
-      cond_both (not part.done) (refuse NotProcessed parts) onward (EndingTold cell parts) (λ e. refused NotProcessed refl)
-      (λ e. cond_both (is_last cell (stage_of part)) (Permitted, without parts part.job) (refuse NotLast parts) (EndingTold cell parts)
-      (λ f. granted (without parts part.job) (hybrid-without cell parts part (found part refl)))
+      let Ends : Reply × List Part → Type 0 = EndingTold cell parts (without parts part.job) in
+      cond_both (not part.done) (refuse NotProcessed parts) onward Ends (λ e. refused NotProcessed refl)
+      (λ e. cond_both (is_last cell (stage_of part)) (Permitted, without parts part.job) (refuse NotLast parts) Ends
+      (λ f. granted (hybrid-without cell parts part found))
       (λ f. refused NotLast refl))
 
-  pub ending : (request : Request) → RequestFits cell request → Ending cell parts (outcome cell parts request)
-      (outcome_h cell parts request)
+  unload_ending : (job : JobId) (o : Option Part) → part_of parts job ≡ o
+      → EndingTold cell parts (without parts job) (outcome_of_unload cell parts o)
+  unload_ending job None is = refused NoSuchJob refl
+  unload_ending job (Some part) is =
+      let found = part_of-found parts job part is in
+      subst (λ (j : JobId). EndingTold cell parts (without parts j) (outcome_of_unload cell parts (Some part))) found.1
+      (out_ending part found.0)
+
+  pub ending : (request : Request) → RequestFits cell request
+      → Ending cell parts (wanted cell parts request) (outcome cell parts request) (outcome_h cell parts request)
   ending (Load job kind) h = entry_ending (arrival cell job kind 0) (first_stage cell fits kind.0 h)
   ending (Process machine) h = process_ending machine.0
   ending (Move job branch) h = move_ending branch (part_of parts job)
-  ending (Unload job) h = unload_ending (part_of parts job) (λ part e. (part_of-found parts job part e).0)
+  ending (Unload job) h = unload_ending job (part_of parts job) refl
   ending (Place done kind job place) h = entry_ending (record { job = job; kind = kind; place = place; done = done }) h.0
 
 module _ (cell : Cell) (parts : List Part) where
@@ -189,11 +207,12 @@ block_law cell parts next state = (
       (λ ordered. ap (λ o. o.0) (admit_h-ordered cell parts next ordered)) hybrid,
 )
 
-ending-granted : (cell : Cell) (parts : List Part) (o : Reply × List Part) (o_h : HybridReply × List Part) → Ending cell parts o o_h
+ending-granted : (cell : Cell) (parts next : List Part) (o : Reply × List Part) (o_h : HybridReply × List Part)
+    → Ending cell parts next o o_h
     → o.0 ≡ Permitted → o_h ≡ (Granted, o.1)
-ending-granted cell parts o o_h (refused why plain) e = absurd (cc e)
-ending-granted cell parts o o_h (granted next stays) e = refl
-ending-granted cell parts o o_h (admitted next state) e = at (first_over cell next) refl e
+ending-granted cell parts next o o_h (refused why plain) e = absurd (cc e)
+ending-granted cell parts next o o_h (granted stays) e = refl
+ending-granted cell parts next o o_h (admitted state) e = at (first_over cell next) refl e
   where
     at : (over : Option ℕ) → first_over cell next ≡ over
         → (option_map_or (λ r. refuse (Saturated (record { 0 = r }) (count cell parts r) (capacity_of cell r)) parts) over
@@ -207,18 +226,20 @@ ending-granted cell parts o o_h (admitted next state) e = at (first_over cell ne
     at None f g = refl
     at (Some r) f g = absurd (cc g)
 
-ending-hybrid : (cell : Cell) (parts : List Part) (o : Reply × List Part) (o_h : HybridReply × List Part) → Ending cell parts o o_h
+ending-hybrid : (cell : Cell) (parts next : List Part) (o : Reply × List Part) (o_h : HybridReply × List Part)
+    → Ending cell parts next o o_h
     → IsHybrid cell parts → IsHybrid cell o_h.1
-ending-hybrid cell parts o o_h (refused why plain) hybrid = hybrid
-ending-hybrid cell parts o o_h (granted next stays) hybrid = stays hybrid
-ending-hybrid cell parts o o_h (admitted next state) hybrid = admit_h-hybrid cell parts next state hybrid
+ending-hybrid cell parts next o o_h (refused why plain) hybrid = hybrid
+ending-hybrid cell parts next o o_h (granted stays) hybrid = stays hybrid
+ending-hybrid cell parts next o o_h (admitted state) hybrid = admit_h-hybrid cell parts next state hybrid
 
-ending-unsaturated : (cell : Cell) (parts : List Part) (o : Reply × List Part) (o_h : HybridReply × List Part) → Ending cell parts o o_h
+ending-unsaturated : (cell : Cell) (parts next : List Part) (o : Reply × List Part) (o_h : HybridReply × List Part)
+    → Ending cell parts next o o_h
     → (at : ResId) (held units : ℕ) → o_h.0 ≢ Refused (Saturated at held units)
-ending-unsaturated cell parts o o_h (refused why plain) at held units e =
+ending-unsaturated cell parts next o o_h (refused why plain) at held units e =
     let saturated : why ≡ Saturated at held units = cc e in absurd (false≢true (sym plain ∙ ap is_saturation saturated))
-ending-unsaturated cell parts o o_h (granted next stays) at held units e = cc e
-ending-unsaturated cell parts o o_h (admitted next state) at held units e = of (first_over cell next) e
+ending-unsaturated cell parts next o o_h (granted stays) at held units e = cc e
+ending-unsaturated cell parts next o o_h (admitted state) at held units e = of (first_over cell next) e
   where
     tested : (b : Bool) (r : ℕ) → (cond b (Granted, next) (block cell parts next r)).0 ≢ Refused (Saturated at held units)
     tested true r e = cc e
@@ -231,7 +252,7 @@ ending-unsaturated cell parts o o_h (admitted next state) at held units e = of (
     of (Some r) e = tested (is_ordered cell next) r e
 
 -- the resource that is first over is one of the cell, and overfilled
-first_overfilled : (cell : Cell) (parts : List Part) (r : ℕ) → first_over cell parts ≡ Some r
+pub first_overfilled : (cell : Cell) (parts : List Part) (r : ℕ) → first_over cell parts ≡ Some r
     → (r < length cell.resources) × (capacity_of cell r < count cell parts r)
 first_overfilled cell parts r e =
     let is_over : ℕ → Bool = λ q. nat_lt (capacity_of cell q) (count cell parts q) in
@@ -240,11 +261,12 @@ first_overfilled cell parts r e =
       ltb-true _ _ (find_passes is_over (resource_numbers cell) r e),
     )
 
-ending-blocked : (cell : Cell) (parts : List Part) (o : Reply × List Part) (o_h : HybridReply × List Part) → Ending cell parts o o_h
+ending-blocked : (cell : Cell) (parts next : List Part) (o : Reply × List Part) (o_h : HybridReply × List Part)
+    → Ending cell parts next o o_h
     → (at : ResId) (held units parts_stuck : ℕ) → o_h.0 ≡ Blocked at held units parts_stuck → IsOverfilled cell at held units
-ending-blocked cell parts o o_h (refused why plain) at held units parts_stuck e = absurd (cc e)
-ending-blocked cell parts o o_h (granted next stays) at held units parts_stuck e = absurd (cc e)
-ending-blocked cell parts o o_h (admitted next state) at held units parts_stuck e = by (first_over cell next) refl e
+ending-blocked cell parts next o o_h (refused why plain) at held units parts_stuck e = absurd (cc e)
+ending-blocked cell parts next o o_h (granted stays) at held units parts_stuck e = absurd (cc e)
+ending-blocked cell parts next o o_h (admitted state) at held units parts_stuck e = by (first_over cell next) refl e
   where
     tested : (b : Bool) (r : ℕ) → r < length cell.resources → capacity_of cell r < count cell next r
         → (cond b (Granted, next) (block cell parts next r)).0 ≡ Blocked at held units parts_stuck → IsOverfilled cell at held units
@@ -267,19 +289,19 @@ ending-blocked cell parts o o_h (admitted next state) at held units parts_stuck 
 module _ (cell : Cell) (fits : CellFits cell) where
   pub blocked_law : BlockedLaw cell
   blocked_law parts request state h at held units parts_stuck =
-      ending-blocked cell parts (outcome cell parts request) (outcome_h cell parts request) (ending cell fits parts state request h) at held
+      ending-blocked cell parts (wanted cell parts request) (outcome cell parts request) (outcome_h cell parts request) (ending cell fits parts state request h) at held
       units parts_stuck
 
   pub grant_law : GrantLaw cell
   grant_law parts request state h e =
-      ending-granted cell parts (outcome cell parts request) (outcome_h cell parts request) (ending cell fits parts state request h) e
+      ending-granted cell parts (wanted cell parts request) (outcome cell parts request) (outcome_h cell parts request) (ending cell fits parts state request h) e
 
   pub hybrid_law : HybridLaw cell
   hybrid_law parts request hybrid h =
-      ending-hybrid cell parts (outcome cell parts request) (outcome_h cell parts request)
+      ending-hybrid cell parts (wanted cell parts request) (outcome cell parts request) (outcome_h cell parts request)
       (ending cell fits parts (hybrid-state cell parts hybrid) request h) hybrid
 
   pub unsaturated_law : UnsaturatedLaw cell
   unsaturated_law parts request state h at held units =
-      ending-unsaturated cell parts (outcome cell parts request) (outcome_h cell parts request)
+      ending-unsaturated cell parts (wanted cell parts request) (outcome cell parts request) (outcome_h cell parts request)
       (ending cell fits parts state request h) at held units

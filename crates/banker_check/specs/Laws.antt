@@ -1,5 +1,5 @@
 -- The laws of orders, stuck sets and the hybrid.
-use Rattle.std.specs.Prelude.{◌≡◌, ◌≢◌, ℕ, ◌+◌, ◌<◌, true, ◌↔◌, Some, None, List, [], ◌∷◌, length}
+use Rattle.std.specs.Prelude.{◌≡◌, ◌≢◌, ℕ, ◌+◌, ◌<◌, Bool, true, false, ◌↔◌, Some, None, List, [], ◌∷◌, length}
 use Rattle.std.specs.List.{Contains}
 use Rattle.cell_base.specs.declared.cells.Cell.{Cell}
 use Rattle.cell_base.specs.declared.cells.ResId.{ResId}
@@ -7,12 +7,15 @@ use Rattle.cell_base.specs.declared.requests.Part.{Part}
 use Rattle.cell_base.specs.declared.requests.Refusal.TheVariants.{Saturated}
 use Rattle.cell_base.specs.declared.requests.Request.{Request}
 use Rattle.cell_base.specs.declared.requests.Reply.TheVariants.{Granted as Permitted}
+use Rattle.banker_check.specs.declared.replies.HybridReply.{HybridReply}
 use Rattle.banker_check.specs.declared.replies.HybridReply.TheVariants.{Granted, Refused, Blocked}
 use Rattle.cell_base.specs.Stages.{capacity_of}
+use Rattle.cell_base.specs.Neighborhoods.{count}
 use Rattle.cell_base.specs.Policy.{IsState, HaveDistinctJobs}
 use Rattle.cell_base.specs.Outcomes.{without, reply_to, state_after}
 use Rattle.cell_base.specs.Plans.{work}
 use Rattle.cell_base.specs.Fits.{RequestFits}
+use Rattle.policy_laws.specs.Decisions.{IsFirstOverfilled, PassesTests, wanted}
 use Rattle.banker_check.specs.StuckSets.{is_stuck, sublists, stuck}
 use Rattle.banker_check.specs.Orders.{IsOrder, IsOrdered, is_ordered}
 use Rattle.banker_check.specs.Hybrid.{IsHybrid, admit_h, outcome_h, reply_h, state_after_h}
@@ -69,6 +72,35 @@ abbrev pub BlockedLaw : Cell → Type 0
 BlockedLaw cell =
     (parts : List Part) (request : Request) → IsState cell parts → RequestFits cell request → (at : ResId) (held units parts_stuck : ℕ)
     → reply_h cell parts request ≡ Blocked at held units parts_stuck → IsOverfilled cell at held units
+
+-- the reply is a block
+abbrev pub is_blocked : HybridReply → Bool
+is_blocked (Blocked at held units parts_stuck) = true
+is_blocked Granted = false
+is_blocked (Refused why) = false
+
+-- a block tells of the next parts: the least resource whose neighborhood they overfill, how many of them count there, how many units
+-- it has, and how many of them are stuck
+pub record TellsBlock (cell : Cell) (next : List Part) (at : ResId) (held units parts_stuck : ℕ) : Type 0 where
+  pub least : IsFirstOverfilled cell next at.0
+  pub counted : held ≡ count cell next at.0
+  pub limit : units ≡ capacity_of cell at.0
+  pub remain : parts_stuck ≡ stuck cell next
+
+-- where no earlier test refuses, a request is granted if the state that it asks for is hybrid, and then has that state; it is blocked if
+-- not, and the block tells of that state
+pub record DecidesHybrid (cell : Cell) (parts : List Part) (request : Request) : Type 0 where
+  pub granted : (reply_h cell parts request ≡ Granted) ↔ (PassesTests cell parts request × IsHybrid cell (wanted cell parts request))
+  pub blocked : (is_blocked (reply_h cell parts request) ≡ true)
+      ↔ (PassesTests cell parts request × ¬ IsHybrid cell (wanted cell parts request))
+  pub told : (at : ResId) (held units parts_stuck : ℕ) → reply_h cell parts request ≡ Blocked at held units parts_stuck
+      → TellsBlock cell (wanted cell parts request) at held units parts_stuck
+  pub state : reply_h cell parts request ≡ Granted → state_after_h cell parts request ≡ wanted cell parts request
+
+-- a hybrid state decides each request that fits so
+abbrev pub HybridDecisionLaw : Cell → Type 0
+HybridDecisionLaw cell =
+    (parts : List Part) (request : Request) → IsHybrid cell parts → RequestFits cell request → DecidesHybrid cell parts request
 
 -- each request that fits leads from a hybrid state to a hybrid state
 abbrev pub HybridLaw : Cell → Type 0

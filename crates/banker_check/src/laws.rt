@@ -1,7 +1,7 @@
 //! The laws of orders, stuck sets and the hybrid, each the contract of a function that does nothing.
 ghost use Rattle.cell_base.specs.Fits.{CellFits};
 ghost use Rattle.banker_check.specs.Laws.{GreedLaw, FirstLaw, OrderedLaw};
-ghost use Rattle.banker_check.specs.Laws.{GrantLaw, BlockLaw, BlockedLaw, UnsaturatedLaw, HybridLaw, HybridPlanLaw};
+ghost use Rattle.banker_check.specs.Laws.{GrantLaw, BlockLaw, BlockedLaw, UnsaturatedLaw, HybridDecisionLaw, HybridLaw, HybridPlanLaw};
 
 use cell_base::Cell;
 
@@ -42,6 +42,13 @@ pub fn unsaturated_law(cell: &Cell)
 pub fn blocked_law(cell: &Cell)
     requires { CellFits cell.now }
     ensures { BlockedLaw cell.now }
+{}
+
+/// A request that passes its other tests is granted exactly where the state that it asks for is hybrid, and blocked where not. A block
+/// names the least resource whose neighborhood that state overfills, its count and its stuck parts.
+pub fn hybrid_decision_law(cell: &Cell)
+    requires { CellFits cell.now }
+    ensures { HybridDecisionLaw cell.now }
 {}
 
 /// Each request that fits leads from a hybrid state to a hybrid state.

@@ -55,7 +55,6 @@ impl Rounds {
             → IfSome result (λ entry. AreAsking shift.now core.new start (history ++ entry ∷ []) self.new) }
         ensures ended { (start : List Part) (history : List Entry) → AreAsking shift.now core.old start history self.old
             → IfNone result (IsRoundRobin core.old.cell start shift.now history × (core.new ≡ core.old)) }
-        ensures stays { IfNone result ((core.new ≡ core.old) × (self.new ≡ self.old)) }
         ensures none { IfNone result (HaveEnded shift.now self.new.progress (length shift.now.scripts)) }
     {
         match next_going(&self.progress, self.next, shift) {

@@ -4,6 +4,7 @@ use Rattle.cell_base.specs.declared.cells.Cell.{Cell}
 use Rattle.cell_base.specs.declared.shifts.Entry.{Entry}
 use Rattle.cell_base.specs.Rounds.{IsRoundRobin}
 use Rattle.solo_rounds.specs.Asking.{AreAsking}
+use Rattle.solo_rounds.proofs.Ends.{left_after}
 use Rattle.solo_rounds.proofs.rounds.Rounds.ask_rest.Goals as goal
 
 pub loop-entry-preserved : goal.loop-entry-preserved
@@ -28,8 +29,10 @@ returns c =
       ended = c.in_default.ensures.none;
       state = λ start history rest begun whole.
           let so_far = known.asking start history begun in
-          left_after c.args.shift.now c.args.core.now c.loop-entry.core start (history ++ rest) (history ++ so_far.0) c.loop-entry.self
-          known.cell so_far.1 whole (c.in_default.ensures.ended start (history ++ so_far.0) so_far.1).0;
+          let left = c.in_default.ensures.ended start (history ++ so_far.0) so_far.1 in
+          left.1
+          ∙ left_after c.args.shift.now c.args.core.now c.loop-entry.core start (history ++ rest) (history ++ so_far.0) c.loop-entry.self
+          known.cell so_far.1 whole left.0;
       rounds = λ start history begun.
           let so_far = known.asking start history begun in (
             so_far.0,
