@@ -12,7 +12,7 @@ use Rattle.cell_base.specs.Fits.{CellFits, RequestFits}
 use Rattle.cell_base.specs.Histories.{IsLegal, IsToldRightly, after, state_after_entry}
 use Rattle.cell_base.specs.Outcomes.{reply_to}
 use Rattle.cell_base.specs.Policy.{IsAdmitted}
-use Rattle.policy_laws.specs.DecidedHistories.{AreDecided, IsDecidedAt, reply_in}
+use Rattle.admission_core.specs.DecidedHistories.{AreDecided, IsDecidedAt, reply_in}
 use Rattle.policy_laws.specs.Decisions.{DecidesBy, IsDecided}
 use Rattle.policy_laws.proofs.Admission.{after_entry_admitted}
 use Rattle.policy_laws.proofs.Decisions.{decision_law}
