@@ -1,5 +1,6 @@
 //! A journal of grants, to which one more is added at a time.
-ghost use Rattle.std.specs.Prelude.{◌≡◌, ℕ, ◌+◌, ◌*◌, ◌^◌, ◌<◌, ◌≤◌, List, true, false, Some, Ok, Err, [], ◌∷◌, ◌++◌, length, drop, OnOk, ⊤};
+ghost use Rattle.std.specs.Prelude.{◌≡◌, ℕ, ◌+◌, ◌*◌, ◌^◌, ◌<◌, ◌≤◌, List, [], ◌∷◌, ◌++◌, length, drop};
+ghost use Rattle.std.specs.Prelude.{true, false, Some, Ok, Err, OnOk, ⊤};
 ghost use Rattle.cell_base.specs.declared.shifts.Grant.{Grant};
 ghost use Rattle.entry_codec.specs.Records.{HasRecord, record_of};
 ghost use Rattle.outside_io.specs.Causes.{Rose};
