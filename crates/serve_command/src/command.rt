@@ -16,8 +16,9 @@ use cell_texts::{CellFile, CommandEnd, read_cell};
 use cell_walks::{EarlyEnd, finish_early};
 use input_lines::InputLines;
 use journal_texts::at_journal_fault;
-use live_cell::{LiveCell, LiveOpening};
+use live_cell::{LiveCell, OpenedLive};
 use outside_io::{Disk, Files, Sink, Source};
+use shift_recovery::{OpenError, OpenFault};
 use std::alloc::Global;
 use std::sync::Wait;
 
@@ -101,7 +102,7 @@ fn serve_journal<R: Wait, S: Source, K: Sink, D: Disk>(
         lines,
     } = desk;
     match LiveCell::open(alloc, cell, &text, disk, MAX_SERVED, GROUP_LINES, counts) {
-        LiveOpening::Open { live, kept: counts } => {
+        Ok(OpenedLive { live, kept: counts }) => {
             let server = Server {
                 live,
                 counts,
@@ -111,8 +112,10 @@ fn serve_journal<R: Wait, S: Source, K: Sink, D: Disk>(
             };
             serve_live(rt, server, lines, input, out)
         }
-        LiveOpening::Refused { disk, why } => end_early(out, at_journal_fault(why), disk),
-        LiveOpening::Device { disk } => end_early(out, EarlyEnd::DeviceFailed, disk),
-        LiveOpening::Memory { disk } => end_early(out, EarlyEnd::WantOfMemory, disk),
+        Err(OpenError { disk, why }) => match why {
+            OpenFault::Refused(why) => end_early(out, at_journal_fault(why), disk),
+            OpenFault::Device => end_early(out, EarlyEnd::DeviceFailed, disk),
+            OpenFault::Memory => end_early(out, EarlyEnd::WantOfMemory, disk),
+        },
     }
 }

@@ -20,12 +20,12 @@ use Rattle.serve_command.specs.declared.command.TheConstants.{MAX_SERVED}
 use Rattle.serve_command.proofs.Ending.{opened_so}
 use Rattle.serve_command.proofs.command.serve_journal.Goals as goal
 
-pub returns-in-Open : goal.returns-in-Open
-returns-in-Open g c =
+pub returns-in-Ok : goal.returns-in-Ok
+returns-in-Ok g c =
     let disk = c.args.disk in
-    let live = c.in-Open.live in
-    let opening : List Grant = c.in-Open.ensures.opened.0 in
-    let after = c.in-Open.ensures.opened.1 in
+    let live = c.in-Ok.field-0.live in
+    let opening : List Grant = c.in-Ok.ensures.opened.0 in
+    let after = c.in-Ok.ensures.opened.1 in
     let opened = subst (λ (text : List ℕ). IsOpened g.D.Disk.reads_as g.D.Disk.may_leave g.D.Disk.moment g.D.Disk.left_since disk
     text opening
     live.disk) c.deref.ensures.value after.stands in
@@ -35,7 +35,7 @@ returns-in-Open g c =
     (known c.args.held) disk c.serve_live.result.disk live opening
     (source_told g.S.Source.given g.S.Source.has_ended g.S.Source.faults c.args.input.now c.serve_live.new.input)
     (sink_told g.K.Sink.taken g.K.Sink.was_put g.K.Sink.faults c.args.out.now c.serve_live.new.out)
-    c.serve_live.result.status after.state after.due exact opened c.in-Open.ensures.cause
+    c.serve_live.result.status after.state after.due exact opened c.in-Ok.ensures.cause
     (c.serve_live.ensures c.args.held.text.items opening (record {
       at = record {
         parts = ap (λ (l : LiveState _). l.parts) after.state
@@ -56,9 +56,10 @@ returns-in-Refused g c =
     (NotOpened c.at_journal_fault.result
     (OpeningRefused c.in-Refused.why
     (subst (λ (text : List ℕ). IfSome (g.D.Disk.reads_as c.args.disk)
-    (λ file. opened_as c.args.held.cell file text MAX_SERVED ≡ Err c.in-Refused.why)) c.deref.ensures.value c.in-Refused.ensures.opened)
-    (only_read g.D.Disk.reads_as g.D.Disk.may_leave g.D.Disk.moment g.D.Disk.left_since g.D.Disk.faults c.args.disk c.in-Refused.disk
-    c.in-Refused.ensures.leaves)
+    (λ file. opened_as c.args.held.cell file text MAX_SERVED ≡ Err c.in-Refused.why)) c.deref.ensures.value
+    (rw c.in-Refused.is at c.in-Err.ensures.opened))
+    (only_read g.D.Disk.reads_as g.D.Disk.may_leave g.D.Disk.moment g.D.Disk.left_since g.D.Disk.faults c.args.disk c.in-Err.field-0.disk
+    (rw c.in-Refused.is at c.in-Err.ensures.leaves))
     c.at_journal_fault.ensures)
     c.end_early.ensures.delivered)
 
@@ -70,13 +71,13 @@ returns-in-Device g c =
     g.D.Disk.faults c.args.disk d) input sink (known c.args.held) c.end_early-in-Device.result.status)
     (sym c.end_early-in-Device.ensures.disk)
     (NotOpened _
-    (OpeningFailed refl c.in-Device.ensures.cause
-    (adds_nothing g.D.Disk.reads_as g.D.Disk.may_leave g.D.Disk.moment g.D.Disk.left_since g.D.Disk.faults c.args.disk c.in-Device.disk
+    (OpeningFailed refl (rw c.in-Device.is at c.in-Err.ensures.cause)
+    (adds_nothing g.D.Disk.reads_as g.D.Disk.may_leave g.D.Disk.moment g.D.Disk.left_since g.D.Disk.faults c.args.disk c.in-Err.field-0.disk
     c.args.held.text.items
     (subst (λ (text : List ℕ). OnlyReads g.D.Disk.reads_as g.D.Disk.may_leave g.D.Disk.moment g.D.Disk.left_since c.args.disk
-    c.in-Device.disk
-    ⊎ IsUnmade g.D.Disk.reads_as g.D.Disk.may_leave g.D.Disk.moment g.D.Disk.left_since c.args.disk text c.in-Device.disk)
-    c.deref.ensures.value c.in-Device.ensures.leaves)))
+    c.in-Err.field-0.disk
+    ⊎ IsUnmade g.D.Disk.reads_as g.D.Disk.may_leave g.D.Disk.moment g.D.Disk.left_since c.args.disk text c.in-Err.field-0.disk)
+    c.deref.ensures.value (rw c.in-Device.is at c.in-Err.ensures.leaves))))
     c.end_early-in-Device.ensures.delivered)
 
 pub returns : goal.returns
@@ -87,5 +88,5 @@ returns g c =
     g.D.Disk.faults c.args.disk d) input sink (known c.args.held) c.end_early-in-Memory.result.status)
     (sym c.end_early-in-Memory.ensures.disk)
     (NotOpened _ (OpeningStarved refl (only_read g.D.Disk.reads_as g.D.Disk.may_leave g.D.Disk.moment g.D.Disk.left_since g.D.Disk.faults
-    c.args.disk c.in-Memory.disk c.in-Memory.ensures.leaves))
+    c.args.disk c.in-Err.field-0.disk (rw c.in-Memory.is at c.in-Err.ensures.leaves)))
     c.end_early-in-Memory.ensures.delivered)
