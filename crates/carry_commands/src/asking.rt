@@ -8,14 +8,14 @@ ghost use Rattle.carry_commands.specs.BeginClauses.{IsPlacing, KeepsHistory, MAX
 
 use crate::refusals::at_other_start;
 use cell_base::Request;
-use durable_cell::Durable;
+use durable_cell::{Durable, Recalled};
 use journal_texts::{Closed, Made, Recorded, give_back, record_of};
 use outside_io::Disk;
 
 /// Asks the requests that the journal does not hold yet; or gives the disk back with the early end, where the journal holds other grants,
 /// the first of them at the index `other`.
 pub fn begin_opened<D: Disk>(
-    durable: Durable<D>,
+    durable: Durable<D, Recalled>,
     requests: &[Request],
     other: Option<u64>,
 ) -> Made<Recorded, D>
@@ -46,7 +46,7 @@ pub fn begin_opened<D: Disk>(
 }
 
 // Asks these requests, and takes the durable cell apart.
-fn ask_all<D: Disk>(mut durable: Durable<D>, requests: &[Request]) -> Closed<D>
+fn ask_all<D: Disk>(mut durable: Durable<D, Recalled>, requests: &[Request]) -> Closed<D>
     requires fresh { IsFresh durable }
     requires limit { length requests.now ≤ durable.limit }
     requires placing { All (IsPlacing durable.cell) requests.now }
@@ -62,7 +62,7 @@ fn ask_all<D: Disk>(mut durable: Durable<D>, requests: &[Request]) -> Closed<D>
 }
 
 // Asks each request as session 0 of shift 0, up to the first whose writing fails.
-fn ask_each<D: Disk>(durable: &mut Durable<D>, requests: &[Request])
+fn ask_each<D: Disk>(durable: &mut Durable<D, Recalled>, requests: &[Request])
     requires fresh { IsFresh durable.old }
     requires limit { length requests.now ≤ durable.old.limit }
     requires placing { All (IsPlacing durable.old.cell) requests.now }

@@ -11,8 +11,8 @@ use crate::compared::Compared;
 use crate::starts::{check_start, read_start_file};
 use cell_base::Request;
 use cell_texts::{CellFile, CommandEnd, read_cell};
-use durable_cell::MAX_ROOM;
-use journal_texts::{Made, OpenedJournal, Recorded, open_journal, print_recorded};
+use durable_cell::{Heard, MAX_ROOM};
+use journal_texts::{Made, Recorded, open_journal_with, print_recorded};
 use outside_io::{Disk, Files, Sink};
 use record_text::MAX_START_LINES;
 use std::alloc::Global;
@@ -86,8 +86,8 @@ fn begin_journal<D: Disk>(
     ensures fits { IfOk result.made EntriesFit }
 {
     let compared = Compared::new(requests);
-    match open_journal(alloc, held, disk, MAX_ROOM, MAX_START_LINES, compared) {
-        Ok(OpenedJournal { durable, kept }) => begin_opened(durable, requests, kept.other),
+    match open_journal_with(alloc, held, disk, MAX_ROOM, MAX_START_LINES, compared) {
+        Ok(Heard { durable, kept }) => begin_opened(durable, requests, kept.other),
         Err(unopened) => Made {
             made: Err(unopened.end),
             disk: unopened.disk,

@@ -8,8 +8,8 @@ ghost use Rattle.cell_commands.specs.Draining.{KeepsHistory, StandsForAdded, dra
 ghost use Rattle.cell_commands.specs.declared.drain.TheConstants.{MAX_PLAN};
 
 use cell_texts::{CellFile, CommandEnd, read_cell};
-use durable_cell::{Durable, MAX_ROOM};
-use journal_texts::{Closed, Made, Recorded, open_journal, print_recorded, record_of};
+use durable_cell::{Durable, MAX_ROOM, Recalled};
+use journal_texts::{Closed, Made, Recorded, open_journal_with, print_recorded, record_of};
 use outside_io::{Disk, Files, Sink};
 use shift_recovery::Unkept;
 use std::alloc::Global;
@@ -63,7 +63,7 @@ fn drain_journal<D: Disk>(alloc: Global, held: CellFile, disk: D) -> Made<Record
         (recorded_or_early result.made) }
     ensures fits { IfOk result.made EntriesFit }
 {
-    match open_journal(alloc, held, disk, MAX_ROOM, MAX_PLAN, Unkept) {
+    match open_journal_with(alloc, held, disk, MAX_ROOM, MAX_PLAN, Unkept) {
         Ok(opened) => {
             let Closed { recorded, disk } = drain_all(opened.durable);
             Made {
@@ -79,7 +79,7 @@ fn drain_journal<D: Disk>(alloc: Global, held: CellFile, disk: D) -> Made<Record
 }
 
 // Asks the steps of the plan, and takes the durable cell apart.
-fn drain_all<D: Disk>(mut durable: Durable<D>) -> Closed<D>
+fn drain_all<D: Disk>(mut durable: Durable<D, Recalled>) -> Closed<D>
     requires fresh { IsFresh durable }
     requires limit { durable.limit ≡ MAX_PLAN }
     ensures drained { IsDrained durable.cell durable.opening (recorded_outcome result.recorded) }
@@ -94,7 +94,7 @@ fn drain_all<D: Disk>(mut durable: Durable<D>) -> Closed<D>
 }
 
 // Asks each step of the plan as session 0 of shift 0, up to the first whose writing fails.
-fn ask_steps<D: Disk>(durable: &mut Durable<D>)
+fn ask_steps<D: Disk>(durable: &mut Durable<D, Recalled>)
     requires fresh { IsFresh durable.old }
     requires limit { durable.old.limit ≡ MAX_PLAN }
     ensures drained { IsDrainedIn durable.old durable.new }

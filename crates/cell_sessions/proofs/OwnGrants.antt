@@ -154,11 +154,13 @@ module _ (shift : Shift) where
       same : own_of (at.front ++ other.stray ∷ []) ≡ other.before ++ other.stray ∷ []
       same =
           filter-append (λ (grant : Grant). grant.shift == shift.number) at.front (other.stray ∷ [])
-          ∙ ap (λ (gs : List Grant). own_of at.front ++ gs) (cond-true (other.stray.shift == shift.number) (other.stray ∷ []) [] at.stray_own)
+          ∙ ap (λ (gs : List Grant). own_of at.front ++ gs)
+          (cond-true (other.stray.shift == shift.number) (other.stray ∷ []) [] at.stray_own)
           ∙ ap (λ (gs : List Grant). gs ++ other.stray ∷ []) at.own
 
   -- and so is where each session starts
-  pub begun_all : (grants : List Grant) (progress : List Progress) → AreBegun shift (own_of grants) progress → AreBegun shift grants progress
+  pub begun_all : (grants : List Grant) (progress : List Progress) → AreBegun shift (own_of grants) progress
+      → AreBegun shift grants progress
   begun_all grants progress begun = record {
     count = begun.count;
     each = λ k at is. begun.each k at is

@@ -1,5 +1,5 @@
 //! Where the sessions of a shift begin after the grants that a journal has.
-ghost use Rattle.std.specs.Prelude.{◌≡◌, ◌<◌, ◌≤◌, ◌^◌, List as Sequence, [], ◌∷◌, ◌++◌, filter, length, IfOk, IfErr, OnOk, ◌==◌};
+ghost use Rattle.std.specs.Prelude.{◌≡◌, ◌<◌, ◌≤◌, ◌^◌, List as Sequence, [], length, IfOk, IfErr};
 ghost use Rattle.cell_base.specs.declared.limits.TheConstants.{MAX_SESSIONS, MAX_STEPS};
 ghost use Rattle.cell_base.specs.declared.shifts.Grant.{Grant as OneGrant};
 ghost use Rattle.cell_base.specs.Fits.{steps_of};
@@ -17,7 +17,7 @@ use std::alloc::Global;
 
 /// Each session begins at the step that its grants reach, with no refusals, and has ended where that is its script's end: session `k` has
 /// element `k - 1`. A grant of the shift's number that is no next step is another shift's, and none begins. Grants of other shifts count
-/// for nothing, so it is the same over the grants of the shift's number alone.
+/// for nothing.
 pub fn begin(alloc: Global, shift: &Shift, opening: &[Grant]) -> Result<List<Progress>, BeginFault>
     requires sessions { length shift.now.scripts ≤ MAX_SESSIONS }
     requires steps { steps_of shift.now ≤ MAX_STEPS }

@@ -1,10 +1,10 @@
-//! Where the sessions of a shift begin after the grants that a journal has.
+//! How grants lead the sessions of a shift on, one after the other.
 ghost use Rattle.std.specs.Prelude.{◌≡◌, ◌<◌, ◌≤◌, ◌↔◌, IsTrue, List as Sequence, [], ◌∷◌, ◌++◌, length, slice_get, IfOk, IfErr};
 ghost use Rattle.std.specs.Bool.{OnTrue, OnFalse};
 ghost use Rattle.cell_base.specs.declared.limits.TheConstants.{MAX_SESSIONS};
 ghost use Rattle.cell_base.specs.declared.shifts.Grant.{Grant as OneGrant};
 ghost use Rattle.cell_base.specs.Starts.{AreFirstSteps};
-ghost use Rattle.cell_sessions.specs.Starting.{AreBegun, HasLed, IsBeginFault, IsLed, IsReached};
+ghost use Rattle.cell_sessions.specs.Starting.{HasLed, IsBeginFault, IsLed, IsReached};
 
 use crate::fault::BeginFault;
 use cell_base::{Grant, List, MAX_SESSIONS, Request, Shift};

@@ -9,7 +9,6 @@ use cell_file::read_cell;
 use cell_lock::{Pass, SharedCell};
 use durable_cell::{AskFault, Durable, Opening};
 use outside_io::Disk;
-use shift_recovery::Unkept;
 use small_cells::CROSSING;
 use std::alloc::Global;
 use std::sync::Wait;
@@ -37,8 +36,8 @@ fn open<D: Disk + Drop>(alloc: Global, disk: D) -> Result<Durable<D>>
     let Ok(cell) = read_cell(alloc, CROSSING) else {
         bail!("no cell");
     };
-    match Durable::open(alloc, cell, CROSSING, disk, 10, 10, Unkept) {
-        Opening::Open { durable, .. } => Ok(durable),
+    match Durable::open(alloc, cell, CROSSING, disk, 10, 10) {
+        Opening::Open(durable) => Ok(durable),
         _ => bail!("not opened"),
     }
 }

@@ -1,13 +1,10 @@
 //! That a whole shift runs, and where it begins after grants, on a cell of one machine with one job.
-ghost use Rattle.std.specs.Prelude.{◌≤◌, length};
-ghost use Rattle.cell_base.specs.declared.limits.TheConstants.{MAX_SESSIONS};
-
 use admission_core::Core;
 use cell_base::{
     Entry, Grant, JobId, List, NoMemory, Reply, Request, ResId, Shelf, Shift, Told, TypeId,
     cell_fits, shift_fits,
 };
-use cell_sessions::{BeginFault, SessionStarts, solo};
+use cell_sessions::{BeginFault, Progress, ShiftGrants, begin, solo};
 use shift_recovery::Taker;
 use small_cells::cell_of_one;
 use std::alloc::Global;
@@ -47,17 +44,6 @@ fn granted(request: Request) -> Entry {
     }
 }
 
-/// Where the sessions of a shift stand after they took these grants.
-fn after<'a>(shift: &'a Shift, grants: &[Grant]) -> Result<SessionStarts<'a>, NoMemory>
-    requires { length shift.now.scripts ≤ MAX_SESSIONS }
-{
-    let mut starts = SessionStarts::of(shift);
-    for grant in grants {
-        starts.take(0, *grant)?;
-    }
-    Ok(starts)
-}
-
 #[test]
 fn one_job_from_load_to_unload(rt: HostRuntime) -> Result<(), Fail> {
     let alloc = rt.alloc();
@@ -79,9 +65,11 @@ fn one_job_from_load_to_unload(rt: HostRuntime) -> Result<(), Fail> {
 #[test]
 fn begins_after_its_own_grants(rt: HostRuntime) -> Result<(), Fail> {
     let alloc = rt.alloc();
+    let cell = cell_of_one(alloc)?;
     let requests = job_from_load_to_unload();
     let shift = shift_of_one(alloc, &requests)?;
-    assert!(rt; shift.scripts.len() == 1);
+    assert!(rt; cell_fits(&cell));
+    assert!(rt; shift_fits(&cell, &shift));
     let [load, process, unload] = requests;
     let grant = |shift: u32, session: u16, request: Request| Grant {
         shift,
@@ -89,12 +77,25 @@ fn begins_after_its_own_grants(rt: HostRuntime) -> Result<(), Fail> {
         request,
     };
     let opening = [grant(1, 1, load), grant(2, 1, unload), grant(1, 1, process)];
-    let progress = after(&shift, &opening)?.begin(alloc)?;
-    assert!(rt; progress.len() == 1);
-    assert_eq!(rt; progress.get(0).step(), 2);
+    let expected = Progress {
+        next: 2,
+        refused: 0,
+        asked: 0,
+        ended: false,
+    };
+    assert_eq!(rt;
+        begin(alloc, &shift, &opening)?.as_slice(),
+        [expected].as_slice()
+    );
+
+    let mut own = ShiftGrants::of(alloc, 1);
+    for grant in &opening {
+        own.take(0, *grant)?;
+    }
+    assert_eq!(rt; own.grants.as_slice(), [opening[0], opening[2]].as_slice());
 
     let strays = [grant(1, 1, load), grant(1, 2, process), grant(1, 1, load)];
-    let fault = after(&shift, &strays)?.begin(alloc).err();
+    let fault = begin(alloc, &shift, &strays).err();
     assert_eq!(rt; fault, Some(BeginFault::OtherShift { session: 2 }));
     Ok(())
 }

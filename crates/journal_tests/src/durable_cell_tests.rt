@@ -2,7 +2,6 @@
 use cell_base::{JobId, List, Refusal, Reply, Request, ResId, TypeId, cell_fits, request_fits};
 use durable_cell::{AskFault, Durable, Opening};
 use outside_io::{CallKind, Disk, DiskCall, MemDisk};
-use shift_recovery::Unkept;
 use small_cells::cell_of_one;
 use std::alloc::Global;
 use std::test::Fail;
@@ -58,8 +57,8 @@ fn opened(alloc: Global, disk: MemDisk) -> Result<Durable<MemDisk>, Fail> {
     if !cell_fits(&cell) {
         return Err(Fail::from("the cell fits"));
     }
-    match Durable::open(alloc, cell, b"cell", disk, 8, 5, Unkept) {
-        Opening::Open { durable, .. } => Ok(durable),
+    match Durable::open(alloc, cell, b"cell", disk, 8, 5) {
+        Opening::Open(durable) => Ok(durable),
         Opening::Refused { .. } => Err(Fail::from("no journal of this cell")),
         Opening::Device { .. } => Err(Fail::from("the device failed")),
         Opening::Memory { .. } => Err(Fail::from("no memory")),

@@ -84,25 +84,24 @@ fn bytes_are_read_as_a_frame(rt: HostRuntime) {
     assert_eq!(rt; Frame::from_bytes(&[0; 24]), None);
 }
 
-// A durable cell, and the grants of its opening.
-fn opened(alloc: Global, disk: MemDisk) -> Result<(Durable<MemDisk>, List<Grant>), Fail>
-    ensures fresh { IfOk result (λ opened. opened.0.history ≡ []) }
-    ensures limit { IfOk result (λ opened. opened.0.limit ≡ 2) }
-    ensures opening { IfOk result (λ opened. opened.1 ≡ opened.0.opening) }
+// A durable cell in which nothing was decided.
+fn opened(alloc: Global, disk: MemDisk) -> Result<Durable<MemDisk>, Fail>
+    ensures fresh { IfOk result (λ durable. durable.history ≡ []) }
+    ensures limit { IfOk result (λ durable. durable.limit ≡ 2) }
 {
     let cell = cell_of_one(alloc)?;
     if !cell_fits(&cell) {
         return Err(Fail::from("the cell fits"));
     }
-    match Durable::open(alloc, cell, b"cell", disk, 8, 2, List::new(alloc)) {
-        Opening::Open { durable, kept } => Ok((durable, kept)),
+    match Durable::open(alloc, cell, b"cell", disk, 8, 2) {
+        Opening::Open(durable) => Ok(durable),
         _ => Err(Fail::from("not opened")),
     }
 }
 
 fn follower(alloc: Global) -> Result<Follower<MemDisk>, Fail> {
-    let (durable, grants) = opened(alloc, MemDisk::new(alloc, b"", List::new(alloc))?)?;
-    match Follower::open(alloc, durable, grants, 2) {
+    let durable = opened(alloc, MemDisk::new(alloc, b"", List::new(alloc))?)?;
+    match Follower::open(alloc, durable, 2) {
         Ok(follower) => Ok(follower),
         Err(_) => Err(Fail::from("no memory")),
     }
@@ -123,8 +122,8 @@ fn frames_are_taken(rt: HostRuntime) -> Result<(), Fail> {
     assert!(rt; takes_as_listed(&mut follower));
     assert!(rt; follower.grants() == GRANTS.as_slice());
     let finished = follower.into_durable().finish();
-    let (again, grants) = opened(rt.alloc(), finished.disk)?;
+    let again = opened(rt.alloc(), finished.disk)?;
     assert!(rt; again.held() == 2);
-    assert!(rt; grants.as_slice() == GRANTS.as_slice());
+    assert!(rt; again.opening() == GRANTS.as_slice());
     Ok(())
 }
