@@ -1,8 +1,10 @@
 -- What the walk of `begin` answers, told fact by fact.
+use Rattle.std.specs.Prelude.{IfSome}
 use Rattle.std.proofs.Common.{◌≡◌, ◌⊎◌, inl, inr, ℕ, List, [], ◌∷◌, ◌++◌, length, take}
 use Rattle.std.proofs.Common.{drop, refl, sym, ap, ◌∙◌, subst, append-nil, append_assoc}
 use Rattle.std.proofs.lemmas.List.Elements.{All-head}
 use Rattle.outside_io.specs.Causes.{Rose}
+use Rattle.outside_io.specs.Puts.{SinkTold}
 use Rattle.std.proofs.lemmas.List.{drop-map, map-append, take-append-drop, take_at}
 use Rattle.cell_base.specs.declared.cells.Cell.{Cell}
 use Rattle.cell_base.specs.declared.requests.Request.{Request}
@@ -16,14 +18,19 @@ use Rattle.cell_walks.specs.Allowed.{StandsForAdded}
 use Rattle.cell_walks.specs.DiskTold.{DiskTold}
 use Rattle.cell_walks.specs.Observed.{Observed}
 use Rattle.cell_walks.specs.Outcomes.{Outcome}
-use Rattle.cell_walks.specs.Promises.{IsAnswered}
+use Rattle.cell_walks.specs.Promises.{IsAnswered, Promises}
+use Rattle.cell_walks.specs.StatusTells.{StatusTells}
+use Rattle.cell_walks.specs.Statuses.{status_number}
+use Rattle.cell_walks.specs.declared.status.Status.{Status}
+use Rattle.cell_walks.proofs.Standing.{found_same}
+use Rattle.cell_walks.proofs.Telling.{status_tells}
 use Rattle.cell_walks.proofs.Walked.{always_weaker, now_weaker}
 use Rattle.journal_texts.specs.Records.{IsHalted, IsRecorded}
-use Rattle.cell_texts.specs.Tests.{KnownCell}
+use Rattle.durable_cell.specs.declared.replays.TheConstants.{MAX_ROOM}
 use Rattle.journal_texts.specs.AskedSteps.{AllGranted, HaltsAt, step_grant}
 use Rattle.journal_texts.proofs.AskedSteps.{grants-drained, grants-drained_to, last_asked}
 use Rattle.carry_commands.specs.Begin.{begin, requests_left}
-use Rattle.carry_commands.specs.BeginTold.{IsBegunWhole, IsHaltedBegin, StandsForFirstOf}
+use Rattle.carry_commands.specs.BeginTold.{IsBeginFrom, IsBegunWhole, IsHaltedBegin, StandsForFirstOf}
 use Rattle.carry_commands.specs.Starts.{ArePrefix, start_grants}
 
 module _ (disk : DiskTold) (cell : Cell) (text : List ℕ) (requests : List Request) (opening : List Grant) (outcome : Outcome)
@@ -68,6 +75,8 @@ module _ (disk : DiskTold) (cell : Cell) (text : List ℕ) (requests : List Requ
         written = is.text
             ∙ ap (λ (history : List Entry). text_of_record cell state 0 (length opening) history (plan_of cell (after cell state history)))
             goes;
+        added = added;
+        sure = sure;
         stands = now_weaker disk (λ file. StandsFor file text (opening ++ outcome.added)
             ⊎ StandsFor file text (opening ++ outcome.added ++ []))
             (λ file. StandsFor file text (start_grants requests))
@@ -110,6 +119,8 @@ module _ (disk : DiskTold) (cell : Cell) (text : List ℕ) (requests : List Requ
         parted = parted;
         status = ap (λ (o : Outcome). o.status) is.is;
         written = is.text ∙ ap (λ (h : List Entry). text_of_record cell (replay cell opening) 0 (length opening) h []) goes;
+        added = added;
+        unsure = unsure;
         stands = now_weaker disk
             (λ file. StandsFor file text (opening ++ outcome.added)
             ⊎ StandsFor file text (opening ++ outcome.added ++ step_grant last ∷ []))
@@ -130,18 +141,35 @@ module _ (disk : DiskTold) (cell : Cell) (text : List ℕ) (requests : List Requ
         cause = All-head (λ grant. Rose disk.faults disk.faults_after) (step_grant last) [] now.cause;
       }
 
--- what is answered
-pub begin_told : (seen : Observed) (cell start : List ℕ) (outcome : Outcome) → IsAnswered seen (begin cell start) outcome
-    → (held : KnownCell) × (requests : List Request) × (opening : List Grant)
-    × (IsBegunWhole seen.disk held.cell held.text requests opening outcome
-    ⊎ IsHaltedBegin seen.disk held.cell held.text requests opening outcome)
-begin_told seen cell start outcome
-    (held, shows, (requests, read, (granted, grants, (opening, opened, (first, are_first, (answer, left)))))) = (
-      held,
-      requests,
-      opening,
-      elim answer [
-        | inl is ↦ inl (is_whole seen.disk held.cell held.text requests opening outcome are_first left is)
-        | inr is ↦ inr (is_halted seen.disk held.cell held.text requests opening outcome are_first left is)
-      ],
-    )
+-- what is answered is a begin, whole or halted
+module _ (seen : Observed) (cell start : List ℕ) (outcome : Outcome) (now : IfSome seen.disk.reads seen.disk.leaves) where
+  pub begin_told : IsAnswered seen (begin cell start) outcome
+      → IsBeginFrom IsBegunWhole seen cell start outcome ⊎ IsBeginFrom IsHaltedBegin seen cell start outcome
+  begin_told (held, cell_read, (requests, start_read, (had, granted, (opening, opened, (at, first, (answer, left)))))) = elim answer [
+    | inl is ↦ inl (told_of IsBegunWhole (is_whole seen.disk held.cell held.text requests opening outcome first left is))
+    | inr is ↦ inr (told_of IsHaltedBegin (is_halted seen.disk held.cell held.text requests opening outcome first left is))
+  ]
+    where
+      told_of : (Told : DiskTold → Cell → List ℕ → List Request → List Grant → Outcome → Type 0)
+          → Told seen.disk held.cell held.text requests opening outcome → IsBeginFrom Told seen cell start outcome
+      told_of Told told = record {
+        held = held;
+        cell_read = cell_read;
+        requests = requests;
+        start_read = start_read;
+        granted = granted;
+        opening = opening;
+        opened = opened;
+        stood = λ grants was. sym (found_same seen.disk now held.text grants was held.cell MAX_ROOM opening opened.1);
+        first = first;
+        told = told;
+      }
+
+-- what the status of a begin tells
+pub begin_tells : (seen : Observed) (sink : SinkTold) (cell start : List ℕ) (status : Status) → IfSome seen.disk.reads seen.disk.leaves
+    → Promises seen sink (begin cell start) status → (number : ℕ) → number ≡ status_number status
+    → StatusTells seen sink (begin cell start) (IsBeginFrom IsBegunWhole seen cell start) (IsBeginFrom IsHaltedBegin seen cell start) number
+begin_tells seen sink cell start status now promised =
+    status_tells seen sink (begin cell start) status promised (IsBeginFrom IsBegunWhole seen cell start)
+    (IsBeginFrom IsHaltedBegin seen cell start) (λ whole. whole.told.status) (λ stopped. stopped.told.status)
+    (begin_told seen cell start promised.outcome now) (λ held requests granted opening first. tt)

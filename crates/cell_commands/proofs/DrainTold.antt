@@ -1,8 +1,10 @@
 -- What the walk of `drain` answers, told fact by fact.
+use Rattle.std.specs.Prelude.{IfSome}
 use Rattle.std.proofs.Common.{◌≡◌, ◌⊎◌, inl, inr, ℕ, List, [], ◌∷◌, ◌++◌, length, map, take, sym, ap, ◌∙◌, subst, append-nil, append_assoc}
 use Rattle.std.proofs.lemmas.List.Elements.{All-head}
 use Rattle.std.proofs.lemmas.List.{map-append, take-map}
 use Rattle.outside_io.specs.Causes.{Rose}
+use Rattle.outside_io.specs.Puts.{SinkTold}
 use Rattle.cell_base.specs.declared.cells.Cell.{Cell}
 use Rattle.cell_base.specs.declared.requests.Part.{Part}
 use Rattle.cell_base.specs.declared.requests.Request.{Request}
@@ -20,14 +22,19 @@ use Rattle.cell_walks.specs.Allowed.{StandsForAdded}
 use Rattle.cell_walks.specs.DiskTold.{DiskTold}
 use Rattle.cell_walks.specs.Observed.{Observed}
 use Rattle.cell_walks.specs.Outcomes.{Outcome}
-use Rattle.cell_walks.specs.Promises.{IsAnswered}
+use Rattle.cell_walks.specs.Promises.{IsAnswered, Promises}
+use Rattle.cell_walks.specs.StatusTells.{StatusTells}
+use Rattle.cell_walks.specs.Statuses.{status_number}
+use Rattle.cell_walks.specs.declared.status.Status.{Status}
+use Rattle.cell_walks.proofs.Standing.{found_same}
+use Rattle.cell_walks.proofs.Telling.{status_tells}
 use Rattle.cell_walks.proofs.Walked.{always_weaker, now_weaker}
 use Rattle.journal_texts.specs.Records.{IsHalted, IsRecorded}
-use Rattle.cell_texts.specs.Tests.{KnownCell}
+use Rattle.durable_cell.specs.declared.replays.TheConstants.{MAX_ROOM}
 use Rattle.journal_texts.proofs.Replays.{replay_admitted}
 use Rattle.journal_texts.specs.AskedSteps.{AllGranted, HaltsAt, step_grant}
 use Rattle.cell_commands.specs.Drain.{drain}
-use Rattle.cell_commands.specs.DrainTold.{IsEmptied, IsHaltedDrain, StandsForSome}
+use Rattle.cell_commands.specs.DrainTold.{IsDrainFrom, IsEmptied, IsHaltedDrain, StandsForSome}
 use Rattle.journal_texts.proofs.AskedSteps.{after_drained, grants-drained, grants-drained_to, last_asked}
 
 module _ (disk : DiskTold) (cell : Cell) (text : List ℕ) (opening : List Grant) (outcome : Outcome) (fits : CellFits cell)
@@ -64,6 +71,7 @@ module _ (disk : DiskTold) (cell : Cell) (text : List ℕ) (opening : List Grant
         status = ap (λ (o : Outcome). o.status) is.is;
         written = is.text ∙ (λ i. text_of_record cell parts 0 (length opening) (is.asked.goes i) (plan_of cell (emptied i)));
         added = added;
+        sure = sure;
         stands = now_weaker disk (λ file. StandsFor file text (opening ++ outcome.added)
             ⊎ StandsFor file text (opening ++ outcome.added ++ []))
             (λ file. StandsFor file text (opening ++ map step_grant plan))
@@ -100,6 +108,7 @@ module _ (disk : DiskTold) (cell : Cell) (text : List ℕ) (opening : List Grant
         status = ap (λ (o : Outcome). o.status) is.is;
         written = is.text ∙ ap (λ (h : List Entry). text_of_record cell parts 0 (length opening) h []) goes;
         added = added;
+        unsure = unsure;
         stands = now_weaker disk
             (λ file. StandsFor file text (opening ++ outcome.added)
             ⊎ StandsFor file text (opening ++ outcome.added ++ step_grant last ∷ []))
@@ -120,15 +129,30 @@ module _ (disk : DiskTold) (cell : Cell) (text : List ℕ) (opening : List Grant
         cause = All-head (λ grant. Rose disk.faults disk.faults_after) (step_grant last) [] now.cause;
       }
 
--- what is answered, of a cell that fits
-pub drain_told : (seen : Observed) (cell : List ℕ) (outcome : Outcome) → IsAnswered seen (drain cell) outcome
-    → (held : KnownCell) × (opening : List Grant) × (CellFits held.cell
-    → IsEmptied seen.disk held.cell held.text opening outcome ⊎ IsHaltedDrain seen.disk held.cell held.text opening outcome)
-drain_told seen cell outcome (held, shows, (opening, opened, (answer, left))) = (
-  held,
-  opening,
-  λ fits. elim answer [
-    | inl is ↦ inl (is_emptied seen.disk held.cell held.text opening outcome fits opened.0 left is)
-    | inr is ↦ inr (is_halted seen.disk held.cell held.text opening outcome fits opened.0 left is)
-  ],
-)
+-- what is answered is a drain, whole or halted
+module _ (seen : Observed) (cell : List ℕ) (outcome : Outcome) (now : IfSome seen.disk.reads seen.disk.leaves) where
+  pub drain_told : IsAnswered seen (drain cell) outcome
+      → IsDrainFrom IsEmptied seen cell outcome ⊎ IsDrainFrom IsHaltedDrain seen cell outcome
+  drain_told (held, cell_read, (opening, opened, (answer, left))) = elim answer [
+    | inl is ↦ inl (told_of IsEmptied (is_emptied seen.disk held.cell held.text opening outcome is.asked.fits opened.0 left is))
+    | inr is ↦ inr (told_of IsHaltedDrain (is_halted seen.disk held.cell held.text opening outcome is.asked.fits opened.0 left is))
+  ]
+    where
+      told_of : (Told : DiskTold → Cell → List ℕ → List Grant → Outcome → Type 0) → Told seen.disk held.cell held.text opening outcome
+          → IsDrainFrom Told seen cell outcome
+      told_of Told told = record {
+        held = held;
+        cell_read = cell_read;
+        opening = opening;
+        opened = opened;
+        stood = λ grants was. sym (found_same seen.disk now held.text grants was held.cell MAX_ROOM opening opened.1);
+        told = told;
+      }
+
+-- what the status of a drain tells
+pub drain_tells : (seen : Observed) (sink : SinkTold) (cell : List ℕ) (status : Status) → IfSome seen.disk.reads seen.disk.leaves
+    → Promises seen sink (drain cell) status → (number : ℕ) → number ≡ status_number status
+    → StatusTells seen sink (drain cell) (IsDrainFrom IsEmptied seen cell) (IsDrainFrom IsHaltedDrain seen cell) number
+drain_tells seen sink cell status now promised =
+    status_tells seen sink (drain cell) status promised (IsDrainFrom IsEmptied seen cell) (IsDrainFrom IsHaltedDrain seen cell)
+    (λ whole. whole.told.status) (λ stopped. stopped.told.status) (drain_told seen cell promised.outcome now) (λ held opening. tt)

@@ -12,6 +12,7 @@ use Rattle.cell_base.specs.Histories.{grants}
 use Rattle.cell_base.specs.Plans.{plan_of}
 use Rattle.cell_base.specs.Policy.{IsAdmitted}
 use Rattle.cell_base.specs.Scripts.{holds_halt}
+use Rattle.policy_laws.proofs.DecidedHistories.{are_decided}
 use Rattle.policy_laws.proofs.Plans.{plan_law}
 use Rattle.durable_cell.specs.Asked.{grant_of, halted_in, unsure_grant}
 use Rattle.durable_cell.specs.DurableState.{DurableState, first_parts, parts}
@@ -53,7 +54,13 @@ module _ {D : Type 0} (number : ℕ) (durable : DurableState D) (kept : KeepsHis
       (subst (λ (entries : List Entry). All (EntryFits durable.cell) entries) (sym history_is) all)
 
   was_asked : (Goes : List Entry → Type 0) → Goes durable.history → IsAsked durable.cell durable.opening Goes durable.history
-  was_asked Goes goes = record { legal = kept.legal; admitted = left_admitted; goes = goes }
+  was_asked Goes goes = record {
+    fits = kept.fits;
+    legal = kept.legal;
+    decided = are_decided durable.cell kept.fits (first_parts durable) durable.history first_admitted kept.legal under.requests;
+    admitted = left_admitted;
+    goes = goes;
+  }
 
   added_is : durable.added ≡ grants number history
   added_is = under.added ∙ sym (λ i. grants number (history_is i))
@@ -155,6 +162,17 @@ module _ {D : Type 0} (number : ℕ) (durable : DurableState D) (kept : KeepsHis
         (subst (λ (added : List Grant). StandsForAdded disk durable.text durable.opening added (option_to_list durable.unsure))
         added_is stands)
 
+-- a history that goes in one way goes in another
+asked_so : (cell : Cell) (opening : List Grant) (G G' : List Entry → Type 0) (history : List Entry) → (G history → G' history)
+    → IsAsked cell opening G history → IsAsked cell opening G' history
+asked_so cell opening G G' history so asked = record {
+  fits = asked.fits;
+  legal = asked.legal;
+  decided = asked.decided;
+  admitted = asked.admitted;
+  goes = so asked.goes;
+}
+
 -- a record of one kind of history is one of another
 pub recorded_so : (cell : Cell) (number : ℕ) (opening : List Grant) (W W' P P' : List Entry → Type 0)
     → ((history : List Entry) → W history → W' history) → ((history : List Entry) → P history → P' history)
@@ -162,7 +180,7 @@ pub recorded_so : (cell : Cell) (number : ℕ) (opening : List Grant) (W W' P P'
     → IsRecordedOrHalted cell number opening W' P' outcome
 recorded_so cell number opening W W' P P' whole part outcome (inl is) = inl (record {
   history = is.history;
-  asked = record { legal = is.asked.legal; admitted = is.asked.admitted; goes = whole is.history is.asked.goes };
+  asked = asked_so cell opening W W' is.history (whole is.history) is.asked;
   drains = is.drains;
   is = is.is;
   text = is.text;
@@ -173,7 +191,7 @@ recorded_so cell number opening W W' P P' whole part outcome (inr is) = inr (rec
   last = is.last;
   parted = is.parted;
   halted = is.halted;
-  asked = record { legal = is.asked.legal; admitted = is.asked.admitted; goes = part is.history is.asked.goes };
+  asked = asked_so cell opening P P' is.history (part is.history) is.asked;
   is = is.is;
   text = is.text;
 })

@@ -5,19 +5,24 @@ use Rattle.cell_base.specs.declared.cells.Cell.{Cell}
 use Rattle.cell_base.specs.declared.requests.Told.TheVariants.{Halted}
 use Rattle.cell_base.specs.declared.shifts.Entry.{Entry}
 use Rattle.cell_base.specs.declared.shifts.Grant.{Grant}
+use Rattle.cell_base.specs.Fits.{CellFits}
 use Rattle.cell_base.specs.Histories.{IsLegal, after, grants, replay}
 use Rattle.cell_base.specs.Plans.{Drains, plan_of}
 use Rattle.cell_base.specs.Policy.{IsAdmitted}
+use Rattle.policy_laws.specs.DecidedHistories.{AreDecided}
 use Rattle.durable_cell.specs.Asked.{grant_of}
 use Rattle.record_text.specs.Records.{text_of_record}
 use Rattle.cell_walks.specs.Outcomes.{Outcome}
 use Rattle.cell_walks.specs.declared.status.Status.TheVariants.{Done, DeviceFault}
 use Rattle.cell_texts.specs.Blocks.{history_lines, planned_block}
 
--- The history that was asked under this number: it is legal after the grants, as if a single thread had asked; no neighborhood of the
--- state after it holds more parts than its resource has units; and it goes as the command has it.
+-- The history that was asked under this number: it is legal after the grants, as if a single thread had asked; the policy decided each
+-- request by the state before it, which it admits; no neighborhood of the state after it holds more parts than its resource has units;
+-- and it goes as the command has it. The cell fits.
 pub record IsAsked (cell : Cell) (opening : List Grant) (Goes : List Entry → Type 0) (history : List Entry) : Type 0 where
+  pub fits : CellFits cell
   pub legal : IsLegal cell (replay cell opening) history
+  pub decided : AreDecided cell (replay cell opening) history
   pub admitted : IsAdmitted cell (after cell (replay cell opening) history)
   pub goes : Goes history
 

@@ -1,4 +1,4 @@
--- A shift in rounds on the empty cell: each entry fits, none of them halted, and its plan drains the state after it.
+-- A shift in rounds on the empty cell: each entry fits and is decided, none of them halted, and its plan drains the state after it.
 use Rattle.std.proofs.Common.{◌≡◌, inl, inr, ℕ, false, List, [], ◌∷◌, ◌++◌, Contains, All, refl, ap, ◌∙◌, subst}
 use Rattle.std.specs.Prelude.{◌==◌, Bool, ◌||◌}
 use Rattle.std.proofs.lemmas.Bool.{eq-eqb, or_parts}
@@ -13,6 +13,8 @@ use Rattle.cell_base.specs.Rounds.{IsSession, IsRoundRobin}
 use Rattle.cell_base.specs.Scripts.{begin_at, holds_halt}
 use Rattle.admission_core.specs.CoreState.{CoreState}
 use Rattle.policy_laws.proofs.Lists.{All-from_Contains, Contains-head, Contains-none, Contains-cases}
+use Rattle.policy_laws.specs.DecidedHistories.{AreDecided}
+use Rattle.policy_laws.proofs.DecidedHistories.{are_decided}
 use Rattle.policy_laws.proofs.Plans.{plan_law}
 use Rattle.policy_laws.proofs.States.{IsAdmitted-empty}
 use Rattle.record_text.specs.Fitting.{EntryFits}
@@ -59,6 +61,9 @@ module _ (cell : Cell) (fits : CellFits cell) (shift : Shift) (history : List En
   requests : All (λ (entry : Entry). RequestFits cell entry.request) history
   requests =
       requests_fit cell shift history shift_fits (λ session. begin_at 0) rounds.sessions (λ session is. (rounds.whole session is).trace)
+
+  pub rounds_decided : AreDecided cell [] history
+  rounds_decided = are_decided cell fits [] history (IsAdmitted-empty cell) rounds.legal requests
 
   pub rounds_drain : let behind = after cell [] history in Drains cell behind (plan_of cell behind)
   rounds_drain =

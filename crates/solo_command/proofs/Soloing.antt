@@ -12,7 +12,7 @@ use Rattle.cell_texts.proofs.BlockTexts.{planned_text}
 use Rattle.cell_walks.specs.Walks.{Answers, Walk}
 use Rattle.cell_texts.specs.Tests.{KnownCell}
 use Rattle.solo_command.specs.Solo.{IsSoloRecord, IsSoloShift, solo}
-use Rattle.solo_command.proofs.Rounds.{rounds_drain, rounds_unhalted}
+use Rattle.solo_command.proofs.Rounds.{rounds_decided, rounds_drain, rounds_unhalted}
 
 -- the lines of the history and of the plan after it are those of the record of the shift
 module _ (cell : Cell) (shift : Shift) (fits : CellFits cell) (shift_fits : ShiftFits cell shift) (history : List Entry)
@@ -24,6 +24,7 @@ module _ (cell : Cell) (shift : Shift) (fits : CellFits cell) (shift_fits : Shif
   solo_record = record {
     history = history;
     rounds = rounds;
+    decided = rounds_decided cell fits shift history shift_fits rounds;
     drains = rounds_drain cell fits shift history shift_fits rounds;
     printed = refl;
     text = planned_text cell [] shift.number 0 history (plan_of cell (after cell [] history))

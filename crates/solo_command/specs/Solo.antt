@@ -7,17 +7,20 @@ use Rattle.cell_base.specs.declared.shifts.Shift.{Shift}
 use Rattle.cell_base.specs.Histories.{after}
 use Rattle.cell_base.specs.Plans.{Drains, plan_of}
 use Rattle.cell_base.specs.Rounds.{IsRoundRobin}
+use Rattle.policy_laws.specs.DecidedHistories.{AreDecided}
 use Rattle.record_text.specs.Records.{text_of_record}
 use Rattle.cell_walks.specs.Outcomes.{Outcome, done}
 use Rattle.cell_walks.specs.Walks.{Walk, Tests, Answers}
 use Rattle.cell_texts.specs.Blocks.{planned_block}
 use Rattle.cell_texts.specs.Tests.{cell_file, shift_file}
 
--- The record of a shift that runs on the empty cell: the history of its sessions in rounds, and the plan of the state
--- after it, which drains that state. Its lines one after the other are the text of that record.
+-- The record of a shift that runs on the empty cell: the history of its sessions in rounds, in which the policy decided each request by the
+-- state before it, which it admits; and the plan of the state after it, which drains that state. Its lines one after the other are the
+-- text of that record.
 pub record IsSoloRecord (cell : Cell) (shift : Shift) (lines : List (List ℕ)) : Type 0 where
   pub history : List Entry
   pub rounds : IsRoundRobin cell [] shift history
+  pub decided : AreDecided cell [] history
   pub drains : let left = after cell [] history in Drains cell left (plan_of cell left)
   pub printed : let left = after cell [] history in
       lines ≡ planned_block cell shift.number 0 history (length left) (plan_of cell left)
