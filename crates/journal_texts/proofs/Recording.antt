@@ -12,7 +12,7 @@ use Rattle.cell_base.specs.Histories.{grants}
 use Rattle.cell_base.specs.Plans.{plan_of}
 use Rattle.cell_base.specs.Policy.{IsAdmitted}
 use Rattle.cell_base.specs.Scripts.{holds_halt}
-use Rattle.policy_laws.proofs.DecidedHistories.{are_decided}
+use Rattle.admission_core.proofs.DecidedHistories.{are_decided}
 use Rattle.policy_laws.proofs.Plans.{plan_law}
 use Rattle.durable_cell.specs.Asked.{grant_of, halted_in, unsure_grant}
 use Rattle.durable_cell.specs.DurableState.{DurableState, first_parts, parts}

@@ -9,7 +9,7 @@ use Rattle.cell_base.specs.Fits.{CellFits}
 use Rattle.cell_base.specs.Histories.{IsLegal, after, grants, replay}
 use Rattle.cell_base.specs.Plans.{Drains, plan_of}
 use Rattle.cell_base.specs.Policy.{IsAdmitted}
-use Rattle.policy_laws.specs.DecidedHistories.{AreDecided}
+use Rattle.admission_core.specs.DecidedHistories.{AreDecided}
 use Rattle.durable_cell.specs.Asked.{grant_of}
 use Rattle.record_text.specs.Records.{text_of_record}
 use Rattle.cell_walks.specs.Outcomes.{Outcome}

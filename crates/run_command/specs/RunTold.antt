@@ -13,7 +13,7 @@ use Rattle.cell_base.specs.Policy.{IsAdmitted}
 use Rattle.cell_base.specs.Rounds.{IsSession}
 use Rattle.cell_base.specs.Scripts.{IsTrace, IsWholeTrace}
 use Rattle.cell_base.specs.Starts.{AreFirstSteps}
-use Rattle.policy_laws.specs.DecidedHistories.{AreDecided}
+use Rattle.admission_core.specs.DecidedHistories.{AreDecided}
 use Rattle.durable_cell.specs.Asked.{grant_of}
 use Rattle.move_journal.specs.Journals.{StandsForPrefix, StandsFor}
 use Rattle.record_text.specs.Records.{text_of_record}

@@ -13,8 +13,8 @@ use Rattle.cell_base.specs.Rounds.{IsSession, IsRoundRobin}
 use Rattle.cell_base.specs.Scripts.{begin_at, holds_halt}
 use Rattle.admission_core.specs.CoreState.{CoreState}
 use Rattle.policy_laws.proofs.Lists.{All-from_Contains, Contains-head, Contains-none, Contains-cases}
-use Rattle.policy_laws.specs.DecidedHistories.{AreDecided}
-use Rattle.policy_laws.proofs.DecidedHistories.{are_decided}
+use Rattle.admission_core.specs.DecidedHistories.{AreDecided}
+use Rattle.admission_core.proofs.DecidedHistories.{are_decided}
 use Rattle.policy_laws.proofs.Plans.{plan_law}
 use Rattle.policy_laws.proofs.States.{IsAdmitted-empty}
 use Rattle.record_text.specs.Fitting.{EntryFits}

@@ -7,7 +7,7 @@ use Rattle.cell_base.specs.declared.shifts.Shift.{Shift}
 use Rattle.cell_base.specs.Histories.{after}
 use Rattle.cell_base.specs.Plans.{Drains, plan_of}
 use Rattle.cell_base.specs.Rounds.{IsRoundRobin}
-use Rattle.policy_laws.specs.DecidedHistories.{AreDecided}
+use Rattle.admission_core.specs.DecidedHistories.{AreDecided}
 use Rattle.record_text.specs.Records.{text_of_record}
 use Rattle.cell_walks.specs.Outcomes.{Outcome, done}
 use Rattle.cell_walks.specs.Walks.{Walk, Tests, Answers}
