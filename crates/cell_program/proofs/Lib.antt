@@ -1,5 +1,4 @@
 -- Lemmas, grouped by subject.
-pub mod Headlines
 pub mod Journals
 pub mod Promised
 pub mod ServeWords

@@ -1,41 +1,38 @@
 -- A command answers with status 0, 1 or 7, and `follow` also with 10; so each other status has its cause before the answer.
 use Rattle.std.specs.Prelude.{⊤}
-use Rattle.std.proofs.Common.{◌≡◌, ◌⊎◌, inl, inr, ◌∙◌, ap, ℕ, List, [], ◌∷◌, subst, sym}
-use Rattle.outside_io.specs.Puts.{SinkTold, TookAll}
+use Rattle.std.proofs.Common.{◌≡◌, ◌⊎◌, inl, inr, ◌∙◌, ap, ℕ, List, subst, sym}
+use Rattle.outside_io.specs.Puts.{SinkTold}
 use Rattle.cell_base.specs.declared.shifts.Grant.{Grant}
 use Rattle.shift_checker.specs.declared.verdict.Verdict.{Verdict}
 use Rattle.shift_checker.specs.declared.verdict.Verdict.TheVariants.{Yes, No}
 use Rattle.shift_checker.specs.Judging.{judge}
 use Rattle.cell_walks.specs.Allowed.{Reached, Unasked, reached_by}
 use Rattle.outside_io.specs.Source.{SourceTold}
-use Rattle.cell_walks.specs.Observed.{Observed, shown}
+use Rattle.cell_walks.specs.Observed.{Observed}
 use Rattle.cell_walks.specs.Outcomes.{Outcome}
-use Rattle.cell_walks.specs.Promises.{AnswersFrom, HasFailedReading, IsAnswered, Promises, Refuses}
+use Rattle.cell_walks.specs.Promises.{AnswersFrom, HasFailedReading, IsAnswered, Promises}
 use Rattle.cell_walks.specs.Statuses.{status_number, subject_status}
 use Rattle.cell_walks.specs.Walks.{Answers, Opens, Tests, Walk}
-use Rattle.cell_walks.specs.declared.early_end.Refusal.{Refusal}
 use Rattle.cell_walks.specs.declared.early_end.Subject.{Subject}
 use Rattle.cell_walks.specs.declared.early_end.Subject.TheVariants.{Words, Cell, Input, Journal, Command}
 use Rattle.cell_walks.specs.declared.status.Status.{Status}
-use Rattle.cell_walks.specs.declared.status.Status.TheVariants.{CommandRefused, Done, Denied, DeviceFault, NoMemory, ReadFault, SinkFault}
+use Rattle.cell_walks.specs.declared.status.Status.TheVariants.{CellRefused, CommandRefused, Done, Denied, DeviceFault, InputRefused}
+use Rattle.cell_walks.specs.declared.status.Status.TheVariants.{JournalRefused, NoCommand, NoMemory, ReadFault, SinkFault}
 use Rattle.cell_walks.proofs.Promising.{no_sink_fault}
+use Rattle.cell_walks.proofs.Telling.{one_status}
 use Rattle.cell_commands.specs.Check.{verdict_status}
 use Rattle.standby_commands.specs.Follow.{EndsFollowing, Followed, HaltedAt, RefusedAt}
 use Rattle.cell_base.specs.declared.cells.Cell.{Cell as OfCell}
+use Rattle.cell_program.specs.Causes.{Causes, IsFollow, IsRefusedFor}
 use Rattle.cell_program.specs.Words.{Task, Solo, Run, Plan, Drain, Why, Check, Show, Make, Carry, Begin}
 use Rattle.cell_program.specs.Words.{Hybrid, Queue, Advise, Arrange, Grants, Parts, Feed, Follow, walk_of}
-
--- a refusal that an answer may tell: `follow` alone, after the frames that it has taken
-abbrev pub MayAnswer : Task → Subject → Type 0
-MayAnswer (Follow cell frames journal) Command = ⊤
-MayAnswer task subject = ⊥
 
 -- a status that an answer of a command has
 abbrev IsAnswers : Task → Status → Type 0
 IsAnswers task Done = ⊤
 IsAnswers task Denied = ⊤
 IsAnswers task DeviceFault = ⊤
-IsAnswers task CommandRefused = MayAnswer task Command
+IsAnswers task CommandRefused = IsFollow task
 IsAnswers task status = ⊥
 
 -- each answer of a walk has such a status
@@ -63,7 +60,7 @@ so : (task : Task) (outcome this : Outcome) → outcome ≡ this → IsAnswers t
 so task outcome this is that = subst (λ (o : Outcome). IsAnswers task o.status) (sym is) that
 
 -- a `follow` was taken whole, refused, or halted
-follow_so : (task : Task) → MayAnswer task Command → (cell : OfCell) (opening : List Grant) (frames : List (List ℕ)) (outcome : Outcome)
+follow_so : (task : Task) → IsFollow task → (cell : OfCell) (opening : List Grant) (frames : List (List ℕ)) (outcome : Outcome)
     → EndsFollowing cell opening frames outcome → IsAnswers task outcome.status
 follow_so task may cell opening frames outcome (Followed is) = subst (IsAnswers task) (sym is.status) tt
 follow_so task may cell opening frames outcome (RefusedAt is) = subst (IsAnswers task) (sym is.status) may
@@ -109,29 +106,45 @@ module _ (seen : Observed) (sink : SinkTold) (task : Task) (status : Status) (p 
       none (subst (IsAnswers task) (sym (p.whole taken).0)
       (answered_so task seen p.outcome Unasked (walk_of task) (answers_of task) answers))
 
-  none_refused : (subject : Subject) → (MayAnswer task subject → ⊥) → IsAnswers task (subject_status subject) → ⊥
-  none_refused Words none answers = answers
-  none_refused Cell none answers = answers
-  none_refused Input none answers = answers
-  none_refused Journal none answers = answers
-  none_refused Command none answers = none answers
-
   -- a status of refusals that no answer tells comes only where a test on the way is refused so, and its line was taken
-  pub refused_only : (subject : Subject) → (MayAnswer task subject → ⊥) → status ≡ subject_status subject
-      → (refusal : Refusal) × (refusal.subject ≡ subject) × Refuses (shown seen) (walk_of task) refusal × TookAll sink (refusal.line ∷ [])
+  refused_only : (subject : Subject) → (IsAnswers task (subject_status subject) → ⊥) → status ≡ subject_status subject
+      → IsRefusedFor seen sink (walk_of task) subject
   refused_only subject none is = elim (p.refused subject is) [
     | inl refused ↦ refused
     | inr answers ↦ absurd (not_answered (λ eight. no_sink_fault subject (sym is ∙ eight))
-        (λ answer. none_refused subject none (subst (IsAnswers task) is answer)) answers)
+        (λ answer. none (subst (IsAnswers task) is answer)) answers)
   ]
 
   -- status 3 comes only where a read failed, and never of sound files that hold what the command asks for
-  pub read_fault : status ≡ ReadFault → HasFailedReading seen (walk_of task)
+  read_fault : status ≡ ReadFault → HasFailedReading seen (walk_of task)
   read_fault is = elim (p.read_fault is) [
     | inl failed ↦ failed
     | inr answers ↦ absurd (not_answered (λ eight. absurd (let both = sym is ∙ eight in cc))
         (λ answer. absurd (subst (IsAnswers task) is answer)) answers)
   ]
+
+  -- a command is refused by a test, or in an answer where that may be
+  refused_or_answered : status ≡ CommandRefused → IsRefusedFor seen sink (walk_of task) Command ⊎ IsFollow task
+  refused_or_answered is = elim (p.refused Command is) [
+    | inl refused ↦ inl refused
+    | inr answers ↦ inr (subst (IsAnswers task) (sym (p.whole (λ eight. absurd (let both = sym is ∙ eight in cc))).0 ∙ is)
+        (answered_so task seen p.outcome Unasked (walk_of task) (answers_of task) answers))
+  ]
+
+  pub causes : (number : ℕ) → number ≡ status_number status → Causes seen sink task number
+  causes number same = record {
+    words = λ is. refused_only Words (λ answer. answer) (status_is NoCommand is);
+    reading = λ is. read_fault (status_is ReadFault is);
+    cell = λ is. refused_only Cell (λ answer. answer) (status_is CellRefused is);
+    input = λ is. refused_only Input (λ answer. answer) (status_is InputRefused is);
+    journal = λ is. refused_only Journal (λ answer. answer) (status_is JournalRefused is);
+    command = λ is. refused_or_answered (status_is CommandRefused is);
+    sink_failed = λ is. (p.cut (status_is SinkFault is)).cause;
+    sink_served = λ other. (p.whole (λ is. other (same ∙ ap status_number is))).2;
+  }
+    where
+      status_is : (this : Status) → number ≡ status_number this → status ≡ this
+      status_is this is = one_status status this (sym same ∙ is)
 
 -- ---- numbers
 

@@ -1,3 +1,4 @@
+pub mod Causes
 pub mod Deciding
 pub mod Headline
 pub mod Promised

@@ -1,8 +1,9 @@
 //! The program: what the words of a command line ask for is done over given files, sink and disk.
 //!
 //! `cell_main` is the top call. It answers a status and hands back the disk. What it promises stands in `cell_walks`, once for every
-//! command: of the walk of the command that the words are (`specs/Words`, one line each). What that says of `run` is told fact by fact in
-//! `specs/Headline`. `serve_main` is the top call of `serve`, which alone has an input.
+//! command: of the walk of the command that the words are (`specs/Words`, one line each). What that says of the commands that add to a
+//! journal is told fact by fact in `specs/Headline`, and why a command ends with each status in `specs/Causes`. `serve_main` is the top call
+//! of `serve`, which alone has an input.
 //!
 //! ```rust
 //! let mut files = files_of(rt, words)?;

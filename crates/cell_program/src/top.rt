@@ -1,10 +1,12 @@
 //! The top call.
 ghost use Rattle.std.specs.Prelude.{◌≡◌, ℕ, List, map, None};
 ghost use Rattle.cell_walks.specs.Clauses.{Ends, disk_told, files_told, observed, sink_told};
-ghost use Rattle.cell_program.specs.Words.{Follow, Run, Task, journal_of, no_command, usage_text, walk_for, walk_of, words_of};
+ghost use Rattle.cell_program.specs.Words.{Begin, Drain, Follow, Run, Task, journal_of, no_command, usage_text, walk_for, walk_of, words_of};
 ghost use Rattle.cell_program.specs.Deciding.{option_and_then, string_bytes, task_of};
-ghost use Rattle.cell_program.specs.Headline.{Headline};
+ghost use Rattle.cell_program.specs.Causes.{Causes};
+ghost use Rattle.cell_program.specs.Headline.{Begun, Drained, Headline};
 ghost use Rattle.cell_program.specs.Promised.{FollowsAll, PromisesAt};
+ghost use Rattle.standby_commands.specs.FollowTold.{FollowTells};
 
 use crate::words::{Command, command_of};
 use carry_commands::{run_begin, run_carry};
@@ -54,14 +56,34 @@ pub fn cell_main<R: Threads + Wait + Sync, F: Files, K: Sink, D: Disk + Send, P:
         let disk = disk_told D.reads_as D.may_leave D.moment D.left_since D.faults disk result.disk in
         PromisesAt (observed files disk) (sink_told K.taken K.was_put K.faults out.old out.new) no_command result.status }
 
+    // No command ends without its cause.
+    ensures causes { (task : Task) → words_of task ≡ map string_bytes words.now →
+        let files = files_told F.holds F.is_sound F.faults files.old files.new in
+        let disk = disk_told D.reads_as D.may_leave D.moment D.left_since D.faults disk result.disk in
+        Causes (observed files disk) (sink_told K.taken K.was_put K.faults out.old out.new) task result.status }
+
     // What that says of `run`, fact by fact.
     ensures headline { (cell shift journal : List ℕ) → words_of (Run cell shift journal) ≡ map string_bytes words.now →
         let files = files_told F.holds F.is_sound F.faults files.old files.new in
         let disk = disk_told D.reads_as D.may_leave D.moment D.left_since D.faults disk result.disk in
         Headline (observed files disk) (sink_told K.taken K.was_put K.faults out.old out.new) cell shift result.status }
 
-    // Frames of one list of grants are all taken, where nothing is refused and nothing outside fails.
+    // The same of `drain`, of `begin` and of `follow`.
+    ensures drained { (cell journal : List ℕ) → words_of (Drain cell journal) ≡ map string_bytes words.now →
+        let files = files_told F.holds F.is_sound F.faults files.old files.new in
+        let disk = disk_told D.reads_as D.may_leave D.moment D.left_since D.faults disk result.disk in
+        Drained (observed files disk) (sink_told K.taken K.was_put K.faults out.old out.new) cell result.status }
+    ensures begun { (cell start journal : List ℕ) → words_of (Begin cell start journal) ≡ map string_bytes words.now →
+        let files = files_told F.holds F.is_sound F.faults files.old files.new in
+        let disk = disk_told D.reads_as D.may_leave D.moment D.left_since D.faults disk result.disk in
+        Begun (observed files disk) (sink_told K.taken K.was_put K.faults out.old out.new) cell start result.status }
     ensures followed { (cell frames journal : List ℕ) → words_of (Follow cell frames journal) ≡ map string_bytes words.now →
+        let files = files_told F.holds F.is_sound F.faults files.old files.new in
+        let disk = disk_told D.reads_as D.may_leave D.moment D.left_since D.faults disk result.disk in
+        FollowTells (observed files disk) (sink_told K.taken K.was_put K.faults out.old out.new) cell frames result.status }
+
+    // Frames of one list of grants are all taken, where nothing is refused and nothing outside fails.
+    ensures goes_through { (cell frames journal : List ℕ) → words_of (Follow cell frames journal) ≡ map string_bytes words.now →
         let files = files_told F.holds F.is_sound F.faults files.old files.new in
         let disk = disk_told D.reads_as D.may_leave D.moment D.left_since D.faults disk result.disk in
         FollowsAll (observed files disk) (sink_told K.taken K.was_put K.faults out.old out.new) cell frames result.status }
