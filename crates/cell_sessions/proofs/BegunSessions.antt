@@ -1,22 +1,20 @@
 -- Sessions that begin one after the other.
-use Rattle.std.proofs.Common.{◌≡◌, inl, inr, ℕ, ◌+◌, ◌<◌, ◌≤◌, List, [], ◌∷◌, ◌++◌, length, Some, slice_get, get_or}
+use Rattle.std.proofs.Common.{◌≡◌, inl, inr, ℕ, ◌+◌, ◌<◌, List, [], ◌∷◌, ◌++◌, length, Some, slice_get, get_or}
 use Rattle.std.proofs.Common.{refl, ap, ◌∙◌, sym, arith}
 use Rattle.std.proofs.lemmas.Bool.{cases_lt}
 use Rattle.std.proofs.Math.ListN.{get_or-append}
 use Rattle.std.proofs.Math.Seq.{get_or-append_seam}
-use Rattle.std.proofs.lemmas.List.{length-take, length_push}
+use Rattle.std.proofs.lemmas.List.{length_push}
 use Rattle.std.proofs.lemmas.Option.{get_or_from_slice_get, slice_get-get_or, slice_get_within}
-use Rattle.cell_base.specs.declared.limits.TheConstants.{MAX_STEPS}
 use Rattle.cell_base.specs.declared.requests.Request.{Request}
 use Rattle.cell_base.specs.declared.shifts.Grant.{Grant}
 use Rattle.cell_base.specs.declared.shifts.Shift.{Shift}
-use Rattle.cell_base.specs.Fits.{steps_of}
-use Rattle.cell_base.specs.Scripts.{HasFirstSteps, first_step, granted_to, script_of}
+use Rattle.cell_base.specs.Scripts.{first_step, script_of}
 use Rattle.cell_base.specs.Scripts.{Progress as Place}
 use Rattle.cell_sessions.specs.declared.progress.Progress.{Progress}
 use Rattle.cell_sessions.specs.Progressing.{start_at}
 use Rattle.cell_sessions.specs.Starting.{AreBegun, IsReached}
-use Rattle.solo_rounds.proofs.Counting.{length-script-le, script_at}
+use Rattle.solo_rounds.proofs.Counting.{script_at}
 
 module _ (shift : Shift) (grants : List Grant) where
   -- the first n sessions have begun
@@ -38,22 +36,6 @@ module _ (shift : Shift) (grants : List Grant) where
 
     step_is : (get_or reached k d).step ≡ first_step shift (k + 1) grants
     step_is = ap (λ (at : Place). at.step) (are.stand k (get_or reached k d) (slice_get-get_or reached k d inside))
-
-    -- the step that is reached is one of the script, or its end
-    step-le : first_step shift (k + 1) grants ≤ length script
-    step-le =
-        let granted = granted_to shift.number (k + 1) grants in
-        let first : HasFirstSteps shift (k + 1) grants =
-        are.started.each (k + 1) (omega arith, omega (arith, slice_get_within shift.scripts k script is)) in
-        omega (
-          arith,
-          ap (λ (rs : List Request). length rs) first,
-          length-take (length granted) (script_of shift (k + 1)),
-          ap (λ (rs : List Request). length rs) script_is,
-        )
-
-    pub step_fits : steps_of shift ≤ MAX_STEPS → (get_or reached k d).step ≤ MAX_STEPS
-    step_fits few = omega (arith, step_is, step-le, length-script-le shift.scripts k script is, few)
 
     -- one session more
     pub one_more : (progress : List Progress) (next : Progress) → next ≡ start_at script (get_or reached k d).step → HaveBegun k progress

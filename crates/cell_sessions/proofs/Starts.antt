@@ -1,10 +1,10 @@
 -- One opening grant more: its session stands a step further, or it is a stray.
 use Rattle.std.proofs.Common.{◌≡◌, ℕ, ◌+◌, ◌<◌, ◌==◌, ◌&&◌, Bool, true, false, List, [], ◌∷◌, ◌++◌, length}
-use Rattle.std.proofs.Common.{Option, None, Some, is_some, take, slice_get, slice_set, get_or, replicate, refl, ap, ◌∙◌, sym, subst}
+use Rattle.std.proofs.Common.{Option, None, Some, is_some, drop, take, slice_get, slice_set, get_or, replicate, refl, ap, ◌∙◌, sym, subst}
 use Rattle.std.proofs.Common.{⊎_elim, arith, length-set, get_or-set_same, get_or-set_other, append-nil, append_assoc}
-use Rattle.std.specs.List.{filter}
+use Rattle.std.specs.List.{filter, refill}
 use Rattle.std.proofs.lemmas.Bool.{and_from, and_left, and_right, cases_eq, cond-true, cond-false, eq-eqb, ne_eqb}
-use Rattle.std.proofs.lemmas.List.{length_push, map-append}
+use Rattle.std.proofs.lemmas.List.{length_push, map-append, take_at}
 use Rattle.std.proofs.lemmas.List.Elements.{All-nil, All-pop, All-push, filter-append}
 use Rattle.std.proofs.lemmas.Option.{get_or_from_slice_get, slice_get-get_or, slice_get_within}
 use Rattle.cell_base.specs.declared.requests.Request.{Request}
@@ -200,11 +200,11 @@ module _ (shift : Shift) (before : List Grant) (grant : Grant) where
 -- ---- along the grants
 
 -- no session has had a grant
-pub reached-none : (shift : Shift) (n : ℕ) (first : Progress) → first ≡ begin_at 0 → IsReached shift [] (replicate n first)
-reached-none shift n first is = record {
+pub reached-none : (shift : Shift) (progress : List Progress) (n : ℕ) → progress ≡ replicate n (begin_at 0) → IsReached shift [] progress
+reached-none shift progress n all = rw all (record {
   started = started-none shift;
-  stand = λ k at there. sym (get_or_from_slice_get (replicate n first) k at first there) ∙ same_everywhere n k first ∙ is;
-}
+  stand = λ k at there. sym (get_or_from_slice_get (replicate n (begin_at 0)) k at (begin_at 0) there) ∙ same_everywhere n k (begin_at 0);
+})
 
 -- a grant after which they are first steps no more, is a stray
 pub is_other_shift : (shift : Shift) (grants : List Grant) (grant : Grant) → AreFirstSteps shift grants
@@ -231,6 +231,12 @@ stays_other_shift shift grants grant session other = record {
   strays = other.strays;
   session_is = other.session_is;
 }
+
+-- a list that is written over as a whole
+pub refilled : (stands written : List Progress) → length written ≡ length stands → refill (length stands) stands written ≡ written
+refilled stands written same =
+    ap (λ (n : ℕ). take n (written ++ drop (length written) stands)) (sym same)
+    ∙ take_at written (drop (length written) stands) (length written) refl
 
 -- without a stray the sessions stand after the grants
 pub led_reached : (shift : Shift) (grants : List Grant) (progress : List Progress) (stray : Option ℕ) → is_some stray ≡ false

@@ -1,31 +1,41 @@
 //! Where the sessions of a shift begin after the grants that a journal has.
+<<<<<<< HEAD
 ghost use Rattle.std.specs.Prelude.{◌≡◌, ◌<◌, ◌≤◌, ◌^◌, List as Sequence, [], length, IfOk, IfErr};
 ghost use Rattle.cell_base.specs.declared.limits.TheConstants.{MAX_SESSIONS, MAX_STEPS};
+=======
+ghost use Rattle.std.specs.Prelude.{◌≡◌, List as Sequence, [], ◌∷◌, ◌++◌, filter, length, IfOk, IfErr, OnOk, ◌==◌};
+>>>>>>> G/main
 ghost use Rattle.cell_base.specs.declared.shifts.Grant.{Grant as OneGrant};
-ghost use Rattle.cell_base.specs.Fits.{steps_of};
 ghost use Rattle.cell_base.specs.Starts.{AreFirstSteps};
 ghost use Rattle.cell_sessions.specs.Progressing.{start_at};
 ghost use Rattle.cell_sessions.specs.Starting.{AreBegun, IsBeginFault, IsReached, first_of_shift};
 
 use crate::fault::BeginFault;
 use crate::progress::Progress;
+<<<<<<< HEAD
 use crate::session_starts::{SESSIONS, SessionStarts};
 use cell_base::{Grant, List, MAX_STEPS, NoMemory, Request, Shift};
+=======
+use crate::session_starts::SessionStarts;
+use cell_base::{Grant, List, NoMemory, Request, Shift};
+>>>>>>> G/main
 use shift_recovery::Taker;
 use solo_rounds::Progress as Stand;
 use std::alloc::Global;
 
 /// Each session begins at the step that its grants reach, with no refusals, and has ended where that is its script's end: session `k` has
 /// element `k - 1`. A grant of the shift's number that is no next step is another shift's, and none begins. Grants of other shifts count
+<<<<<<< HEAD
 /// for nothing.
+=======
+/// for nothing, so it is the same over the grants of the shift's number alone. Any shift may be handed in, also one beyond the limits.
+>>>>>>> G/main
 pub fn begin(alloc: Global, shift: &Shift, opening: &[Grant]) -> Result<List<Progress>, BeginFault>
-    requires sessions { length shift.now.scripts ≤ MAX_SESSIONS }
-    requires steps { steps_of shift.now ≤ MAX_STEPS }
     ensures started { IfOk result (λ progress. AreFirstSteps shift.now opening.now) }
     ensures begun { IfOk result (AreBegun shift.now opening.now) }
     ensures fault { IfErr result (IsBeginFault shift.now opening.now) }
 {
-    let mut starts = SessionStarts::of(shift);
+    let mut starts = SessionStarts::of(alloc, shift)?;
     for grant in opening {
         starts.lead(grant);
     }
@@ -36,35 +46,31 @@ pub fn begin(alloc: Global, shift: &Shift, opening: &[Grant]) -> Result<List<Pro
 }
 
 // Each session at the step that its grants reached.
-fn begin_at(
-    alloc: Global,
-    shift: &Shift,
-    reached: &[Stand; SESSIONS],
-) -> Result<List<Progress>, BeginFault>
-    requires sessions { length shift.now.scripts ≤ MAX_SESSIONS }
-    requires steps { steps_of shift.now ≤ MAX_STEPS }
-    requires reached { (grants : Sequence OneGrant) × IsReached shift.now grants reached.now }
+fn begin_at(alloc: Global, shift: &Shift, reached: &[Stand]) -> Result<List<Progress>, BeginFault>
+    requires sessions { length reached.now ≡ length shift.now.scripts }
     ensures begun { (grants : Sequence OneGrant) → IsReached shift.now grants reached.now → IfOk result (AreBegun shift.now grants) }
     ensures fault { IfErr result (λ fault. fault ≡ BeginFault.Memory) }
 {
     let mut progress = List::new(alloc);
     for k in 0..shift.scripts.len() {
-        let script = shift.scripts.get(k);
-        progress.try_push(start_at(script, reached[k as usize].step()))?;
+        // Beyond: a script and grants of more than a hundred gigabytes, which is want of memory.
+        let Ok(next) = u32::try_from(reached[k as usize].step()) else {
+            return Err(BeginFault::Memory);
+        };
+        progress.try_push(start_at(shift.scripts.get(k), next))?;
     }
     Ok(progress)
 }
 
 // A session at a step of its script.
-fn start_at(script: &List<Request>, step: u64) -> Progress
-    requires { step < 2 ^ 32 }
-    ensures { result ≡ start_at script.now step }
+fn start_at(script: &List<Request>, next: u32) -> Progress
+    ensures { result ≡ start_at script.now next }
 {
     Progress {
-        next: step as u32,
+        next,
         refused: 0,
         asked: 0,
-        ended: step == script.len(),
+        ended: u64::from(next) == script.len(),
     }
 }
 

@@ -1,51 +1,56 @@
+<<<<<<< HEAD
 //! How grants lead the sessions of a shift on, one after the other.
 ghost use Rattle.std.specs.Prelude.{◌≡◌, ◌<◌, ◌≤◌, ◌↔◌, IsTrue, List as Sequence, [], ◌∷◌, ◌++◌, length, slice_get, IfOk, IfErr};
+=======
+//! Where the sessions of a shift begin after the grants that a journal has.
+ghost use Rattle.std.specs.Prelude.{◌≡◌, ◌<◌, ◌↔◌, IsTrue, List as Sequence, [], ◌∷◌, ◌++◌, length, slice_get, IfOk, IfErr};
+>>>>>>> G/main
 ghost use Rattle.std.specs.Bool.{OnTrue, OnFalse};
-ghost use Rattle.cell_base.specs.declared.limits.TheConstants.{MAX_SESSIONS};
 ghost use Rattle.cell_base.specs.declared.shifts.Grant.{Grant as OneGrant};
 ghost use Rattle.cell_base.specs.Starts.{AreFirstSteps};
 ghost use Rattle.cell_sessions.specs.Starting.{HasLed, IsBeginFault, IsLed, IsReached};
 
 use crate::fault::BeginFault;
-use cell_base::{Grant, List, MAX_SESSIONS, Request, Shift};
+use cell_base::{Grant, List, NoMemory, Request, Shift};
 use solo_rounds::Progress as Stand;
+use std::alloc::Global;
 use std::marker::Model;
-
-pub(crate) const SESSIONS: usize = MAX_SESSIONS as usize;
 
 /// The sessions of a shift, each at the step that its grants reach among those that were taken; or the session of the first grant with
 /// the shift's number that is no next step. The grants of other shifts count for nothing. Contracts see it as a `StartState`.
 #[derive(Drop)]
 pub(crate) struct SessionStarts<'a> {
     shift: &'a Shift,
-    reached: [Stand; SESSIONS],
+    reached: List<Stand>,
     stray: Option<u16>,
 }
 
 impl<'a> Model for SessionStarts<'a> {
-    ghost use Rattle.std.specs.Prelude.{◌≤◌, length};
-    ghost use Rattle.cell_base.specs.declared.limits.TheConstants.{MAX_SESSIONS};
+    ghost use Rattle.std.specs.Prelude.{◌≡◌, length};
     ghost use Rattle.cell_sessions.specs.Starting.{StartState};
 
     ghost Value = { StartState };
 
     ghost view = { λ s. record { shift = s.shift.now; reached = s.reached; stray = s.stray } };
 
-    ghost invariant = { λ s. length s.shift.now.scripts ≤ MAX_SESSIONS };
+    ghost invariant = { λ s. length s.reached ≡ length s.shift.now.scripts };
 }
 
 impl<'a> SessionStarts<'a> {
     /// No session has had a grant yet.
-    pub(crate) fn of(shift: &'a Shift) -> SessionStarts<'a>
-        requires sessions { length shift.now.scripts ≤ MAX_SESSIONS }
-        ensures shift { result.shift ≡ shift.now }
-        ensures none { HasLed [] result }
+    pub(crate) fn of(alloc: Global, shift: &'a Shift) -> Result<SessionStarts<'a>, NoMemory>
+        ensures shift { IfOk result (λ starts. starts.shift ≡ shift.now) }
+        ensures none { IfOk result (HasLed []) }
     {
-        SessionStarts {
-            shift,
-            reached: [Stand::begin_at(0); SESSIONS],
-            stray: None,
+        let mut reached = List::new(alloc);
+        for _ in 0..shift.scripts.len() {
+            reached.try_push(Stand::begin_at(0))?;
         }
+        Ok(SessionStarts {
+            shift,
+            reached,
+            stray: None,
+        })
     }
 
     /// One grant more. After a stray no grant leads on.
@@ -54,26 +59,32 @@ impl<'a> SessionStarts<'a> {
         ensures led { (grants : Sequence OneGrant) → HasLed grants self.old → HasLed (grants ++ grant.now ∷ []) self.new }
     {
         if self.stray.is_none() {
-            self.stray = stray_of(self.shift, grant, &mut self.reached);
+            self.stray = stray_of(self.shift, grant, self.reached.as_mut_slice());
         }
     }
 
     /// The step that the grants of session `k + 1` reach; or the session of the first grant that was no next step.
+<<<<<<< HEAD
     pub(crate) fn reached(&self) -> Result<&[Stand; SESSIONS], BeginFault>
         ensures reached { (grants : Sequence OneGrant) → HasLed grants self.now
             → IfOk result (λ stands. IsReached self.now.shift grants stands.now) }
+=======
+    pub(crate) fn reached(&self) -> Result<&[Stand], BeginFault>
+        ensures count { IfOk result (λ stands. length stands.now ≡ length self.now.shift.scripts) }
+        ensures reached { (grants : Sequence OneGrant) → HasLed grants self.now → IfOk result (λ stands. IsReached self.now.shift grants stands.now) }
+>>>>>>> G/main
         ensures fault { (grants : Sequence OneGrant) → HasLed grants self.now → IfErr result (IsBeginFault self.now.shift grants) }
     {
         match self.stray {
-            None => Ok(&self.reached),
+            None => Ok(self.reached.as_slice()),
             Some(session) => Err(BeginFault::OtherShift { session }),
         }
     }
 }
 
 // A grant leads its session on, is another shift's, or is a stray of the session that is given.
-fn stray_of(shift: &Shift, grant: &Grant, reached: &mut [Stand; SESSIONS]) -> Option<u16>
-    requires sessions { length shift.now.scripts ≤ MAX_SESSIONS }
+fn stray_of(shift: &Shift, grant: &Grant, reached: &mut [Stand]) -> Option<u16>
+    requires sessions { length reached.old ≡ length shift.now.scripts }
     ensures { (grants : Sequence OneGrant) → IsReached shift.now grants reached.old
         → IsLed shift.now (grants ++ grant.now ∷ []) reached.new result }
 {
@@ -84,8 +95,8 @@ fn stray_of(shift: &Shift, grant: &Grant, reached: &mut [Stand; SESSIONS]) -> Op
 }
 
 // A grant of this shift leads its session to the next step, or it is a stray. Gives whether it leads it on.
-fn lead_on(shift: &Shift, grant: &Grant, reached: &mut [Stand; SESSIONS]) -> bool
-    requires sessions { length shift.now.scripts ≤ MAX_SESSIONS }
+fn lead_on(shift: &Shift, grant: &Grant, reached: &mut [Stand]) -> bool
+    requires sessions { length reached.old ≡ length shift.now.scripts }
     requires own { grant.now.shift ≡ shift.now.number }
     ensures led { (grants : Sequence OneGrant) → IsReached shift.now grants reached.old
         → OnTrue result (IsReached shift.now (grants ++ grant.now ∷ []) reached.new) }

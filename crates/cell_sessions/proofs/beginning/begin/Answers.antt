@@ -1,6 +1,6 @@
 -- The grants led the sessions to where they begin, or one of them is a stray.
 use Rattle.std.specs.Prelude.{IfOk}
-use Rattle.std.proofs.Common.{ℕ, ◌≤◌, List, length, take, Result, Ok, Err, sym, ◌∙◌, subst}
+use Rattle.std.proofs.Common.{ℕ, ◌≤◌, List, length, take, Result, Ok, Err, sym, ap, ◌∙◌, subst}
 use Rattle.std.proofs.lemmas.List.{take_all, take_more}
 use Rattle.cell_base.specs.declared.shifts.Grant.{Grant}
 use Rattle.cell_base.specs.declared.shifts.Shift.{Shift}
@@ -20,6 +20,7 @@ led_all : (opening : List Grant) (starts : StartState) (i : ℕ) → HasLed (tak
     → HasLed opening starts
 led_all opening starts i led all = subst (λ (grants : List Grant). HasLed grants starts) (take_all i opening all) led
 
+<<<<<<< HEAD
 pub begin_at-requires-clause-reached : goal.begin_at-requires-clause-reached
 begin_at-requires-clause-reached c = (
   c.args.opening.now,
@@ -27,6 +28,12 @@ begin_at-requires-clause-reached c = (
       (c.in-Ok.ensures.reached c.args.opening.now
       (led_all c.args.opening.now c.loop-grant.starts c.loop-grant.grant-index c.loop-grant.invariant.led c.loop-grant-test.false)),
 )
+=======
+pub begin_at-requires : goal.begin_at-requires
+begin_at-requires c = record {
+  sessions = c.in-Ok.ensures.count ∙ ap (λ (shift : Shift). length shift.scripts) c.loop-grant.invariant.shift;
+}
+>>>>>>> G/main
 
 where_ok : {X E : Type 0} (P : Type 0) (result : Result X E) → P → IfOk result (λ _. P)
 where_ok P (Ok value) is = is
@@ -45,8 +52,8 @@ returns-in-Ok-clause-begun c = c.begin_at.ensures.begun c.args.opening.now
     (c.in-Ok.ensures.reached c.args.opening.now
     (led_all c.args.opening.now c.loop-grant.starts c.loop-grant.grant-index c.loop-grant.invariant.led c.loop-grant-test.false)))
 
-pub returns-in-Err-clause-fault : goal.returns-in-Err-clause-fault
-returns-in-Err-clause-fault c =
+pub returns-clause-fault : goal.returns-clause-fault
+returns-clause-fault c =
     subst (λ (shift : Shift). IsBeginFault shift c.args.opening.now c.in-Err.stray) c.loop-grant.invariant.shift
     (c.in-Err.ensures.fault c.args.opening.now
     (led_all c.args.opening.now c.loop-grant.starts c.loop-grant.grant-index c.loop-grant.invariant.led c.loop-grant-test.false))
