@@ -1,10 +1,6 @@
 //! Where the sessions of a shift begin after the grants that a journal has.
-<<<<<<< HEAD
-ghost use Rattle.std.specs.Prelude.{◌≡◌, ◌<◌, ◌≤◌, ◌^◌, List as Sequence, [], length, IfOk, IfErr};
-ghost use Rattle.cell_base.specs.declared.limits.TheConstants.{MAX_SESSIONS, MAX_STEPS};
-=======
-ghost use Rattle.std.specs.Prelude.{◌≡◌, List as Sequence, [], ◌∷◌, ◌++◌, filter, length, IfOk, IfErr, OnOk, ◌==◌};
->>>>>>> G/main
+ghost use Rattle.std.specs.Prelude.{◌≡◌, List as Sequence, [], length, IfOk, IfErr};
+ghost use Rattle.cell_base.specs.declared.limits.TheConstants.{MAX_STEPS};
 ghost use Rattle.cell_base.specs.declared.shifts.Grant.{Grant as OneGrant};
 ghost use Rattle.cell_base.specs.Starts.{AreFirstSteps};
 ghost use Rattle.cell_sessions.specs.Progressing.{start_at};
@@ -12,24 +8,15 @@ ghost use Rattle.cell_sessions.specs.Starting.{AreBegun, IsBeginFault, IsReached
 
 use crate::fault::BeginFault;
 use crate::progress::Progress;
-<<<<<<< HEAD
-use crate::session_starts::{SESSIONS, SessionStarts};
-use cell_base::{Grant, List, MAX_STEPS, NoMemory, Request, Shift};
-=======
 use crate::session_starts::SessionStarts;
-use cell_base::{Grant, List, NoMemory, Request, Shift};
->>>>>>> G/main
+use cell_base::{Grant, List, MAX_STEPS, NoMemory, Request, Shift};
 use shift_recovery::Taker;
 use solo_rounds::Progress as Stand;
 use std::alloc::Global;
 
 /// Each session begins at the step that its grants reach, with no refusals, and has ended where that is its script's end: session `k` has
 /// element `k - 1`. A grant of the shift's number that is no next step is another shift's, and none begins. Grants of other shifts count
-<<<<<<< HEAD
-/// for nothing.
-=======
-/// for nothing, so it is the same over the grants of the shift's number alone. Any shift may be handed in, also one beyond the limits.
->>>>>>> G/main
+/// for nothing. Any shift may be handed in, also one beyond the limits.
 pub fn begin(alloc: Global, shift: &Shift, opening: &[Grant]) -> Result<List<Progress>, BeginFault>
     ensures started { IfOk result (λ progress. AreFirstSteps shift.now opening.now) }
     ensures begun { IfOk result (AreBegun shift.now opening.now) }

@@ -1,10 +1,5 @@
-<<<<<<< HEAD
 //! How grants lead the sessions of a shift on, one after the other.
-ghost use Rattle.std.specs.Prelude.{◌≡◌, ◌<◌, ◌≤◌, ◌↔◌, IsTrue, List as Sequence, [], ◌∷◌, ◌++◌, length, slice_get, IfOk, IfErr};
-=======
-//! Where the sessions of a shift begin after the grants that a journal has.
 ghost use Rattle.std.specs.Prelude.{◌≡◌, ◌<◌, ◌↔◌, IsTrue, List as Sequence, [], ◌∷◌, ◌++◌, length, slice_get, IfOk, IfErr};
->>>>>>> G/main
 ghost use Rattle.std.specs.Bool.{OnTrue, OnFalse};
 ghost use Rattle.cell_base.specs.declared.shifts.Grant.{Grant as OneGrant};
 ghost use Rattle.cell_base.specs.Starts.{AreFirstSteps};
@@ -64,15 +59,10 @@ impl<'a> SessionStarts<'a> {
     }
 
     /// The step that the grants of session `k + 1` reach; or the session of the first grant that was no next step.
-<<<<<<< HEAD
-    pub(crate) fn reached(&self) -> Result<&[Stand; SESSIONS], BeginFault>
-        ensures reached { (grants : Sequence OneGrant) → HasLed grants self.now
-            → IfOk result (λ stands. IsReached self.now.shift grants stands.now) }
-=======
     pub(crate) fn reached(&self) -> Result<&[Stand], BeginFault>
         ensures count { IfOk result (λ stands. length stands.now ≡ length self.now.shift.scripts) }
-        ensures reached { (grants : Sequence OneGrant) → HasLed grants self.now → IfOk result (λ stands. IsReached self.now.shift grants stands.now) }
->>>>>>> G/main
+        ensures reached { (grants : Sequence OneGrant) → HasLed grants self.now
+            → IfOk result (λ stands. IsReached self.now.shift grants stands.now) }
         ensures fault { (grants : Sequence OneGrant) → HasLed grants self.now → IfErr result (IsBeginFault self.now.shift grants) }
     {
         match self.stray {

@@ -20,20 +20,10 @@ led_all : (opening : List Grant) (starts : StartState) (i : ℕ) → HasLed (tak
     → HasLed opening starts
 led_all opening starts i led all = subst (λ (grants : List Grant). HasLed grants starts) (take_all i opening all) led
 
-<<<<<<< HEAD
-pub begin_at-requires-clause-reached : goal.begin_at-requires-clause-reached
-begin_at-requires-clause-reached c = (
-  c.args.opening.now,
-  subst (λ (shift : Shift). IsReached shift c.args.opening.now c.in-Ok.reached.now) c.loop-grant.invariant.shift
-      (c.in-Ok.ensures.reached c.args.opening.now
-      (led_all c.args.opening.now c.loop-grant.starts c.loop-grant.grant-index c.loop-grant.invariant.led c.loop-grant-test.false)),
-)
-=======
 pub begin_at-requires : goal.begin_at-requires
 begin_at-requires c = record {
   sessions = c.in-Ok.ensures.count ∙ ap (λ (shift : Shift). length shift.scripts) c.loop-grant.invariant.shift;
 }
->>>>>>> G/main
 
 where_ok : {X E : Type 0} (P : Type 0) (result : Result X E) → P → IfOk result (λ _. P)
 where_ok P (Ok value) is = is

@@ -12,19 +12,11 @@ loop-k-init c grants are = subst (λ (progress : List Progress). HaveBegun c.arg
 
 pub loop-k-preserved : goal.loop-k-preserved
 loop-k-preserved c grants are =
-<<<<<<< HEAD
-    let inside : c.loop-k.k < length c.args.reached.now =
-    omega (arith, c.type_inv.reached, c.loop-k-test.true, c.len-k-end.ensures, c.requires.sessions) in
-    let more = one_more c.args.shift.now grants c.args.reached.now are c.loop-k.k c.get-script.result.now c.get-script.ensures
-    c.index-reached-k.result inside c.loop-k.progress c.start_at.result (c.start_at.ensures ∙ ap (λ (step : ℕ).
-    start_at c.get-script.result.now step) c.step.ensures) (c.loop-k.invariant grants are) in
-=======
     let inside : c.loop-k.k < length c.args.reached.now = omega (arith, c.loop-k-test.true, c.len-k-end.ensures, c.requires.sessions) in
     let step = c.in-Ok.ensures.1 ∙ c.step.ensures ∙ ap (λ (at : Place). at.step) c.index-reached-k.is in
     let more = one_more c.args.shift.now grants c.args.reached.now are c.loop-k.k c.get.result.now c.get.ensures
     c.index-reached-k.result inside c.loop-k.progress c.start_at.result
     (c.start_at.ensures ∙ ap (λ (n : ℕ). start_at c.get.result.now n) step) (c.loop-k.invariant grants are) in
->>>>>>> G/main
     subst (λ (progress : List Progress). HaveBegun c.args.shift.now grants (c.loop-k.k + 1) progress) (sym c.in_ok-try_push.ensures.ok) more
 
 pub returns-clause-begun : goal.returns-clause-begun
