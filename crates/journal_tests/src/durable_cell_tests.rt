@@ -1,8 +1,9 @@
 //! What no clause says: that memory is had, and that a durable cell may go to another thread. The cell has one machine.
-use cell_base::{JobId, List, Refusal, Reply, Request, ResId, TypeId, cell_fits, request_fits};
+use cell_base::{
+    Grant, JobId, List, Refusal, Reply, Request, ResId, TypeId, cell_fits, request_fits,
+};
 use durable_cell::{AskFault, Durable, Opening};
 use outside_io::{CallKind, Disk, DiskCall, MemDisk};
-use shift_recovery::Unkept;
 use small_cells::cell_of_one;
 use std::alloc::Global;
 use std::test::Fail;
@@ -44,6 +45,15 @@ const A_FAILED_WRITE: [(Request, Answer); 3] = [
     (UNLOAD, Err(AskFault::Halted { at: 1 })),
 ];
 
+/// A request that a run asks and is granted.
+fn granted(request: Request) -> Grant {
+    Grant {
+        shift: 1,
+        session: 2,
+        request,
+    }
+}
+
 fn may_be_sent<T: Send>(value: T) -> T {
     value
 }
@@ -58,8 +68,8 @@ fn opened(alloc: Global, disk: MemDisk) -> Result<Durable<MemDisk>, Fail> {
     if !cell_fits(&cell) {
         return Err(Fail::from("the cell fits"));
     }
-    match Durable::open(alloc, cell, b"cell", disk, 8, 5, Unkept) {
-        Opening::Open { durable, .. } => Ok(durable),
+    match Durable::open(alloc, cell, b"cell", disk, 8, 5) {
+        Opening::Open(durable) => Ok(durable),
         Opening::Refused { .. } => Err(Fail::from("no journal of this cell")),
         Opening::Device { .. } => Err(Fail::from("the device failed")),
         Opening::Memory { .. } => Err(Fail::from("no memory")),
@@ -124,5 +134,17 @@ fn a_failed_write_halts(rt: HostRuntime) -> Result<(), Fail> {
         found: 1,
     };
     assert_eq!(rt; outcome, expected);
+    Ok(())
+}
+
+#[test]
+fn an_opening_has_the_grants_in_their_order(rt: HostRuntime) -> Result<(), Fail> {
+    let alloc = rt.alloc();
+    let mut durable = opened(alloc, MemDisk::new(alloc, b"", List::new(alloc))?)?;
+    let as_listed = answers_as_listed(&mut durable, &A_WHOLE_JOB);
+    assert!(rt; as_listed && durable.opening().is_empty());
+    let again = opened(alloc, durable.finish().disk)?;
+    let expected = [granted(LOAD), granted(PROCESS), granted(UNLOAD)];
+    assert_eq!(rt; again.opening(), expected.as_slice());
     Ok(())
 }
