@@ -1,5 +1,7 @@
 //! What no clause says: that memory is had, and that a durable cell may go to another thread. The cell has one machine.
-use cell_base::{JobId, List, Refusal, Reply, Request, ResId, TypeId, cell_fits, request_fits};
+use cell_base::{
+    Grant, JobId, List, Refusal, Reply, Request, ResId, TypeId, cell_fits, request_fits,
+};
 use durable_cell::{AskFault, Durable, Opening};
 use outside_io::{CallKind, Disk, DiskCall, MemDisk};
 use small_cells::cell_of_one;
@@ -42,6 +44,15 @@ const A_FAILED_WRITE: [(Request, Answer); 3] = [
     (PROCESS, Err(AskFault::Device { at: 1 })),
     (UNLOAD, Err(AskFault::Halted { at: 1 })),
 ];
+
+/// A request that a run asks and is granted.
+fn granted(request: Request) -> Grant {
+    Grant {
+        shift: 1,
+        session: 2,
+        request,
+    }
+}
 
 fn may_be_sent<T: Send>(value: T) -> T {
     value
@@ -123,5 +134,17 @@ fn a_failed_write_halts(rt: HostRuntime) -> Result<(), Fail> {
         found: 1,
     };
     assert_eq!(rt; outcome, expected);
+    Ok(())
+}
+
+#[test]
+fn an_opening_has_the_grants_in_their_order(rt: HostRuntime) -> Result<(), Fail> {
+    let alloc = rt.alloc();
+    let mut durable = opened(alloc, MemDisk::new(alloc, b"", List::new(alloc))?)?;
+    let as_listed = answers_as_listed(&mut durable, &A_WHOLE_JOB);
+    assert!(rt; as_listed && durable.opening().is_empty());
+    let again = opened(alloc, durable.finish().disk)?;
+    let expected = [granted(LOAD), granted(PROCESS), granted(UNLOAD)];
+    assert_eq!(rt; again.opening(), expected.as_slice());
     Ok(())
 }

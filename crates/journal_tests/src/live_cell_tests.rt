@@ -4,8 +4,9 @@ ghost use Rattle.std.specs.Prelude.{◌≡◌, false, IfOk};
 use cell_base::{
     Grant, JobId, List, Refusal, Reply, Request, ResId, TypeId, cell_fits, request_fits,
 };
-use live_cell::{JournalFull, LiveCell, LiveOpening, LiveParts};
+use live_cell::{JournalFull, LiveCell, LiveParts, OpenedLive};
 use outside_io::{CallKind, Disk, DiskCall, MemDisk};
+use shift_recovery::{OpenError, OpenFault};
 use small_cells::cell_of_one;
 use std::alloc::Global;
 use std::test::Fail;
@@ -50,8 +51,13 @@ fn opened(
         return Err(Fail::from("the cell fits"));
     }
     match LiveCell::open(alloc, cell, b"cell", disk, room, 4, List::new(alloc)) {
-        LiveOpening::Open { live, kept } => Ok(Ok((live, kept))),
-        LiveOpening::Device { disk } => Ok(Err(disk)),
+        Ok(OpenedLive { live, kept }) => Ok(Ok((live, kept))),
+        Err(
+            OpenError {
+                disk,
+                why: OpenFault::Device,
+            },
+        ) => Ok(Err(disk)),
         _ => Err(Fail::from("not opened")),
     }
 }
