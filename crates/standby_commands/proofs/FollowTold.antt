@@ -125,7 +125,7 @@ module _ (seen : Observed) (cell frames : List ℕ) (outcome : Outcome) (now : I
     told = so seen.disk from.held.cell from.held.text from.list from.opening from.told;
   }
 
-  follow_told : IsAnswered seen (follow cell frames) outcome → IsFollowFrom IsFollowTold seen cell frames outcome
+  pub follow_told : IsAnswered seen (follow cell frames) outcome → IsFollowFrom IsFollowTold seen cell frames outcome
   follow_told (held, cell_read, (list, frames_read, (opening, opened, (had, hads, (follows, left))))) = record {
     held = held;
     cell_read = cell_read;
