@@ -31,6 +31,8 @@ pub record Causes (seen : Observed) (sink : SinkTold) (task : Task) (number : �
   pub journal : number ≡ 6 → IsRefusedFor seen sink (walk_of task) Journal
   -- Status 10 comes only where what was read stands for something that can't be done, or a frame of `follow` is refused.
   pub command : number ≡ 10 → IsRefusedFor seen sink (walk_of task) Command ⊎ IsFollow task
+  -- Status 7 comes only where the disk's count of faults rose.
+  pub device : number ≡ 7 → Rose seen.disk.faults seen.disk.faults_after
   -- Status 8 comes exactly where the sink failed.
   pub sink_failed : number ≡ 8 → Rose sink.faults sink.faults_after
   pub sink_served : number ≢ 8 → sink.faults_after ≡ sink.faults

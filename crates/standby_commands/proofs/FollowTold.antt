@@ -110,7 +110,8 @@ module _ (disk : DiskTold) (cell : Cell) (text : List ℕ) (frames : List (List 
 -- what is answered is one of the three
 module _ (seen : Observed) (cell frames : List ℕ) (outcome : Outcome) (now : IfSome seen.disk.reads seen.disk.leaves) where
   -- the cell and the frames that were read, and the grants of the journal
-  told_of : (Told : DiskTold → Cell → List ℕ → List (List ℕ) → List Grant → Outcome → Type 0) → IsFollowFrom IsFollowTold seen cell frames outcome
+  told_of : (Told : DiskTold → Cell → List ℕ → List (List ℕ) → List Grant → Outcome → Type 0)
+      → IsFollowFrom IsFollowTold seen cell frames outcome
       → ((disk : DiskTold) (is : Cell) (text : List ℕ) (list : List (List ℕ)) (opening : List Grant)
       → IsFollowTold disk is text list opening outcome → Told disk is text list opening outcome)
       → IsFollowFrom Told seen cell frames outcome
@@ -125,7 +126,7 @@ module _ (seen : Observed) (cell frames : List ℕ) (outcome : Outcome) (now : I
     told = so seen.disk from.held.cell from.held.text from.list from.opening from.told;
   }
 
-  follow_told : IsAnswered seen (follow cell frames) outcome → IsFollowFrom IsFollowTold seen cell frames outcome
+  pub follow_told : IsAnswered seen (follow cell frames) outcome → IsFollowFrom IsFollowTold seen cell frames outcome
   follow_told (held, cell_read, (list, frames_read, (opening, opened, (had, hads, (follows, left))))) = record {
     held = held;
     cell_read = cell_read;
@@ -173,7 +174,8 @@ never_refused seen cell frames refusal (inr (held, shows, inl (fault, line, read
     let both = ap (λ (r : Refusal). r.subject) is ∙ of_command in absurd (cc)
 never_refused seen cell frames refusal (inr (held, shows, inr (list, read, inl (why, because, is)))) of_command =
     let both = ap (λ (r : Refusal). r.subject) is ∙ of_command in absurd (cc)
-never_refused seen cell frames refusal (inr (held, shows, inr (list, read, inr (opening, opened, inl (none, line, at, told, is))))) of_command = none
+never_refused seen cell frames refusal (inr (held, shows, inr (list, read, inr (opening, opened, inl (none, line, at, told, is))))) of_command =
+    none
 never_refused seen cell frames refusal (inr (held, shows, inr (list, read, inr (opening, opened, inr (had, hads, none))))) of_command =
     none
 

@@ -55,7 +55,7 @@ returns-clause-followed g c cell frames journal so =
 
 pub returns-clause-causes : goal.returns-clause-causes
 returns-clause-causes g c task so =
-    causes _ _ task c.run_command-status.result.status
+    causes _ _ task c.run_command-status.result.status c.reads_an_image.ensures
     (command_promises _ _ c.run_command-status.result.status _ c.reads_an_image.ensures c.run_command-status.ensures.ends task so)
     _ c.number.ensures
 
