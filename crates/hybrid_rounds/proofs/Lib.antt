@@ -1,4 +1,5 @@
 -- Lemmas, grouped by subject.
+pub mod OneHistory
 pub mod Taking
 pub mod Asking
 pub mod Turning

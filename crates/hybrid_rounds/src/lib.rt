@@ -2,7 +2,8 @@
 //!
 //! In each round every session that has not ended asks its present step once, in the order of their numbers, as sessions ask a core. A
 //! grant brings a session to its next step; a refusal, and so a block too, counts towards its patience. The history is the one of the
-//! definition `IsHybridRoundRobin`. No memory is taken: the caller brings a shelf with room for all asks.
+//! definition `IsHybridRoundRobin`; `laws` says that there is no other. No memory is taken: the caller brings a shelf with room for
+//! all asks.
 //!
 //! ```text
 //! let mut history = Shelf::with_room(alloc, MAX_ASKS)?;
@@ -11,6 +12,7 @@
 #![tactic(auto)]
 
 mod entries;
+pub mod laws;
 mod rounds;
 
 pub use entries::{HybridEntry, taken, taken_reply};
