@@ -1,5 +1,5 @@
 //! The lock.
-ghost use Rattle.std.specs.Prelude.{◌≡◌, ℕ, ◌≤◌, [], length, IfOk, IfErr, All};
+ghost use Rattle.std.specs.Prelude.{◌≡◌, ◌↔◌, ℕ, ◌≤◌, None, [], length, IfOk, IfErr, All};
 ghost use mathlib.Core.List.{IsPrefix};
 ghost use Rattle.cell_lock.specs.Clauses.{HasSince, IsLegal, KeepsDisk, RequestFits, after, entries_of, grants, plan_step, unsure_grant};
 ghost use Rattle.cell_lock.specs.Openings.{Outside, WhereTold, first_parts, opening_of};
@@ -130,6 +130,7 @@ impl<D: Disk, G: Recall> SharedCell<D, G> {
         ensures own { entries_of pass.new.number pass.new.seen ≡ pass.new.mine }
         ensures step { result ≡ plan_step self.now.opening.cell
             (after self.now.opening.cell (first_parts self.now.opening) pass.new.seen) }
+        ensures none { (result ≡ None) ↔ (after self.now.opening.cell (first_parts self.now.opening) pass.new.seen ≡ []) }
     {
         let top = &self.table.shared;
         take_turn(rt, top, &mut pass.seat);

@@ -1,5 +1,5 @@
 //! The steps on the table, at the seat of a pass.
-ghost use Rattle.std.specs.Prelude.{◌≡◌, ◌∷◌, [], length};
+ghost use Rattle.std.specs.Prelude.{◌≡◌, ◌↔◌, None, ◌∷◌, [], length};
 ghost use Rattle.cell_lock.specs.Clauses.{Answers, HasSince, KeepsDisk, MovesSafely, RequestFits, after, entries_of, grants, plan_step};
 ghost use Rattle.cell_lock.specs.Openings.{Fits, first_parts};
 ghost use Rattle.cell_lock.specs.Views.{IsResting, IsActing, IsHolding, IsSafe, MayFind, held_of, seen_of, moment_of, earlier_of, mine_of};
@@ -138,6 +138,8 @@ pub(crate) fn plan_held<D: Disk, G: Recall>(
     ensures step { result ≡ plan_step seat.old.me.0.opening.cell
         (after seat.old.me.0.opening.cell (first_parts seat.old.me.0.opening)
         (held_of top.now.key.durable.value seat.old.me).history) }
+    ensures none { (result ≡ None) ↔ (after seat.old.me.0.opening.cell (first_parts seat.old.me.0.opening)
+        (held_of top.now.key.durable.value seat.old.me).history ≡ []) }
     ensures keeps { KeepsDisk D.reads_as D.may_leave D.moment D.left_since D.faults (held_of top.now.key.durable.value seat.old.me) }
 {
     let durable = seat.slot_mut(top, 0);
