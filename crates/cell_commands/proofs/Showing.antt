@@ -1,18 +1,18 @@
--- How the outcomes of `show` come about.
-use Rattle.std.proofs.Common.{◌≡◌, ℕ, zero, suc, ◌+◌, ◌-◌, ◌<◌, Option, List, [], ◌++◌, length, map, get_or}
-use Rattle.std.proofs.Common.{Ok, ap, arith, refl, sym, subst, ◌∙◌, append_assoc, append-nil}
-use Rattle.std.specs.List.{flat_map, range_with_len}
-use Rattle.std.proofs.lemmas.List.{get_or_default}
+-- How the outcomes of `show` come about, and how a text is printed line by line.
+use Rattle.std.proofs.Common.{◌≡◌, ℕ, ◌-◌, Option, List, [], ◌∷◌, ◌++◌, length, take}
+use Rattle.std.proofs.Common.{Ok, ap, ap₂, arith, refl, sym, subst, ◌∙◌, append_assoc}
+use Rattle.std.specs.List.{All, concat, join_with_byte}
+use Rattle.std.specs.Io.KnownBytes.{Appends}
+use Rattle.std.proofs.Math.Seq.{take-append_seam}
+use Rattle.std.proofs.lemmas.List.{length-append, map-id}
+use Rattle.std.proofs.lemmas.List.Elements.{All-head, All-tail}
+use Rattle.std.proofs.lemmas.List.Splits.{slice_split_at, length-slice_split, join_with_byte-slice_split}
 use Rattle.outside_io.specs.Puts.{SinkTold, TookAll, TookSome, sink_told}
-use Rattle.outside_io.specs.PutLaws.{failed_after, failed_before, took_more}
+use Rattle.outside_io.specs.PutLaws.{failed_at, took_one}
+use Rattle.outside_io.specs.Sink.{AppendsPrefix}
 use Rattle.cell_base.specs.declared.cells.Cell.{Cell}
-use Rattle.cell_base.specs.Fits.{CellFits}
-use Rattle.cell_base.specs.Neighborhoods.{masks_of, neighborhood}
-use Rattle.policy_laws.proofs.Growing.{join_next}
-use Rattle.route_table.specs.declared.stage_table.StageNo.{StageNo}
-use Rattle.upstream_sets.specs.Members.{AreNeighborhoodsOf, stage_no}
-use Rattle.refusal_reason.specs.Shown.{show_lines, stage_lines}
-use Rattle.refusal_reason.proofs.Texts.{members_lines}
+use Rattle.record_text.specs.BadLines.{is_newline, pieces}
+use Rattle.refusal_reason.specs.Shown.{IsLine, show_lines}
 use Rattle.cell_walks.specs.Allowed.{IsAllowed, IsEndedAt, Passed, Unasked}
 use Rattle.cell_walks.specs.DiskTold.{no_disk}
 use Rattle.cell_walks.specs.Observed.{FilesTold, ShowsFile, observed}
@@ -20,7 +20,8 @@ use Rattle.cell_walks.specs.Outcomes.{done, early}
 use Rattle.cell_walks.specs.declared.early_end.EarlyEnd.{EarlyEnd}
 use Rattle.cell_walks.proofs.Steps.{ended_at, none_done}
 use Rattle.cell_texts.specs.Tests.{KnownCell, cell_file, cell_reads}
-use Rattle.cell_commands.specs.Show.{member_line, show, shown}
+use Rattle.cell_texts.proofs.Delivered.{Underway, begins, breaks_off, ends, goes_on}
+use Rattle.cell_commands.specs.Show.{show, shown}
 
 module _ (files : FilesTold) (cell : List ℕ) where
   -- the cell was not read
@@ -32,59 +33,110 @@ module _ (files : FilesTold) (cell : List ℕ) where
       → IsAllowed (observed files no_disk) (show cell) (done (show_lines on))
   show_done held on shows is = Passed held shows (ap (λ (c : Cell). done (show_lines c)) is, none_done)
 
--- ---- lines in groups
+-- ---- a text of lines
+
+-- its first piece is the words of the first line, and the others are those of the rest
+first_piece : (line : List ℕ) (lines : List (List ℕ)) (is : IsLine line) → pieces (concat (line ∷ lines)) ≡ is.words ∷ pieces (concat lines)
+first_piece line lines is =
+    ap (λ (l : List ℕ). pieces (l ++ concat lines)) is.ended ∙ ap pieces (append_assoc is.words (10 ∷ []) (concat lines))
+    ∙ slice_split_at is_newline is.words 10 (concat lines) is.one refl
+
+-- where it has but one piece, it has no line
+no_more : (lines : List (List ℕ)) → All IsLine lines → (words : List ℕ) → pieces (concat lines) ≡ words ∷ [] → lines ≡ []
+no_more [] each words cut = refl
+no_more (line ∷ lines) each words cut =
+    absurd (omega (
+      arith,
+      ap length (sym cut ∙ first_piece line lines (All-head IsLine line lines each)),
+      length-slice_split is_newline (concat lines),
+    ))
+
+pieces_behind : List (List ℕ) → List (List ℕ)
+pieces_behind [] = []
+pieces_behind (piece ∷ pieces) = pieces
+
+-- the first line stands before what the first newline is cut off, and the text of the others behind
+record Next (lines : List (List ℕ)) (text later : List ℕ) : Type 0 where
+  line : List ℕ
+  others : List (List ℕ)
+  parted : lines ≡ line ∷ others
+  each : All IsLine others
+  cut : take (length text - length later) text ≡ line
+  left : later ≡ concat others
+
+next : (lines : List (List ℕ)) → All IsLine lines → (text : List ℕ) → text ≡ concat lines → (words later : List ℕ)
+    → pieces text ≡ words ∷ pieces later → Next lines text later
+unfolding pieces_behind
+next [] each text is words later cut =
+    let one : length (pieces []) ≡ 1 = refl in
+    absurd (omega (arith, one, ap length (sym cut ∙ ap pieces is), length-slice_split is_newline later))
+next (line ∷ lines) each text is words later cut =
+    let left : later ≡ concat lines =
+    sym (join_with_byte-slice_split 10 later)
+    ∙ ap (λ (ps : List (List ℕ)). join_with_byte 10 (pieces_behind ps))
+    (sym cut ∙ ap pieces is ∙ first_piece line lines (All-head IsLine line lines each))
+    ∙ join_with_byte-slice_split 10 (concat lines) in
+    let same : length (line ++ concat lines) - length (concat lines) ≡ length line = omega (arith, length-append line (concat lines)) in
+    record {
+      line = line;
+      others = lines;
+      parted = refl;
+      each = All-tail IsLine line lines each;
+      cut = ap₂ (λ (t l : List ℕ). take (length t - length l) t) is left
+          ∙ ap (λ (n : ℕ). take n (line ++ concat lines)) same ∙ take-append_seam line (concat lines);
+      left = left;
+    }
+
+-- some of these lines were taken, and a text is that of the others
+pub record Printing (told : SinkTold) (every : List (List ℕ)) (text : List ℕ) : Type 0 where
+  pub ahead : List (List ℕ)
+  pub each : All IsLine ahead
+  pub is : text ≡ concat ahead
+  pub printed : Underway told (λ line. line) every ahead
 
 module _ {K : Type 0} (taken : K → Option (List ℕ)) (was_put : K → List ℕ → K → Type 0) (faults : K → ℕ)
-    (group : ℕ → List (List ℕ)) where
+    (every : List (List ℕ)) (a : K) where
   abbrev told : K → K → SinkTold
   told = sink_told taken was_put faults
 
-  -- the lines of the first groups
-  abbrev pub groups : ℕ → List (List ℕ)
-  groups n = flat_map group (range_with_len 0 n)
+  -- no line is taken yet
+  pub printing_begins : (text : List ℕ) → All IsLine every → text ≡ concat every → Printing (told a a) every text
+  printing_begins text each is =
+      record { ahead = every; each = each; is = is; printed = begins taken was_put faults (λ line. line) every a }
 
-  -- those of more groups go on with the others
-  rest_of : (n more : ℕ) → (rest : List (List ℕ)) × (groups (n + more) ≡ groups n ++ rest)
-  rest_of n zero =
-      let is : n + 0 ≡ n = omega arith in ([], ap (λ (k : ℕ). groups k) is ∙ sym (append-nil (groups n)))
-  rest_of n (suc m) =
-      let is : n + suc m ≡ n + m + 1 = omega arith in
-      let before = rest_of n m in (
-        before.0 ++ group (n + m),
-        ap (λ (k : ℕ). groups k) is ∙ join_next group (n + m) ∙ ap (λ (lines : List (List ℕ)). lines ++ group (n + m)) before.1
-            ∙ append_assoc (groups n) before.0 (group (n + m)),
-      )
+  module _ (b : K) (text : List ℕ) (so_far : Printing (told a b) every text) (words : List ℕ) where
+    -- every line is
+    pub printing_ends : pieces text ≡ words ∷ [] → TookAll (told a b) every
+    printing_ends cut =
+        subst (TookAll (told a b)) (map-id every)
+        (ends taken was_put faults (λ line. line) every a b
+        (subst (Underway (told a b) (λ line. line) every)
+        (no_more so_far.ahead so_far.each words (ap pieces (sym so_far.is) ∙ cut)) so_far.printed))
 
-  module _ (a b c : K) (i : ℕ) (whole : TookAll (told a b) (groups i)) where
-    -- one more is taken
-    pub group_taken : TookAll (told b c) (group i) → TookAll (told a c) (groups (i + 1))
-    group_taken more =
-        subst (TookAll (told a c)) (sym (join_next group i)) (took_more taken was_put faults a b c (groups i) (group i) whole more)
+    module _ (later : List ℕ) (cut : pieces text ≡ words ∷ pieces later) (c : K)
+        (put : was_put b (take (length text - length later) text) c) where
+      abbrev piece : List ℕ
+      piece = take (length text - length later) text
 
-    -- or the sink fails in it
-    pub group_failed : (n : ℕ) → i < n → TookSome (told b c) (group i) → TookSome (told a c) (groups n)
-    group_failed n within part =
-        let is : i + 1 + (n - (i + 1)) ≡ n = omega (arith, within) in
-        let rest = rest_of (i + 1) (n - (i + 1)) in
-        subst (λ (k : ℕ). TookSome (told a c) (groups k)) is
-        (subst (TookSome (told a c)) (sym (rest.1 ∙ ap (λ (lines : List (List ℕ)). lines ++ rest.0) (join_next group i)))
-        (failed_before taken was_put faults a c (groups i ++ group i) rest.0
-        (failed_after taken was_put faults a b c (groups i) (group i) whole part)))
+      first : Next so_far.ahead text later
+      first = next so_far.ahead so_far.each text so_far.is words later cut
 
--- ---- a neighborhood
+      before : Underway (told a b) (λ line. line) every (first.line ∷ first.others)
+      before = subst (Underway (told a b) (λ line. line) every) first.parted so_far.printed
 
-module _ (table : Cell) (fits : CellFits table) (lists : List (List StageNo)) (are : AreNeighborhoodsOf (masks_of table) lists)
-    (r : ℕ) (within : r < length table.resources) where
-  -- there is a list for each resource of the cell
-  pub list_there : r < length lists
-  list_there = omega (arith, within, fits.resource_count.1, are.complete)
+      -- one more is taken
+      pub printing_goes_on : Appends (taken b) (taken c) piece → Printing (told a c) every later
+      printing_goes_on whole = record {
+        ahead = first.others;
+        each = first.each;
+        is = first.left;
+        printed = goes_on taken was_put faults (λ line. line) every a b c first.line first.others piece first.cut before
+            (took_one taken was_put faults b c piece put whole);
+      }
 
-  -- it has the members by their numbers
-  pub list_is : (default : List StageNo) → get_or lists r default ≡ map (stage_no table) (neighborhood table r)
-  list_is default =
-      get_or_default lists r default [] list_there ∙ are.each r (omega (arith, list_there, are.complete)) table fits refl
-
-  -- so the lines of what is read of it are those of the neighborhood
-  pub lines_are : (stages default : List StageNo) → stages ≡ get_or lists r default
-      → map (member_line table) stages ≡ stage_lines table (neighborhood table r)
-  lines_are stages default is = ap (map (member_line table)) (is ∙ list_is default) ∙ members_lines table r
+      -- one is not
+      pub printing_breaks_off : AppendsPrefix (taken b) (taken c) piece → TookSome (told a c) every
+      printing_breaks_off part =
+          subst (TookSome (told a c)) (map-id every)
+          (breaks_off taken was_put faults (λ line. line) every a b c first.line first.others piece first.cut before
+          (failed_at taken was_put faults b c piece put part))

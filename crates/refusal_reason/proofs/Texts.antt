@@ -32,7 +32,7 @@ module _ (cell : Cell) (r : ℕ) where
   members_standing = All-filter (λ s. leads cell s r) (IsStage cell) (stages cell) (stages_standing cell)
 
   -- the members by their numbers
-  pub members_numbered : All (λ (stage : StageNo). IsNumber cell stage.0) (map (stage_no cell) (neighborhood cell r))
+  members_numbered : All (λ (stage : StageNo). IsNumber cell stage.0) (map (stage_no cell) (neighborhood cell r))
   members_numbered =
       All-map (λ (stage : StageNo). IsNumber cell stage.0) (stage_no cell) (neighborhood cell r)
       (All-weaker (IsStage cell) (λ s. IsNumber cell (number_of cell s)) (numbering_law cell).numbers

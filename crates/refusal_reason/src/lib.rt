@@ -17,4 +17,4 @@ mod reasons;
 mod shown;
 
 pub use reasons::explain;
-pub use shown::{resource_line, show_text, write_stage};
+pub use shown::show_text;

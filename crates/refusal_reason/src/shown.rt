@@ -48,8 +48,8 @@ fn add_resource_lines(
     Ok(())
 }
 
-/// The line of a resource.
-pub fn resource_line(cell: &Cell, r: ResId) -> Line
+// The line of a resource.
+fn resource_line(cell: &Cell, r: ResId) -> Line
     requires { r.0 < length cell.now.resources }
     ensures { result ≡ resource_line cell.now r.0 }
 {
@@ -62,8 +62,8 @@ pub fn resource_line(cell: &Cell, r: ResId) -> Line
     line.end()
 }
 
-/// The line of a stage, in the place of what stood on a line.
-pub fn write_stage(line: &mut Line, table: &StageTable, stage: StageNo)
+// The line of a stage, in the place of what stood on a line.
+fn write_stage(line: &mut Line, table: &StageTable, stage: StageNo)
     requires { IsNumber table.now stage.0 }
     ensures { line.new ≡ stage_line table.now (stage_numbered table.now stage.0) }
 {
