@@ -19,7 +19,7 @@ use Rattle.cell_texts.specs.Tests.{KnownCell, cell_reads}
 use Rattle.journal_texts.specs.Tests.{to_add}
 use Rattle.journal_texts.specs.AskedSteps.{drained, drained_to, step_grant}
 use Rattle.carry_commands.specs.Begin.{requests_left}
-use Rattle.start_file.specs.StartFiles.{start_reads}
+use Rattle.record_text.specs.StartFiles.{start_reads}
 use Rattle.carry_commands.specs.Starts.{ArePrefix, granted_start, start_grants}
 
 -- the file stands for a prefix of the start
