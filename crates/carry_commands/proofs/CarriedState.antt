@@ -21,7 +21,8 @@ use Rattle.cell_base.specs.Stages.{capacity_of, stage, stage_of}
 use Rattle.cell_base.proofs.Admission.{not_loaded_from_others, others_from_not_loaded}
 use Rattle.policy_laws.proofs.Granting.{entry-granted}
 use Rattle.policy_laws.proofs.Parts.{distinct_after, others_after}
-use Rattle.carry_commands.specs.Carried.{carried, carried_after, carried_part, is_alike, of_job, placed, placed_as, type_alike, unless_refused}
+use Rattle.carry_commands.specs.Carried.{carried, carried_after, carried_part, is_alike, of_job, placed, placed_as, type_alike}
+use Rattle.carry_commands.specs.Carried.{unless_refused}
 use Rattle.carry_commands.specs.CarriedState.{AreSameParts, IsHindrance, IsSamePart, IsSaturation}
 use Rattle.carry_commands.specs.declared.refusals.CarryFault.{CarryFault}
 use Rattle.carry_commands.specs.declared.refusals.Uncarried.{Uncarried}
@@ -71,7 +72,8 @@ module _ (old new : Cell) (standing : List Part) (part : Part) where
     where
       by_reply : (kind : ℕ) → type_alike old new part.kind ≡ Some kind
           → is_alike old new (stage_of part) (stage kind part.place) ≡ true
-          → (reply : Reply) → reply_to new standing (placed new part kind) ≡ reply → unless_refused reply (placed new part kind) ≡ Ok request
+          → (reply : Reply) → reply_to new standing (placed new part kind) ≡ reply
+          → unless_refused reply (placed new part kind) ≡ Ok request
           → IsPlaced request
       by_reply kind found alike Granted granted is =
           let same : placed new part kind ≡ request = cc in

@@ -46,9 +46,11 @@ ends_after disk journal new after is (Err end) ended =
 
 -- a part can't be carried, as its line says
 pub refused_at : (old shown new : Cell) (parts : List Part) → HaveDistinctJobs parts → (fault : CarryFault) (end : EarlyEnd)
-    → carried old new parts ≡ Err fault → end ≡ end_with Command (Some (carry_refused shown fault)) → shown ≡ new → EndsAtCarry old new parts end
+    → carried old new parts ≡ Err fault → end ≡ end_with Command (Some (carry_refused shown fault)) → shown ≡ new
+    → EndsAtCarry old new parts end
 refused_at old shown new parts distinct fault end is ends same =
-    CarryRefused fault is (held_back old new parts distinct fault is) (ends ∙ ap (λ (cell : Cell). end_with Command (Some (carry_refused cell fault))) same)
+    CarryRefused fault is (held_back old new parts distinct fault is)
+    (ends ∙ ap (λ (cell : Cell). end_with Command (Some (carry_refused cell fault))) same)
 
 -- ---- the text
 

@@ -89,7 +89,8 @@ module _ (cell : Cell) (fits : CellFits cell) where
   count_first : (part : Part) (parts : List Part) (r : ℕ) → count cell (part ∷ parts) r ≡ share cell r (stage_of part) + count cell parts r
   count_first part parts r = at (leads cell (stage_of part) r)
     where
-      at : (counts : Bool) → length (cond counts (part ∷ counted cell parts r) (counted cell parts r)) ≡ cond counts 1 0 + count cell parts r
+      at : (counts : Bool)
+          → length (cond counts (part ∷ counted cell parts r) (counted cell parts r)) ≡ cond counts 1 0 + count cell parts r
       at true = omega arith
       at false = omega arith
 
@@ -130,4 +131,5 @@ module _ (cell : Cell) (fits : CellFits cell) where
   -- the same cell takes all parts of an admitted state
   pub same_cell : (parts : List Part) → IsAdmitted cell parts → (requests : List Request) × (carried cell cell parts ≡ Ok requests)
   same_cell parts admitted =
-      all_again [] parts (λ k d below. refl) admitted.state.distinct admitted.state.standing (λ r within. omega (arith, admitted.within r within))
+      all_again [] parts (λ k d below. refl) admitted.state.distinct admitted.state.standing
+      (λ r within. omega (arith, admitted.within r within))

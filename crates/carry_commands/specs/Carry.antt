@@ -20,7 +20,7 @@ use Rattle.carry_commands.specs.Refusals.{carry_refused}
 use Rattle.carry_commands.specs.Starts.{IsTakenOnBlank}
 use Rattle.carry_commands.specs.declared.refusals.CarryFault.{CarryFault}
 
--- the requests that place each part in the other cell; or the first part that can't be placed, for want of its type, of its place, or of room
+-- the requests that place each part in the other cell; or the first part that can't be placed, for want of its type, its place, or room
 abbrev pub carry_reads : Cell → Cell → List Part → List ℕ → Result (List Request) CarryFault → Type 0
 carry_reads old new parts bytes result = (carried old new parts ≡ result) × IfErr result (λ fault. IsHindrance fault.why)
 
@@ -40,8 +40,8 @@ carries old new parts = record {
   line = λ fault. Some (carry_refused new fault);
 }
 
--- The line of each request is printed, and the text is a start that `begin` of the second cell takes whole. The state that it leads to has the
--- same parts in the same order.
+-- The line of each request is printed, and the text is a start that `begin` of the second cell takes whole. The state that it leads to has
+-- the same parts in the same order.
 pub record IsCarried (old new : Cell) (parts : List Part) (requests : List Request) (outcome : Outcome) : Type 0 where
   pub is : outcome ≡ done (map (place_line new) requests)
   pub taken : IsTakenOnBlank new (concat outcome.pieces) requests
