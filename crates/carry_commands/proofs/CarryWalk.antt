@@ -9,6 +9,7 @@ use Rattle.cell_base.specs.declared.requests.Request.{Request}
 use Rattle.cell_base.specs.declared.shifts.Grant.{Grant}
 use Rattle.cell_base.specs.Fits.{CellFits}
 use Rattle.cell_base.specs.Histories.{replay}
+use Rattle.cell_base.specs.Policy.{HaveDistinctJobs}
 use Rattle.record_text.specs.StartFiles.{IsStartOf, place_line, start_text}
 use Rattle.record_text.proofs.StartLengths.{is_start}
 use Rattle.cell_walks.specs.Allowed.{AllowsFrom, ByMemory, ByRefusal, IsAllowed, IsEndedAt}
@@ -33,6 +34,7 @@ use Rattle.carry_commands.specs.Carrying.{HasCarriedAfter, NotCarried, Unopened,
 use Rattle.carry_commands.specs.Refusals.{carry_refused}
 use Rattle.carry_commands.specs.declared.carrying.Carried.{Carried}
 use Rattle.carry_commands.proofs.CarriedParts.{granted_carried}
+use Rattle.carry_commands.proofs.CarriedState.{held_back, same_parts}
 
 -- where the parts after the grants of a journal are not carried, the command ends there
 pub ends_after : (disk : DiskTold) (journal : Journal) (new : Cell) (after : AfterGrants) → IsAfterGrants disk journal after
@@ -43,10 +45,12 @@ ends_after disk journal new after is (Err end) ended =
     NotCarried is.grants is.opened (subst (λ (core : CoreState). EndsAtCarry core.cell new core.parts end) is.core ended)
 
 -- a part can't be carried, as its line says
-pub refused_at : (old shown new : Cell) (parts : List Part) (fault : CarryFault) (end : EarlyEnd) → carried old new parts ≡ Err fault
-    → end ≡ end_with Command (Some (carry_refused shown fault)) → shown ≡ new → EndsAtCarry old new parts end
-refused_at old shown new parts fault end is ends same =
-    CarryRefused fault is (ends ∙ ap (λ (cell : Cell). end_with Command (Some (carry_refused cell fault))) same)
+pub refused_at : (old shown new : Cell) (parts : List Part) → HaveDistinctJobs parts → (fault : CarryFault) (end : EarlyEnd)
+    → carried old new parts ≡ Err fault → end ≡ end_with Command (Some (carry_refused shown fault)) → shown ≡ new
+    → EndsAtCarry old new parts end
+refused_at old shown new parts distinct fault end is ends same =
+    CarryRefused fault is (held_back old new parts distinct fault is)
+    (ends ∙ ap (λ (cell : Cell). end_with Command (Some (carry_refused cell fault))) same)
 
 -- ---- the text
 
@@ -55,7 +59,7 @@ lines_text cell [] = refl
 lines_text cell (request ∷ requests) = ap (λ (text : List ℕ). place_line cell request ++ text) (lines_text cell requests)
 
 is_carried : (old : CoreState) (new : Cell) → CellFits new → (made : Carried) → HasCarried old new made
-    → IsCarried new made.requests (carry_outcome (Ok made))
+    → IsCarried old.cell new old.parts made.requests (carry_outcome (Ok made))
 is_carried old new fits made has =
     let lines : carry_outcome (Ok made) ≡ done (map (place_line new) made.requests) =
     ap (λ (cell : Cell). done (map (place_line cell) made.requests)) has.cell in
@@ -69,8 +73,8 @@ is_carried old new fits made has =
               (is_start new fits made.requests has.carried.placing has.carried.few),
         );
         granted = granted_carried old.cell new [] 1 old.parts made.requests has.carried.is;
-        first = refl;
       };
+      reached = same_parts old.cell new old.parts made.requests has.carried.is;
     }
 
 -- ---- the walk
@@ -78,7 +82,7 @@ is_carried old new fits made has =
 module _ (seen : Observed) (held new : KnownCell) where
   at_carry : (grants : List Grant) (end : EarlyEnd) → EndsAtCarry held.cell new.cell (replay held.cell grants) end
       → IsEndedAt seen.files (carries held.cell new.cell (replay held.cell grants)) end
-  at_carry grants end (CarryRefused fault is ends) = ByRefusal fault is (carry_refused new.cell fault) refl ends
+  at_carry grants end (CarryRefused fault is hindered ends) = ByRefusal fault (is, hindered) (carry_refused new.cell fault) refl ends
   at_carry grants end (CarryStarved is) = ByMemory is
 
   from_journal : CellFits new.cell → IsOnlyRead seen.disk → (made : Result Carried EarlyEnd)
@@ -86,7 +90,7 @@ module _ (seen : Observed) (held new : KnownCell) where
       → AllowsFrom seen (carry_outcome made) Unasked (Opens (to_read held) (carried_over held new))
   from_journal fits only (Ok made) has ended =
       let old : CoreState = record { cell = held.cell; parts = replay held.cell has.grants } in
-      JournalOpened has.grants has.opened (Passed made.requests has.has.carried.is (is_carried old new.cell fits made has.has, only))
+      JournalOpened has.grants has.opened (Passed made.requests (has.has.carried.is, tt) (is_carried old new.cell fits made has.has, only))
   from_journal fits only (Err end) has (Unopened unopened) = NotOpened end unopened refl
   from_journal fits only (Err end) has (NotCarried grants opened ends) =
       JournalOpened grants opened (Stopped end (at_carry grants end ends) (refl, only))

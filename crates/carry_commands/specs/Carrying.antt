@@ -16,6 +16,7 @@ use Rattle.cell_walks.specs.Walks.{Journal, refusal_of}
 use Rattle.cell_walks.specs.declared.early_end.EarlyEnd.{EarlyEnd}
 use Rattle.cell_walks.specs.declared.early_end.EarlyEnd.TheVariants.{WantOfMemory, Refused}
 use Rattle.carry_commands.specs.Carried.{carried}
+use Rattle.carry_commands.specs.CarriedState.{IsHindrance}
 use Rattle.carry_commands.specs.Carry.{carries}
 use Rattle.carry_commands.specs.Refusals.{carry_refused}
 use Rattle.carry_commands.specs.declared.carrying.Carried.{Carried}
@@ -34,7 +35,7 @@ pub record HasCarried (old : CoreState) (new : Cell) (made : Carried) : Type 0 w
 
 -- an end at the parts: one of them can't be carried, or memory is wanting
 pub data EndsAtCarry (old new : Cell) (parts : List Part) (end : EarlyEnd) : Type 0 where
-  CarryRefused : (fault : CarryFault) → carried old new parts ≡ Err fault
+  CarryRefused : (fault : CarryFault) → carried old new parts ≡ Err fault → IsHindrance fault.why
       → end ≡ Refused (refusal_of (carries old new parts) (carry_refused new fault)) → EndsAtCarry old new parts end
   CarryStarved : end ≡ WantOfMemory → EndsAtCarry old new parts end
 

@@ -3,6 +3,7 @@ pub mod BeginClauses
 pub mod BeginTold
 pub mod Beginning
 pub mod Carried
+pub mod CarriedState
 pub mod Carry
 pub mod CarryClauses
 pub mod Carrying

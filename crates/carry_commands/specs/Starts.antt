@@ -147,9 +147,8 @@ begun requests opening = record {
 
 -- ---- a start that is taken whole
 
--- No test of `begin` refuses these bytes as a start, where the journal is blank: they are read as these requests, each is granted in its
--- turn, and none is held yet.
+-- No test of `begin` refuses these bytes as a start, where the journal is blank: they are read as these requests, and each is granted in
+-- its turn. A blank journal has no grant that could be another start's.
 pub record IsTakenOnBlank (cell : Cell) (bytes : List ℕ) (requests : List Request) : Type 0 where
   pub read : start_reads cell bytes (Ok requests)
   pub granted : granted_start cell requests ≡ Ok tt
-  pub first : ArePrefix requests []

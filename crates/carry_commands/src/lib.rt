@@ -12,6 +12,7 @@ mod begin;
 mod carry;
 mod carrying;
 mod compared;
+pub mod laws;
 mod placing;
 mod refusals;
 mod starts;
