@@ -38,6 +38,7 @@ use Rattle.standby_link.specs.Frames.{frame_in, framed}
 use Rattle.standby_link.proofs.Fed.{fed_law}
 use Rattle.standby_commands.specs.Follow.{Followed, EndsFollowing, HaltedAt, IsFollowed, IsHaltedAt, IsRefusedAt, RefusedAt, follow}
 use Rattle.standby_commands.specs.FollowTold.{AreOfOneList, Completes, FollowTells, IsFollowFrom, IsFollowTold, IsFollowedWhole}
+use Rattle.standby_commands.proofs.FollowRoom.{room_told}
 use Rattle.standby_commands.specs.FollowTold.{IsHaltedFollow, IsRefusedFollow, ToldHalted, ToldRefused, ToldWhole}
 
 -- ---- the facts
@@ -124,6 +125,7 @@ module _ (seen : Observed) (cell frames : List ℕ) (outcome : Outcome) (now : I
     opened = from.opened;
     stood = from.stood;
     told = so seen.disk from.held.cell from.held.text from.list from.opening from.told;
+    room = from.room;
   }
 
   pub follow_told : IsAnswered seen (follow cell frames) outcome → IsFollowFrom IsFollowTold seen cell frames outcome
@@ -136,6 +138,7 @@ module _ (seen : Observed) (cell frames : List ℕ) (outcome : Outcome) (now : I
     opened = opened;
     stood = λ grants was. sym (found_same seen.disk now held.text grants was held.cell MAX_ROOM opening opened.1);
     told = tells seen.disk held.cell held.text list opening outcome left follows;
+    room = room_told seen.files frames held.cell list opening outcome frames_read follows;
   }
 
   -- a status of it is that of one of them

@@ -3,6 +3,7 @@ pub mod FedFrames
 pub mod FeedWalk
 pub mod Fitting
 pub mod FollowPrinting
+pub mod FollowRoom
 pub mod FollowTold
 pub mod FollowWalk
 pub mod FollowedFrames

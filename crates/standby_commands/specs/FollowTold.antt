@@ -1,5 +1,5 @@
 -- What a `follow` tells, each fact by itself; what its exit status tells; and where it goes through.
-use Rattle.std.specs.Prelude.{◌≡◌, ◌≢◌, ◌⊎◌, ℕ, List, [], ◌∷◌, ◌++◌, Ok}
+use Rattle.std.specs.Prelude.{◌≡◌, ◌≢◌, ◌⊎◌, ℕ, ◌≤◌, List, [], ◌∷◌, ◌++◌, length, Ok, IfSome}
 use Rattle.std.specs.List.{All}
 use mathlib.Core.List.{IsPrefix}
 use Rattle.outside_io.specs.Causes.{Rose}
@@ -69,6 +69,9 @@ pub record IsFollowFrom (Told : DiskTold → Cell → List ℕ → List (List �
   pub opened : IsOpenedAs seen.disk (to_add held MAX_ROOM) opening
   pub stood : (grants : List Grant) → StoodFor seen.disk held.text grants → grants ≡ opening
   pub told : Told seen.disk held.cell held.text list opening outcome
+  -- where the files tell their bytes, what is added to a journal that can be read leaves one that can be read
+  pub room : IfSome seen.files.names (λ names.
+      length opening ≤ MAX_ROOM → length (opening ++ outcome.added ++ outcome.unsure) ≤ MAX_ROOM)
 
 -- What the exit status of `follow` tells, whatever the outside did.
 pub record FollowTells (seen : Observed) (sink : SinkTold) (cell_name frames_name : List ℕ) (status : ℕ) : Type 0 where

@@ -1,8 +1,9 @@
 //! Frames that a follower takes in turn.
-ghost use Rattle.std.specs.Prelude.{◌≡◌, ◌≤◌, [], length, take, drop};
+ghost use Rattle.std.specs.Prelude.{◌≡◌, ◌≤◌, [], length};
 ghost use Rattle.standby_commands.specs.Following.{IsFreshFollower, HasTaken};
 ghost use Rattle.standby_commands.specs.FrameFiles.{frames_in};
 
+use crate::frames::first_frame;
 use cell_base::Shelf;
 use outside_io::Disk;
 use standby_link::{Follower, TakeFault, index_in};
@@ -38,16 +39,4 @@ pub fn take_frames<D: Disk>(
         rest = more;
     }
     None
-}
-
-// The first frame of some bytes, and those after it.
-fn first_frame(bytes: &[u8]) -> ([u8; 24], &[u8])
-    requires { 24 ≤ length bytes.now }
-    ensures frame { result.0 ≡ take 24 bytes.now }
-    ensures rest { result.1.now ≡ drop 24 bytes.now }
-{
-    let (first, rest) = bytes.split_at(24);
-    let mut frame = [0; 24];
-    frame.copy_from_slice(first);
-    (frame, rest)
 }

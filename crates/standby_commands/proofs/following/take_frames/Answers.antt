@@ -4,14 +4,9 @@ use Rattle.std.proofs.Common.{◌∙◌, sym, ap, subst, arith, append_assoc, ap
 use Rattle.durable_cell.specs.Asked.{halted_at}
 use Rattle.standby_commands.specs.Following.{HasFollowed}
 use Rattle.standby_commands.specs.FrameFiles.{frames_in}
-use Rattle.standby_commands.proofs.FrameCuts.{cut_more, cut_none}
+use Rattle.standby_commands.proofs.FrameCuts.{cut_none, next_frames}
 use Rattle.standby_commands.proofs.TakenFrames.{Underway, begins, goes_on, stopped}
 use Rattle.standby_commands.proofs.following.take_frames.Goals as goal
-
--- the frames of the rest are the first one, and those after it
-next_frames : (rest frame more : List ℕ) → 24 ≤ length rest → frame ≡ take 24 rest → more ≡ drop 24 rest
-    → frames_in rest ≡ frame ∷ frames_in more
-next_frames rest frame more enough frame_is more_is = cut_more rest enough ∙ (λ i. sym frame_is i ∷ frames_in (sym more_is i))
 
 pub loop-rest-init : goal.loop-rest-init
 loop-rest-init g c = record {

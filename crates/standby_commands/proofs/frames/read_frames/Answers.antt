@@ -1,7 +1,8 @@
 -- The frames that were read are those of the file, up to the cut of the file.
-use Rattle.std.proofs.Common.{arith}
+use Rattle.std.proofs.Common.{ℕ, List, ap, sym, ◌∙◌, arith}
 use Rattle.cell_walks.specs.Observed.{FilesTold, files_told}
-use Rattle.standby_commands.proofs.FrameCuts.{frames_read, not_whole_read, too_long_read}
+use Rattle.standby_commands.specs.FrameFiles.{frames_in, have_room}
+use Rattle.standby_commands.proofs.FrameCuts.{frames_read, no_room_read, not_whole_read, too_long_read}
 use Rattle.standby_commands.proofs.frames.read_frames.Goals.{then-len-gt-MAX_FRAMES_BYTES-via-then-len-gt-MAX_FRAMES_BYTES}
 use Rattle.standby_commands.proofs.frames.read_frames.Goals.{then-len-gt-MAX_FRAMES_BYTES-via-else-len-gt-MAX_FRAMES_BYTES+then-len-ne0}
 use Rattle.standby_commands.proofs.frames.read_frames.Goals as goal
@@ -17,9 +18,15 @@ returns-then-len-gt-MAX_FRAMES_BYTES-clause-ended g c =
           not_whole_read files name read c.in-Ok.ensures.bytes (λ whole. w.if-len-ne0.true (omega (arith, whole, c.len-len.ensures)))
     ])
 
+pub returns-then-not-have_room-clause-ended : goal.returns-then-not-have_room-clause-ended
+returns-then-not-have_room-clause-ended g c =
+    let files : FilesTold = files_told g.F.Files.holds g.F.Files.is_sound g.F.Files.faults c.args.files.now c.read_file.new.self in
+    rw c.frames_refused-then-not-have_room.ensures (no_room_read files c.args.name.now c.read_file.new.out.items c.in-Ok.ensures.bytes
+    (ap (λ (bytes : List ℕ). have_room (frames_in bytes)) (sym c.deref.ensures.value) ∙ sym c.have_room.ensures ∙ c.if-not-have_room.true))
+
 pub returns-clause-read : goal.returns-clause-read
 returns-clause-read g c =
     let files : FilesTold = files_told g.F.Files.holds g.F.Files.is_sound g.F.Files.faults c.args.files.now c.read_file.new.self in
     let read = c.read_file.new.out.items in
     frames_read files c.args.name.now read c.in-Ok.ensures.bytes (omega (arith, c.if-len-gt-MAX_FRAMES_BYTES.false, c.len-len.ensures))
-    (omega (arith, c.if-len-ne0.false, c.len-len.ensures))
+    (omega (arith, c.if-len-ne0.false, c.len-len.ensures)) (ap (λ (bytes : List ℕ). have_room (frames_in bytes)) (sym c.deref.ensures.value) ∙ sym c.have_room.ensures ∙ c.if-not-have_room.false)
