@@ -1,8 +1,8 @@
 -- The waiters of the jobs at a place, counted.
-use Rattle.std.proofs.Common.{◌≡◌, ◌≢◌, ℕ, zero, suc, ◌+◌, ◌-◌, ◌%◌, ◌<◌, ◌≤◌, ◌==◌, Bool, true, false, not, cond, Option, Some, None, List, [], ◌∷◌, length, length-set, get_or, slice_set, refl, sym, subst, ap, ◌∙◌, arith, ⊎_elim, All}
+use Rattle.std.proofs.Common.{◌≡◌, ℕ, zero, suc, ◌+◌, ◌-◌, ◌%◌, ◌<◌, ◌≤◌, ◌==◌, true, false, cond, Option, Some, None, List, [], ◌∷◌, length, length-set, get_or, slice_set, refl, sym, subst, ap, ◌∙◌, arith, All}
 use Rattle.std.specs.List.{filter, remove, slice_index}
 use Rattle.std.specs.Option.{option_map_or}
-use Rattle.std.proofs.lemmas.Bool.{cases_eq, eq-eqb, ne_eqb}
+use Rattle.std.proofs.lemmas.Bool.{eq-eqb, ne_eqb}
 use Rattle.std.proofs.lemmas.List.Elements.{All-cons, All-nil}
 use Rattle.std.proofs.lemmas.Nat.{mod_below}
 use Rattle.cell_base.specs.declared.requests.JobId.{JobId}

@@ -1,5 +1,5 @@
 -- The first waiter that is ready, found by looking at each in turn.
-use Rattle.std.proofs.Common.{◌≡◌, ◌≢◌, ℕ, zero, suc, ◌+◌, ◌*◌, ◌^◌, ◌%◌, bit_or, ◌<◌, ◌≤◌, Bool, true, false, cond, nat_lt, Some, None, Option, List, [], ◌∷◌, length, get_or, set, refl, sym, subst, ap, ◌∙◌, arith, ⊎_elim, All, find, ◌++◌, length-set, get_or-set_same, get_or-set_other}
+use Rattle.std.proofs.Common.{◌≡◌, ℕ, zero, suc, ◌*◌, ◌^◌, ◌%◌, bit_or, ◌<◌, Bool, true, false, cond, nat_lt, Some, None, Option, List, [], ◌∷◌, length, get_or, set, refl, sym, subst, ap, ◌∙◌, arith, ⊎_elim, All, find, ◌++◌, get_or-set_same, get_or-set_other}
 use Rattle.std.specs.Prelude.{position}
 use Rattle.std.specs.List.{remove, position_or_len}
 use Rattle.std.proofs.lemmas.Option.{slice_get_past}

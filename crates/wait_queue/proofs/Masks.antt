@@ -1,7 +1,7 @@
 -- Masks together, and one within another.
-use Rattle.std.proofs.Common.{◌≡◌, ℕ, ◌+◌, ◌<◌, ◌≤◌, ◌^◌, cond, Bool, true, false, ◌&&◌, not, bit_and, bit_or, refl, sym, subst, ap, ◌∙◌, arith, ⊎_elim, w64}
+use Rattle.std.proofs.Common.{◌≡◌, ℕ, ◌<◌, ◌^◌, cond, true, false, bit_and, bit_or, refl, ap, ◌∙◌, arith, w64}
 use Rattle.std.specs.Int.{bit_at, bit_not}
-use Rattle.std.proofs.lemmas.Bool.{both_ways, cases_eq}
+use Rattle.std.proofs.lemmas.Bool.{both_ways}
 use Rattle.std.proofs.lemmas.Nat.Bits.{bit_at_not}
 use Rattle.cell_base.specs.Masks.{has_bit}
 use Rattle.cell_base.proofs.Bits.{bit_at-number, has_bit-of_one, has_bit-and, has_bit-or, has_bit-zero}

@@ -1,5 +1,5 @@
 -- What a granted request leaves to those that wait.
-use Rattle.std.proofs.Common.{◌≡◌, ℕ, ◌<◌, Some, None, Option, Bool, true, false, ◌||◌, List, ◌==◌, length, get_or, ap, refl, sym, subst, ◌∙◌, arith, All}
+use Rattle.std.proofs.Common.{◌≡◌, ℕ, Some, None, Option, Bool, true, false, ◌||◌, List, ◌==◌, length, get_or, ap, refl, sym, subst, ◌∙◌, arith, All}
 use Rattle.cell_base.specs.declared.cells.Cell.{Cell}
 use Rattle.cell_base.specs.declared.cells.ResId.{ResId}
 use Rattle.cell_base.specs.declared.requests.JobId.{JobId}

@@ -1,5 +1,5 @@
 -- Waiters with other refusals wait with the same requests.
-use Rattle.std.proofs.Common.{◌≡◌, ℕ, zero, suc, ◌<◌, true, false, cond, Option, List, [], ◌∷◌, ◌++◌, length, map, set, take, drop, get_or, refl, sym, subst, ap, ◌∙◌, arith}
+use Rattle.std.proofs.Common.{◌≡◌, ℕ, zero, suc, ◌<◌, true, false, cond, Option, List, [], ◌∷◌, ◌++◌, length, map, set, take, drop, get_or, refl, subst, ap, ◌∙◌, arith}
 use Rattle.std.specs.List.{filter}
 use Rattle.std.proofs.lemmas.List.{length-map}
 use Rattle.cell_base.specs.declared.cells.Cell.{Cell}

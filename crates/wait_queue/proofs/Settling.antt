@@ -1,5 +1,5 @@
 -- A scan leaves nobody who is ready.
-use Rattle.std.proofs.Common.{◌≡◌, ℕ, zero, suc, ◌≤◌, false, Some, None, List, length, refl, arith, All, find}
+use Rattle.std.proofs.Common.{◌≡◌, ℕ, zero, suc, ◌≤◌, false, Some, None, length, refl, arith, All, find}
 use Rattle.std.specs.Option.{option_map_or}
 use Rattle.std.proofs.lemmas.Bool.{not-false}
 use Rattle.cell_base.proofs.Elements.{All-find_none}

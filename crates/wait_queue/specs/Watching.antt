@@ -1,5 +1,5 @@
 -- What a waiter watches: a full neighborhood that its request would enter.
-use Rattle.std.specs.Prelude.{◌≡◌, ◌≢◌, ℕ, ◌<◌, ◌≤◌, Bool, true, false, nat_le, Option, None, Some, List, ◌==◌, get_or, length, ⊤}
+use Rattle.std.specs.Prelude.{◌≡◌, ◌≢◌, ℕ, ◌<◌, Bool, true, false, nat_le, Option, None, Some, List, ◌==◌, get_or, length, ⊤}
 use Rattle.std.specs.List.{All}
 use Rattle.std.specs.Option.{option_map_or}
 use Rattle.cell_base.specs.declared.cells.Cell.{Cell}
@@ -8,13 +8,11 @@ use Rattle.cell_base.specs.declared.requests.JobId.{JobId}
 use Rattle.cell_base.specs.declared.requests.Part.{Part}
 use Rattle.cell_base.specs.declared.requests.Request.{Request}
 use Rattle.cell_base.specs.declared.requests.Request.TheVariants.{Load, Process, Move, Unload, Place}
-use Rattle.cell_base.specs.declared.requests.Reply.TheVariants.{Granted, Refused}
-use Rattle.cell_base.specs.declared.requests.Refusal.TheVariants.{Saturated}
-use Rattle.cell_base.specs.Fits.{CellFits, RequestFits}
+use Rattle.cell_base.specs.Fits.{RequestFits}
 use Rattle.cell_base.specs.Masks.{has_bit}
 use Rattle.cell_base.specs.Neighborhoods.{count, leads}
-use Rattle.cell_base.specs.Outcomes.{reply_to, state_after}
-use Rattle.cell_base.specs.Policy.{IsAdmitted, is_loaded}
+use Rattle.cell_base.specs.Outcomes.{reply_to}
+use Rattle.cell_base.specs.Policy.{is_loaded}
 use Rattle.cell_base.specs.Stages.{Stage, capacity_of, stage, stage_of}
 use Rattle.policy_laws.specs.Decisions.{is_saturated}
 use Rattle.policy_laws.specs.Laws.{MayMove}

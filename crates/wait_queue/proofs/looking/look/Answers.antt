@@ -1,5 +1,5 @@
 -- One waiter more is looked at.
-use Rattle.std.proofs.Common.{◌≡◌, ◌≢◌, ℕ, suc, ◌+◌, ◌*◌, ◌^◌, ◌%◌, bit_or, ◌<◌, ◌≤◌, Some, None, Option, true, false, not, length, get_or, set, length-set, ap, sym, subst, ◌∙◌, arith, ⊎_elim, All}
+use Rattle.std.proofs.Common.{◌≡◌, ◌≢◌, ℕ, ◌*◌, ◌^◌, ◌%◌, bit_or, ◌<◌, Some, None, Option, false, not, length, get_or, length-set, ap, sym, subst, ◌∙◌, arith, ⊎_elim}
 use Rattle.cell_base.specs.declared.cells.ResId.{ResId}
 use Rattle.cell_base.proofs.Bits.{has_bit_set_same}
 use Rattle.std.proofs.lemmas.Bool.{cases_eq}

@@ -1,5 +1,5 @@
 -- The neighborhood that a saturation names holds the request back.
-use Rattle.std.proofs.Common.{◌≡◌, sym, ◌∙◌}
+use Rattle.std.proofs.Common.{◌≡◌}
 use Rattle.cell_base.specs.declared.requests.Refusal.TheVariants.{Saturated}
 use Rattle.cell_base.specs.declared.requests.Reply.TheVariants.{Refused}
 use Rattle.cell_base.specs.Outcomes.{reply_to}

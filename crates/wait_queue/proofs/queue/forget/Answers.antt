@@ -1,8 +1,7 @@
 -- One waiter more is done.
-use Rattle.std.proofs.Common.{◌≡◌, ◌≢◌, ℕ, ◌+◌, ◌<◌, ◌≤◌, Some, None, Option, Bool, true, false, cond, ◌||◌, length, get_or, set, length-set, get_or-set_same, get_or-set_other, refl, ap, sym, subst, ◌∙◌, arith, ⊎_elim}
+use Rattle.std.proofs.Common.{◌≡◌, ℕ, ◌<◌, Some, None, Option, Bool, true, false, cond, ◌||◌, length, get_or, set, length-set, get_or-set_other, refl, ap, sym, subst, ◌∙◌, arith}
 use Rattle.cell_base.specs.declared.cells.ResId.{ResId}
 use Rattle.cell_base.specs.declared.requests.JobId.{JobId}
-use Rattle.std.proofs.lemmas.Bool.{cases_eq}
 use Rattle.std.proofs.lemmas.List.{get_or_default, set-get_or}
 use Rattle.wait_queue.specs.declared.waiter.Waiter.{Waiter}
 use Rattle.wait_queue.specs.Watching.{IsWithout, is_of}

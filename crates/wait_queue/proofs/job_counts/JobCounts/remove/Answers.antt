@@ -1,5 +1,5 @@
 -- The place of the job has one waiter fewer.
-use Rattle.std.proofs.Common.{◌≡◌, ℕ, ◌-◌, ◌<◌, Some, List, length, slice_set, ap, sym, subst, ◌∙◌, arith}
+use Rattle.std.proofs.Common.{◌≡◌, ℕ, ◌-◌, ◌<◌, Some, List, length, slice_set, ap, sym, subst, ◌∙◌}
 use Rattle.std.specs.List.{remove, slice_index}
 use Rattle.std.proofs.lemmas.List.{get_or_default}
 use Rattle.wait_queue.specs.Counting.{AreCounted, place_of}

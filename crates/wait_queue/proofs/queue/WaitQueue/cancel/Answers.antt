@@ -1,6 +1,6 @@
 -- The first waiter of the session leaves.
 use Rattle.std.specs.Prelude.{position}
-use Rattle.std.proofs.Common.{◌≡◌, Some, None, Option, List, ap, sym, subst, ◌∙◌, find}
+use Rattle.std.proofs.Common.{◌≡◌, Some, None, Option, ap, sym, subst, ◌∙◌, find}
 use Rattle.std.proofs.lemmas.List.Quantifiers.{position-Some}
 use Rattle.wait_queue.specs.declared.waiter.Waiter.{Waiter}
 use Rattle.wait_queue.specs.Queues.{QueueState}

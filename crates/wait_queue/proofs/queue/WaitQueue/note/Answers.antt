@@ -1,19 +1,15 @@
 -- The waiters of another job watch as before, and those of this one watch nothing.
-use Rattle.std.proofs.Common.{◌≡◌, ℕ, ◌<◌, Some, None, Option, Bool, true, false, ◌||◌, List, ◌==◌, length, get_or, ap, refl, sym, subst, ◌∙◌, arith, All}
+use Rattle.std.proofs.Common.{◌≡◌, Some, None, Option, List, ◌==◌, length, ap, sym, subst, ◌∙◌, arith}
 use Rattle.std.specs.List.{slice_index}
 use Rattle.std.proofs.lemmas.Bool.{eqb-true, not-false}
-use Rattle.cell_base.specs.declared.cells.Cell.{Cell}
 use Rattle.cell_base.specs.declared.cells.ResId.{ResId}
-use Rattle.cell_base.specs.declared.requests.JobId.{JobId}
-use Rattle.cell_base.specs.declared.requests.Part.{Part}
-use Rattle.cell_base.specs.declared.requests.Request.{Request}
 use Rattle.wait_queue.specs.declared.waiter.Waiter.{Waiter}
 use Rattle.wait_queue.specs.Counting.{place_of}
 use Rattle.wait_queue.specs.Queues.{QueueState}
-use Rattle.wait_queue.specs.Watching.{AreWatched, AreWatching, AreWithout, IsCovered, IsWithout, is_of, job_of}
+use Rattle.wait_queue.specs.Watching.{AreWatched, AreWatching, AreWithout, job_of}
 use Rattle.cell_base.specs.Outcomes.{state_after}
 use Rattle.wait_queue.proofs.Counts.{uncounted}
-use Rattle.wait_queue.proofs.Noting.{covered-without, kept-without, noted-watching, unnoted-watching, neither, untouched}
+use Rattle.wait_queue.proofs.Noting.{covered-without, noted-watching, unnoted-watching, neither, untouched}
 use Rattle.wait_queue.proofs.queue.WaitQueue.note.Goals as goal
 
 pub invariant_of-self : goal.invariant_of-self

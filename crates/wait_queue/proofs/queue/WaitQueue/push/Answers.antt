@@ -1,5 +1,5 @@
 -- The last waiter watches the neighborhood for which it was refused.
-use Rattle.std.proofs.Common.{◌≡◌, ◌≢◌, None, ℕ, ◌+◌, ◌*◌, ◌^◌, ◌%◌, ◌<◌, bit_or, Some, Option, List, [], ◌∷◌, ◌++◌, length, length-append, get_or, sym, subst, ap, ◌∙◌, arith}
+use Rattle.std.proofs.Common.{◌≢◌, None, ◌*◌, ◌^◌, ◌%◌, ◌<◌, bit_or, Some, Option, List, [], ◌∷◌, ◌++◌, length, length-append, get_or, sym, subst, ap, arith}
 use Rattle.std.proofs.lemmas.List.Elements.{All-push}
 use Rattle.cell_base.specs.declared.cells.ResId.{ResId}
 use Rattle.cell_base.proofs.Bits.{has_bit_set_same}

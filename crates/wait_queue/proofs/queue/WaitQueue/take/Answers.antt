@@ -1,5 +1,5 @@
 -- The waiter leaves with its watch and its place in the table, and the others are as before.
-use Rattle.std.proofs.Common.{◌≡◌, ◌≢◌, ℕ, ◌<◌, None, Option, List, length, get_or, ap, sym, subst, ◌∙◌, arith}
+use Rattle.std.proofs.Common.{◌≢◌, ◌<◌, None, Option, List, length, ap, sym, subst, ◌∙◌, arith}
 use Rattle.std.specs.List.{remove}
 use Rattle.cell_base.specs.declared.cells.ResId.{ResId}
 use Rattle.wait_queue.specs.declared.waiter.Waiter.{Waiter}

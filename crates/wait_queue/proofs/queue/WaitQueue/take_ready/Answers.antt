@@ -1,7 +1,6 @@
 -- While all that is watched is full nobody is ready; else the waiters are looked at, and the first that is ready leaves.
-use Rattle.std.proofs.Common.{◌≡◌, ℕ, ◌<◌, Some, None, Option, List, false, length, ap, sym, subst, ◌∙◌, arith, All, find}
+use Rattle.std.proofs.Common.{◌≡◌, Some, None, Option, List, false, ap, sym, subst, ◌∙◌, All, find}
 use Rattle.cell_base.proofs.Elements.{find_none}
-use Rattle.cell_base.specs.declared.cells.ResId.{ResId}
 use Rattle.wait_queue.specs.declared.looking.Found.TheVariants.{Ready}
 use Rattle.wait_queue.specs.declared.waiter.Waiter.{Waiter}
 use Rattle.wait_queue.specs.Queues.{QueueState}
