@@ -1,0 +1,6 @@
+-- What the contracts cite.
+pub mod Waiting
+pub mod Watching
+pub mod Counting
+pub mod Queues
+pub mod Laws

@@ -1,0 +1,210 @@
+//! The waiters, and what each of them watches.
+ghost use Rattle.std.specs.Prelude.{◌≡◌, ◌<◌, ◌∷◌, ◌++◌, [], false, true, None, ◌||◌, if◌then◌else◌, length, get_or, map, IfOk, vec_capacity};
+ghost use Rattle.std.specs.Prelude.{List as Sequence, position};
+ghost use Rattle.std.specs.List.{find, remove};
+ghost use Rattle.cell_base.specs.declared.cells.Cell.{Cell};
+ghost use Rattle.cell_base.specs.declared.requests.Part.{Part};
+ghost use Rattle.wait_queue.specs.Waiting.{is_of_session, is_ready, renewed, waiter_of, without_first};
+ghost use Rattle.wait_queue.specs.Queues.{KeepsWatching, WatchesAnother};
+ghost use Rattle.wait_queue.specs.Watching.{AreFit, AreWatching, AreWithout};
+
+use crate::Waiter;
+use crate::job_counts::{JobCounts, is_of, job_of};
+use crate::looking::{Found, look};
+use crate::waiter::{renew_all, waiter_of};
+use admission_core::Core;
+use cell_base::{JobId, NoMemory, Request, ResId};
+use std::alloc::Global;
+use std::marker::Model;
+
+/// Waiters in the order of their arrival. Contracts see who waits, what each watches (None: it is to be looked at), and the room.
+#[derive(Drop)]
+pub struct WaitQueue {
+    waiters: Vec<Waiter>,
+    watches: Vec<Option<ResId>>,
+    /// How many waiters there are of each job.
+    jobs: JobCounts,
+    /// The resources that are watched, and maybe more.
+    watched: u64,
+    /// A waiter is to be looked at, whatever is full.
+    is_stale: bool,
+    room: u16,
+}
+
+impl Model for WaitQueue {
+    ghost use Rattle.wait_queue.specs.Queues.{QueueState, IsKept};
+    ghost use Rattle.std.specs.Prelude.{vec_capacity};
+
+    ghost Value = { QueueState };
+
+    ghost view = { λ s. record { waiters = s.waiters.items; watches = s.watches.items; room = s.room } };
+
+    ghost invariant = { λ s. IsKept s.waiters.items s.watches.items s.jobs s.watched s.is_stale s.room
+        (vec_capacity s.waiters) (vec_capacity s.watches) };
+}
+
+impl WaitQueue {
+    /// Nobody waits, and there is room for so many.
+    pub fn with_room(alloc: Global, room: u16) -> Result<WaitQueue, NoMemory>
+        ensures { IfOk result (λ queue. queue ≡ record { waiters = []; watches = []; room = room }) }
+    {
+        Ok(WaitQueue {
+            waiters: Vec::with_capacity(alloc, room as usize)?,
+            watches: Vec::with_capacity(alloc, room as usize)?,
+            jobs: JobCounts::for_waiters(alloc, room)?,
+            watched: 0,
+            is_stale: false,
+            room,
+        })
+    }
+
+    /// A waiter comes last, whose request was refused for the neighborhood of this resource. It takes no memory.
+    pub fn push(&mut self, waiter: Waiter, at: ResId)
+        requires room { length self.old.waiters < self.old.room }
+        requires at { at.0 < 64 }
+        ensures waiters { self.new.waiters ≡ self.old.waiters ++ waiter ∷ [] }
+        ensures watching { WatchesAnother waiter at self.old self.new }
+        ensures room { self.new.room ≡ self.old.room }
+    {
+        self.jobs.add(&waiter);
+        self.waiters.push_reserved(waiter);
+        self.watches.push_reserved(Some(at));
+        self.watched |= 1 << at.0;
+    }
+
+    /// A request was granted: the waiters whose requests are of its job are to be looked at.
+    pub fn note(&mut self, request: &Request)
+        ensures waiters { self.new.waiters ≡ self.old.waiters }
+        ensures watching { KeepsWatching request.now self.old self.new }
+        ensures room { self.new.room ≡ self.old.room }
+    {
+        if let Some(job) = job_of(request) {
+            if self.jobs.has(job) {
+                let any = forget(&self.waiters, &mut self.watches, job);
+                self.is_stale = either(self.is_stale, any);
+            }
+        }
+    }
+
+    /// Takes the first waiter out whose request is no longer refused for a full neighborhood, None exactly where there is none.
+    pub fn take_ready(&mut self, core: &Core) -> Option<Waiter>
+        requires fit { AreFit core.now.cell self.old.waiters }
+        requires watching { AreWatching core.now.cell core.now.parts self.old.waiters self.old.watches }
+        ensures found { result ≡ find (is_ready core.now.cell core.now.parts) self.old.waiters }
+        ensures others { self.new.waiters ≡ without_first (is_ready core.now.cell core.now.parts) self.old.waiters }
+        ensures watching { AreWatching core.now.cell core.now.parts self.new.waiters self.new.watches }
+        ensures room { self.new.room ≡ self.old.room }
+    {
+        let _cell = core.cell();
+        let full = core.full();
+        if !self.is_stale && self.watched & !full == 0 {
+            return None;
+        }
+        match look(
+            core,
+            full,
+            &self.waiters,
+            &mut self.watches,
+            &mut self.watched,
+        ) {
+            Found::Ready(at) => Some(self.take(at)),
+            Found::Nobody { watched } => {
+                self.watched = watched;
+                self.is_stale = false;
+                None
+            }
+        }
+    }
+
+    /// Takes the waiter of a session out, None exactly where it does not wait.
+    pub fn cancel(&mut self, session: u16) -> Option<Waiter>
+        ensures found { result ≡ waiter_of self.old.waiters session }
+        ensures others { self.new.waiters ≡ without_first (is_of_session session) self.old.waiters }
+        ensures watching { (cell : Cell) (parts : Sequence Part) → AreWatching cell parts self.old.waiters self.old.watches
+            → AreWatching cell parts self.new.waiters self.new.watches }
+        ensures room { self.new.room ≡ self.old.room }
+    {
+        match place_of(&self.waiters, session) {
+            Some(at) => Some(self.take(at)),
+            None => None,
+        }
+    }
+
+    /// Takes the waiter at an index out, with what it watches.
+    fn take(&mut self, at: usize) -> Waiter
+        requires { at < length self.old.waiters }
+        ensures waiter { result ≡ get_or self.old.waiters at result }
+        ensures waiters { self.new.waiters ≡ remove self.old.waiters at }
+        ensures watching { (cell : Cell) (parts : Sequence Part) → AreWatching cell parts self.old.waiters self.old.watches
+            → AreWatching cell parts self.new.waiters self.new.watches }
+        ensures room { self.new.room ≡ self.old.room }
+    {
+        self.watches.remove(at);
+        let waiter = self.waiters.remove(at);
+        self.jobs.remove(&waiter);
+        waiter
+    }
+
+    /// Each waiter keeps the refusal that its request would be told now, which may name another full neighborhood than when it began
+    /// to wait.
+    pub fn renew(&mut self, core: &Core)
+        requires fit { AreFit core.now.cell self.old.waiters }
+        ensures renewed { self.new.waiters ≡ map (renewed core.now.cell core.now.parts) self.old.waiters }
+        ensures watching { (cell : Cell) (parts : Sequence Part) → AreWatching cell parts self.old.waiters self.old.watches
+            → AreWatching cell parts self.new.waiters self.new.watches }
+        ensures room { self.new.room ≡ self.old.room }
+    {
+        renew_all(core, &mut self.waiters);
+    }
+
+    /// Those that wait, in the order in which they began to.
+    pub fn waiting(&self) -> &[Waiter]
+        ensures { result.now ≡ self.now.waiters }
+    {
+        &self.waiters
+    }
+
+    /// The waiter of a session, None exactly where it does not wait.
+    pub fn waiter_of(&self, session: u16) -> Option<Waiter>
+        ensures { result ≡ waiter_of self.now.waiters session }
+    {
+        waiter_of(&self.waiters, session)
+    }
+}
+
+// Where the waiter of a session stands.
+fn place_of(waiters: &[Waiter], session: u16) -> Option<usize>
+    ensures { result ≡ position (is_of_session session) waiters.now }
+{
+    waiters.iter().position(|waiter| waiter.session == session)
+}
+
+// The waiters whose requests are of this job watch nothing any more. Says whether there are any.
+fn forget(waiters: &[Waiter], watches: &mut Vec<Option<ResId>>, job: JobId) -> bool
+    requires pairs { length watches.old.items ≡ length waiters.now }
+    ensures without { AreWithout job waiters.now watches.old.items watches.new.items }
+    ensures pairs { length watches.new.items ≡ length waiters.now }
+    ensures none { result ≡ false → watches.new.items ≡ watches.old.items }
+    ensures capacity { vec_capacity watches.new ≡ vec_capacity watches.old }
+{
+    let mut any = false;
+    for i in 0..waiters.len() {
+        let is_own = is_of(job, &waiters[i].request);
+        any = either(any, is_own);
+        watches[i] = unless(is_own, watches[i]);
+    }
+    any
+}
+
+// What is watched, or nothing.
+fn unless(is_own: bool, watch: Option<ResId>) -> Option<ResId>
+    ensures { result ≡ (if is_own then None else watch) }
+{
+    if is_own { None } else { watch }
+}
+
+fn either(one: bool, other: bool) -> bool
+    ensures { result ≡ (one || other) }
+{
+    one || other
+}
