@@ -118,8 +118,8 @@ public final class Cell implements AutoCloseable {
         if (stopped != null) throw stopped;
         return lines;
     }
-    /** The same, for {@code try}. */
-    @Override public void close() throws StoppedException { end(); }
+    /** The same. Who wants to know how the conversation ended calls {@link #end} before. */
+    @Override public void close() { try { end(); } catch (StoppedException ended) { } }
 
     /** The reply to a line that changes nothing, and so may be said again after a kill. */
     private String told(String line) throws StoppedException, InterruptedException {

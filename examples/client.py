@@ -57,11 +57,11 @@ class Cell:
             before = self.grants(session)
         while (reply := self.say(f"{session} {step}")) is None:
             now = self.grants(session)
-            if now == before + 1:
+            if now not in (before, before + 1):
+                raise SharedSession(f"session {session} has {now} grants, and had {before}")
+            if now > before:
                 reply = "granted"
                 break
-            if now != before:
-                raise SharedSession(f"session {session} has {now} grants, and had {before}")
         self.taken[session] = before + (reply == "granted")
         return reply
 
@@ -79,7 +79,8 @@ class Cell:
 
     def say(self, line):
         """The reply to a line, after the line's own words. None: the server was killed before it came, and is started again."""
-        if "\n" in line:
+        sent = f"{line}\n".encode()
+        if len(sent) > 65 or "\n" in line:
             raise NoRequest(line)
         reply = queue.SimpleQueue()
         with self.lock:
@@ -87,7 +88,7 @@ class Cell:
                 raise self.stopped or Stopped(0, "the conversation is closed")
             self.waiting.append((f"{line} ", reply))
             try:
-                os.write(self.child.stdin.fileno(), f"{line}\n".encode())
+                os.write(self.child.stdin.fileno(), sent)
             except OSError:
                 pass  # the server has ended, and the reader comes to the end of its lines
         said = reply.get()
