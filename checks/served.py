@@ -3,8 +3,9 @@ import os
 import queue
 import subprocess
 import threading
+import time
 
-from journal_file import Numbers, entries_in, entry
+from journal_file import Numbers, entries_in, entry, step_in
 
 
 class Wrong:
@@ -25,6 +26,16 @@ class Wrong:
             self.tell(name, f"{str(found)[-400:]!r}, and not {str(wanted)[-400:]!r}")
 
 
+def within(seconds, is_so):
+    """Whether something is so within some seconds."""
+    end = time.monotonic() + seconds
+    while time.monotonic() < end:
+        if is_so():
+            return True
+        time.sleep(0.02)
+    return False
+
+
 class CellFile:
     """A cell file with its journals, as a program serves them."""
 
@@ -39,6 +50,11 @@ class CellFile:
     def entry(self, session, step):
         """The entry of a step that `serve` granted."""
         return entry(self.numbers, step, session, 0)
+
+    def steps(self, entries, session):
+        """The steps of a session in a journal."""
+        found = (step_in(self.numbers, one) for one in entries)
+        return [" ".join(words[1:]) for words in found if words[0] == str(session)]
 
     def told(self, command, *words):
         """What a command says of the cell: its status and its output."""

@@ -9,7 +9,7 @@ import sys
 import time
 
 from journal_file import granted, journal
-from served import Server
+from served import Server, within
 
 HERE = pathlib.Path(__file__).resolve().parent
 # Lines with their replies on the cell of two machines, from the empty cell on.
@@ -286,21 +286,12 @@ def dispatched(wrong, cell, folder):
     second = subprocess.run(words[1], stderr=subprocess.PIPE, check=False)
     wrong.see("a second dispatcher", (second.returncode, b"device fault" in second.stderr), (7, True))
     dispatcher.terminate()
-    dispatcher.wait()
-    wrong.see("its server ends after it", within(10, lambda: cell.told("plan", file)[0] == 0), True)
+    wrong.see("a dispatcher that is told to end", dispatcher.wait(), 0)
+    wrong.see("its server has ended before it", cell.told("plan", file)[0], 0)
+    wrong.see("its socket is gone", places[0].exists(), False)
     wrong.see("its journal", cell.entries(file), granted(cell.numbers, told(TALK), 0))
     for one in (*programs, *connections):
         one.close()
-
-
-def within(seconds, is_so):
-    """Whether something is so within some seconds."""
-    end = time.monotonic() + seconds
-    while time.monotonic() < end:
-        if is_so():
-            return True
-        time.sleep(0.02)
-    return False
 
 
 def library_of(folder, name):

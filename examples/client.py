@@ -5,6 +5,7 @@
 
 A `Cell` is a running server with the pipes to it. Threads may share one: each asks under session numbers of its own, from 1 to 65,535,
 and one step of a session at a time. Where the server is killed it is started again, and the steps that wait for their replies go on.
+It needs Python 3.9 or later.
 """
 import collections
 import os
@@ -14,15 +15,31 @@ import threading
 
 
 class Stopped(Exception):
-    """The server has ended for a cause that a new start need not mend: its exit status, and the last line that it printed."""
+    """The server has ended for a cause that a new start need not mend: its exit status, and the last line that it printed.
+
+    The status is negative where a signal killed it, and 127 where it can't be started."""
+
+
+class Behind(Stopped):
+    """The journal has fewer grants than were seen: it is another one, or has lost some. 6, as of a refused journal, and the head line."""
+
+
+class NoRequest(ValueError):
+    """The line asks nothing: its words are none of the conversation, or name what the cell doesn't have. Nothing is changed."""
+
+
+class SharedSession(ValueError):
+    """Another client asks under this session number, so its count doesn't tell whose step was granted."""
 
 
 class Cell:
     """A running server, and how many steps of each session were granted."""
 
-    def __init__(self, *command):
+    def __init__(self, *command, at_least=0):
+        """Starts the server by these words. Its journal has to have `at_least` so many grants: the `seen` of an earlier run."""
         self.command, self.lock, self.is_closing = command, threading.Lock(), False
         self.waiting, self.taken, self.stopped = collections.deque(), {}, None
+        self.seen = at_least  # how many grants the journal has, as far as the replies tell
         self._start()
         self.reader = threading.Thread(target=self._read, daemon=True)
         self.reader.start()
@@ -35,39 +52,50 @@ class Cell:
 
     def ask(self, session, step):
         """Asks for a step of a session: `granted` or `refused WHY`."""
-        before = self.taken[session] if session in self.taken else self.grants(session)
+        before = self.taken.pop(session, None)  # whoever breaks this call off leaves no count, and the next one asks for it
+        if before is None:
+            before = self.grants(session)
         while (reply := self.say(f"{session} {step}")) is None:
             now = self.grants(session)
-            if now == before + 1:
+            if now not in (before, before + 1):
+                raise SharedSession(f"session {session} has {now} grants, and had {before}")
+            if now > before:
                 reply = "granted"
                 break
-            if now != before:
-                raise ValueError(f"another client asks as session {session}")
         self.taken[session] = before + (reply == "granted")
         return reply
 
     def grants(self, session):
         """How many steps of a session were granted. A client with a list of steps goes on after so many of them."""
-        while (reply := self.say(f"{session} grants")) is None:
-            pass
-        return int(reply)
+        return int(self._told(f"{session} grants"))
+
+    def why(self, step):
+        """What a step would be told now: `granted` or `refused WHY`. Nothing is changed."""
+        return self._told(f"why {step}")
+
+    def left(self):
+        """How many parts are in the cell."""
+        return int(self._told("left"))
 
     def say(self, line):
         """The reply to a line, after the line's own words. None: the server was killed before it came, and is started again."""
+        sent = f"{line}\n".encode()
+        if len(sent) > 65 or "\n" in line:
+            raise NoRequest(line)
         reply = queue.SimpleQueue()
         with self.lock:
-            if self.stopped:
-                raise self.stopped
+            if self.stopped or self.is_closing:
+                raise self.stopped or Stopped(0, "the conversation is closed")
             self.waiting.append((f"{line} ", reply))
             try:
-                os.write(self.child.stdin.fileno(), f"{line}\n".encode())
+                os.write(self.child.stdin.fileno(), sent)
             except OSError:
                 pass  # the server has ended, and the reader comes to the end of its lines
         said = reply.get()
         if said is None and self.stopped:
             raise self.stopped
         if said and said.startswith("line refused "):
-            raise ValueError(f"no request: {line}")
+            raise NoRequest(line)
         return said and said.removeprefix(f"{line} ")
 
     def close(self):
@@ -76,20 +104,37 @@ class Cell:
             self.is_closing = True
             self.child.stdin.close()
         self.reader.join()
-        if self.child.returncode != 0:
+        if self.stopped.args[0] != 0:
             raise self.stopped
         return self.lines
+
+    def _told(self, line):
+        """The reply to a line that changes nothing, and so may be said again after a kill."""
+        while (reply := self.say(line)) is None:
+            pass
+        return reply
 
     def _start(self):
         """Starts the server and waits until it is ready. A few times it may be killed before."""
         for _ in range(5):
-            self.child = subprocess.Popen(self.command, stdin=subprocess.PIPE, stdout=subprocess.PIPE)
+            # In a session of its own it isn't killed by the Ctrl-C that ends this program: it ends in order, when its input does.
+            try:
+                self.child = subprocess.Popen(self.command, stdin=subprocess.PIPE, stdout=subprocess.PIPE, start_new_session=True)
+            except OSError as fault:
+                raise Stopped(127, str(fault)) from fault
             head = self.child.stdout.readline().decode()
-            if head.startswith("shift 0 after "):
-                return
+            if head.startswith("shift 0 after ") and head.endswith("\n"):
+                return self._see(int(head.split(" ")[3]))
             if self.child.wait() >= 0:
                 break
         raise Stopped(self.child.returncode, head.rstrip())
+
+    def _see(self, grants):
+        """Takes the number of grants that the journal has at the start, or ends the server where there were more."""
+        if grants < self.seen:
+            self.child.communicate()
+            raise Behind(6, f"shift 0 after {grants}, where {self.seen} grants were seen")
+        self.seen = grants
 
     def _read(self):
         """Hands out the replies, which come in the order of the lines, and starts the server again where it was killed."""
@@ -98,6 +143,7 @@ class Cell:
             for line in map(bytes.decode, self.child.stdout):
                 is_reply = self.waiting and line.startswith((self.waiting[0][0], "line refused "))
                 if is_reply and line.endswith("\n") and not line.endswith(" halted\n"):
+                    self.seen += line.endswith(" granted\n") and not line.startswith("why ")
                     self.waiting.popleft()[1].put(line.rstrip("\n"))
                 else:
                     self.lines.append(line.rstrip("\n"))

@@ -4,15 +4,18 @@
 SOCKET is where the programs connect (a Unix socket), and PROGRAM the controller, which serves CELL on JOURNAL as a child of this script.
 Each line of a connection is a line to the server, and gets its reply there. The connections are served side by side, so what they ask
 at the same time shares its syncs. Where a reply can't be had, since the server was killed, the connection ends: connect again, and ask
-`K grants` first. The script ends when the server does for another cause, with its status.
+`K grants` first. The script ends when the server does for another cause, with its status; at a SIGTERM or a Ctrl-C it lets the server end
+in order, and ends with 0.
+
+It needs `client.py` beside it, and Python 3.9 or later. Whoever may write to SOCKET may ask: the umask decides.
 """
-import os
 import pathlib
+import signal
 import socketserver
 import sys
 import threading
 
-from client import Cell, Stopped
+from client import Cell, NoRequest, Stopped
 
 
 class Connection(socketserver.StreamRequestHandler):
@@ -25,7 +28,7 @@ class Connection(socketserver.StreamRequestHandler):
             words = line.decode("ascii", "replace").rstrip("\n")
             try:
                 reply = self.server.cell.say(words)
-            except ValueError:
+            except NoRequest:
                 self.wfile.write(b"line refused\n")
                 continue
             except Stopped as stopped:
@@ -44,8 +47,15 @@ class Dispatcher(socketserver.ThreadingUnixStreamServer):
     stopped = None
 
 
+def end(*_):
+    """Ends the script: on its way out the input of the server is closed, and the server ends with its plan."""
+    raise SystemExit
+
+
 def main():
     place, program, cell, journal = sys.argv[1:]
+    signal.signal(signal.SIGTERM, end)
+    signal.signal(signal.SIGINT, end)
     pathlib.Path(place).unlink(missing_ok=True)
     try:
         with Cell(program, "serve", cell, journal) as served, Dispatcher(place, Connection) as dispatcher:
@@ -54,7 +64,9 @@ def main():
             raise dispatcher.stopped
     except Stopped as stopped:
         print(f"the server has ended with status {stopped.args[0]}: {stopped.args[1]}", file=sys.stderr)
-        os._exit(stopped.args[0])
+        sys.exit(stopped.args[0])
+    finally:
+        pathlib.Path(place).unlink(missing_ok=True)
 
 
 if __name__ == "__main__":

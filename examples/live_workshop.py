@@ -4,7 +4,7 @@
 PROGRAM is the controller (default: the built one), and JOURNAL its journal (default: one that is thrown away). The sessions are those of
 `workshop-shift.toml`, a thread each: one for each part, which asks for its load, its moves and its unload, and one for each machine. A step
 that is refused is asked again a little later, when others have made room. At the end the cell is empty. Call it again after a kill: each
-session goes on after the steps that it was granted.
+session goes on after the steps that it was granted. It needs `client.py` beside it, and Python 3.11 or later.
 """
 import pathlib
 import sys

@@ -1,0 +1,50 @@
+using System;
+using System.Collections.Generic;
+using System.IO;
+using System.Linq;
+using System.Runtime.ExceptionServices;
+using System.Threading;
+
+/// <summary>Plays sessions through `examples/Cell.cs`: Player AT_LEAST SCRIPT COMMAND.. (see checks/clients)</summary>
+internal static class Player
+{
+    /// <summary>Asks for the steps of a session in turn, each until it is granted.</summary>
+    private static void Go(Cell cell, int session, IReadOnlyList<string> steps)
+    {
+        for (long at = cell.Grants(session); at < steps.Count; at++)
+        {
+            for (int rest = 1; cell.Ask(session, steps[(int)at]) != "granted"; rest = Math.Min(2 * rest, 100)) Thread.Sleep(rest);
+        }
+    }
+
+    /// <summary>All sessions at the same time. An exception of one of them comes out.</summary>
+    private static void Play(Cell cell, IEnumerable<IGrouping<int, string>> scripts)
+    {
+        ExceptionDispatchInfo fault = null;
+        var threads = scripts.Select(script => new Thread(() =>
+        {
+            try { Go(cell, script.Key, script.ToList()); } catch (Exception one) { fault = ExceptionDispatchInfo.Capture(one); }
+        })).ToList();
+        threads.ForEach(thread => thread.Start());
+        threads.ForEach(thread => thread.Join());
+        fault?.Throw();
+    }
+
+    private static void Main(string[] words)
+    {
+        var scripts = File.ReadLines(words[1]).Select(line => line.Split(new[] { ' ' }, 2)).GroupBy(line => int.Parse(line[0]), line => line[1]);
+        try
+        {
+            using (var cell = new Cell(long.Parse(words[0]), words.Skip(2).ToArray()))
+            {
+                Play(cell, scripts);
+                Console.WriteLine($"seen {cell.Seen}\nleft {cell.Left()}\nwhy {cell.Why("load 1 P1")}");
+                foreach (string line in cell.End()) Console.WriteLine(line);
+            }
+        }
+        catch (Cell.BehindException behind) { Console.WriteLine($"behind {behind.Status} {behind.Line}"); }
+        catch (Cell.StoppedException stopped) { Console.WriteLine($"stopped {stopped.Status} {stopped.Line}"); }
+        catch (Cell.NoRequestException line) { Console.WriteLine($"no request {line.Message}"); }
+        catch (Cell.SharedSessionException) { Console.WriteLine("shared session"); }
+    }
+}

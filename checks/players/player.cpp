@@ -1,0 +1,56 @@
+// Plays sessions through `examples/client.hpp`: player AT_LEAST SCRIPT COMMAND.. (see checks/clients)
+#include "client.hpp"
+
+#include <algorithm>
+#include <chrono>
+#include <fstream>
+#include <iostream>
+
+using namespace wishkabe;
+
+namespace {
+
+/// Asks for the steps of a session in turn, each until it is granted.
+void go(Cell& cell, unsigned session, const std::vector<std::string>& steps) {
+  for (std::uint64_t at = cell.grants(session); at < steps.size(); ++at) {
+    for (int rest = 1; cell.ask(session, steps[at]) != "granted"; rest = std::min(2 * rest, 100)) {
+      std::this_thread::sleep_for(std::chrono::milliseconds(rest));
+    }
+  }
+}
+
+/// All sessions at the same time. The first exception of one of them comes out.
+void play(Cell& cell, const std::map<unsigned, std::vector<std::string>>& scripts) {
+  std::vector<std::future<void>> sessions;
+  for (const auto& [session, steps] : scripts) {
+    sessions.push_back(std::async(std::launch::async, go, std::ref(cell), session, steps));
+  }
+  for (std::future<void>& session : sessions) session.get();
+}
+
+void play_all(std::uint64_t at_least, const char* script, const std::vector<std::string>& command) {
+  std::map<unsigned, std::vector<std::string>> scripts;
+  std::ifstream file(script);
+  unsigned session;
+  for (std::string step; file >> session && std::getline(file >> std::ws, step);) scripts[session].push_back(step);
+  Cell cell(command, at_least);
+  play(cell, scripts);
+  std::cout << "seen " << cell.seen() << "\nleft " << cell.left() << "\nwhy " << cell.why("load 1 P1") << "\n";
+  for (const std::string& line : cell.close()) std::cout << line << "\n";
+}
+
+}  // namespace
+
+int main(int count, char** words) {
+  try {
+    play_all(std::stoull(words[1]), words[2], {words + 3, words + count});
+  } catch (const Behind& behind) {
+    std::cout << "behind " << behind.status << " " << behind.line << "\n";
+  } catch (const Stopped& stopped) {
+    std::cout << "stopped " << stopped.status << " " << stopped.line << "\n";
+  } catch (const NoRequest& line) {
+    std::cout << "no request " << line.what() << "\n";
+  } catch (const SharedSession&) {
+    std::cout << "shared session\n";
+  }
+}

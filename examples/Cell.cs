@@ -1,0 +1,195 @@
+using System;
+using System.Collections.Concurrent;
+using System.Collections.Generic;
+using System.ComponentModel;
+using System.Diagnostics;
+using System.IO;
+using System.Linq;
+using System.Text;
+using System.Threading;
+using System.Threading.Tasks;
+
+/// <summary>A client of `wishkabe serve`, to be copied: this file alone, C# 7 or later, for .NET or Mono on Linux.</summary>
+/// <example><code>
+/// using (var cell = new Cell("wishkabe", "serve", "cell.toml", "journal"))
+/// {
+///     string reply = cell.Ask(1, "load 7 A"); // "granted", or "refused saturated M2 1 of 1"
+/// }
+/// </code></example>
+/// <remarks>A `Cell` is a running server with the pipes to it. Threads may share one: each asks under session numbers of its own, from 1
+/// to 65,535, and one step of a session at a time, so that no step is lost or taken twice. Where the server is killed it is started again,
+/// and the steps that wait for their replies go on. A call waits for its reply, and no word of the command has a quote or a backslash.</remarks>
+public sealed class Cell : IDisposable
+{
+    /// <summary>The server has ended for a cause that a new start need not mend.</summary>
+    public class StoppedException : Exception
+    {
+        public StoppedException(int status, string line) : base($"the server has ended with status {status}: {line}")
+            => (Status, Line) = (status, line);
+        /// <summary>The exit status: above 128 where a signal killed the server, and 127 where it can't be started.</summary>
+        public int Status { get; }
+        /// <summary>The last line that the server printed.</summary>
+        public string Line { get; }
+    }
+    /// <summary>The journal has fewer grants than were seen: it is another one, or has lost some. The status is 6.</summary>
+    public sealed class BehindException : StoppedException { public BehindException(string line) : base(6, line) { } }
+    /// <summary>The line asks nothing: its words are none of the conversation, or name what the cell doesn't have. Nothing is changed.</summary>
+    public sealed class NoRequestException : ArgumentException { public NoRequestException(string line) : base(line) { } }
+    /// <summary>Another client asks under this session number, so its count doesn't tell whose step was granted.</summary>
+    public sealed class SharedSessionException : InvalidOperationException { public SharedSessionException(string line) : base(line) { } }
+
+    /// <summary>A line that waits for its reply, and the words with which that begins. The reply is null where the server was killed.</summary>
+    private sealed class Waiting : TaskCompletionSource<string> { public string Words; }
+
+    private readonly string arguments;
+    private readonly ConcurrentDictionary<int, long> taken = new ConcurrentDictionary<int, long>();
+    private readonly ConcurrentQueue<Waiting> waiting = new ConcurrentQueue<Waiting>();
+    private readonly object sending = new object();
+    private readonly Thread reader;
+    private long seen;
+    private bool isClosing;
+    private StoppedException stopped;
+    private Process child;
+    private Stream input, output;
+    private List<string> lines;
+
+    /// <summary>Starts the server by these words. Its journal has to have so many grants: what `Seen` said in an earlier run.</summary>
+    public Cell(long atLeast, params string[] command)
+    {
+        if (command.Any(word => word.IndexOfAny(new[] { '"', '\\' }) >= 0)) throw new ArgumentException("a quote or a backslash");
+        arguments = string.Join(" ", command.Select(word => $"\"{word}\""));
+        seen = atLeast;
+        Start();
+        reader = new Thread(ReadReplies) { IsBackground = true };
+        reader.Start();
+    }
+    /// <summary>The same, whatever its journal has.</summary>
+    public Cell(params string[] command) : this(0, command) { }
+
+    /// <summary>Asks for a step of a session: `granted` or `refused WHY`.</summary>
+    public string Ask(int session, string step)
+    {
+        // A call that ends by an exception leaves no count, and the next one asks for it.
+        if (!taken.TryRemove(session, out long before)) before = Grants(session);
+        string reply = Say($"{session} {step}");
+        while (reply == null)
+        {
+            long now = Grants(session);
+            if (now < before || now > before + 1) throw new SharedSessionException($"another client asks as session {session}");
+            reply = now > before ? "granted" : Say($"{session} {step}");
+        }
+        taken[session] = reply == "granted" ? before + 1 : before;
+        return reply;
+    }
+    /// <summary>How many steps of a session were granted. A client with a list of steps goes on after so many of them.</summary>
+    public long Grants(int session) => long.Parse(Told($"{session} grants"));
+    /// <summary>What a step would be told now: `granted` or `refused WHY`. Nothing is changed.</summary>
+    public string Why(string step) => Told($"why {step}");
+    /// <summary>How many parts are in the cell.</summary>
+    public long Left() => long.Parse(Told("left"));
+    /// <summary>How many grants the journal has, as far as the replies tell.</summary>
+    public long Seen => Interlocked.Read(ref seen);
+
+    /// <summary>The reply to a line, after the line's own words. Null: the server was killed before it came, and is started again.</summary>
+    public string Say(string line)
+    {
+        byte[] sent = new UTF8Encoding(false).GetBytes(line + "\n");
+        if (sent.Length > 65 || line.Contains("\n")) throw new NoRequestException(line);
+        var reply = new Waiting { Words = line + " " };
+        lock (sending)
+        {
+            if (stopped != null) throw stopped;
+            if (isClosing) throw new StoppedException(0, "the conversation is closed");
+            waiting.Enqueue(reply);
+            // Where the server has ended, the reader comes to the end of its lines.
+            try { input.Write(sent, 0, sent.Length); input.Flush(); } catch (IOException) { }
+        }
+        string said = reply.Task.GetAwaiter().GetResult();
+        if (said != null && Begins(said, "line refused ")) throw new NoRequestException(line);
+        return said?.Substring(line.Length + 1);
+    }
+
+    /// <summary>Ends the conversation, and answers its last lines: how many parts are left, and the plan that brings them out.</summary>
+    public IReadOnlyList<string> End()
+    {
+        lock (sending) { isClosing = true; input.Close(); }
+        reader.Join();
+        if (stopped != null) throw stopped;
+        return lines;
+    }
+    /// <summary>The same. Who wants to know how the conversation ended calls `End` before.</summary>
+    public void Dispose() { try { End(); } catch (StoppedException) { } }
+
+    private static bool Begins(string line, string with) => line.StartsWith(with, StringComparison.Ordinal);
+    private static bool Ends(string line, string with) => line.EndsWith(with, StringComparison.Ordinal);
+
+    /// <summary>The reply to a line that changes nothing, and so may be said again after a kill.</summary>
+    private string Told(string line) => Say(line) ?? Told(line);
+
+    /// <summary>Starts the server and waits until it is ready. A few times it may be killed before.</summary>
+    private void Start()
+    {
+        for (int tries = 1; ; tries++)
+        {
+            // By `setsid` the Ctrl-C that ends this program doesn't kill the server: it ends in order, when its input does.
+            var start = new ProcessStartInfo("setsid", arguments) { UseShellExecute = false, RedirectStandardInput = true, RedirectStandardOutput = true };
+            try { child = Process.Start(start); } catch (Win32Exception fault) { throw new StoppedException(127, fault.Message); }
+            input = child.StandardInput.BaseStream;
+            output = new BufferedStream(child.StandardOutput.BaseStream);
+            string head = ReadLine();
+            if (Begins(head, "shift 0 after ") && Ends(head, "\n"))
+            {
+                long before = Interlocked.Exchange(ref seen, long.Parse(head.Substring(14)));
+                if (seen >= before) return;
+                input.Close();
+                while (ReadLine() != "") continue;
+                throw new BehindException($"{head.TrimEnd()}, where {before} grants were seen");
+            }
+            child.WaitForExit();
+            if (child.ExitCode <= 128 || tries == 5) throw new StoppedException(child.ExitCode, head.TrimEnd());
+        }
+    }
+
+    /// <summary>A line with its end, or without one what the server left at its own end.</summary>
+    private string ReadLine()
+    {
+        var line = new StringBuilder();
+        for (int next = output.ReadByte(); next >= 0; next = output.ReadByte())
+        {
+            line.Append((char)next);
+            if (next == '\n') break;
+        }
+        return line.ToString();
+    }
+
+    /// <summary>Hands out the replies, which come in the order of the lines, and starts the server again where it was killed.</summary>
+    private void ReadReplies()
+    {
+        for (bool isOver = false; !isOver;)
+        {
+            lines = new List<string>();
+            for (string line; (line = ReadLine()) != "";)
+            {
+                bool isReply = waiting.TryPeek(out Waiting first) && (Begins(line, first.Words) || Begins(line, "line refused "));
+                if (!isReply || !Ends(line, "\n") || Ends(line, " halted\n"))
+                {
+                    lines.Add(line.TrimEnd());
+                    continue;
+                }
+                if (Ends(line, " granted\n") && !Begins(line, "why ")) Interlocked.Increment(ref seen);
+                waiting.TryDequeue(out first);
+                first.SetResult(line.TrimEnd());
+            }
+            lock (sending)
+            {
+                child.WaitForExit();
+                int status = child.ExitCode;
+                if (!isClosing || status != 0) stopped = new StoppedException(status, lines.LastOrDefault() ?? "");
+                if (!isClosing && status > 128) try { Start(); stopped = null; } catch (StoppedException fault) { stopped = fault; }
+                isOver = isClosing || stopped != null;
+                while (waiting.TryDequeue(out Waiting one))
+                    if (stopped != null) one.SetException(stopped); else one.SetResult(null);
+            }
+        }
+    }
+}

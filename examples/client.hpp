@@ -1,0 +1,199 @@
+// A client of `wishkabe serve` in C++17, to be copied: this header alone, for POSIX systems; link with -pthread.
+//
+//     wishkabe::Cell cell({"wishkabe", "serve", "cell.toml", "journal"});
+//     std::string reply = cell.ask(1, "load 7 A");  // "granted", or "refused saturated M2 1 of 1"
+//
+// A `Cell` is a running server with a socket to it. Threads may share one: each asks under session numbers of its own, from 1 to 65,535,
+// and one step of a session at a time, so that no step is lost or taken twice. Where the server is killed it is started again, and the
+// steps that wait for their replies go on. The program must not wait for this child itself, as a handler of SIGCHLD for all children does.
+#pragma once
+
+#include <sys/socket.h>
+#include <sys/wait.h>
+#include <unistd.h>
+
+#include <atomic>
+#include <cerrno>
+#include <cstdint>
+#include <cstdio>
+#include <deque>
+#include <future>
+#include <map>
+#include <mutex>
+#include <optional>
+#include <stdexcept>
+#include <string>
+#include <thread>
+#include <vector>
+
+namespace wishkabe {
+/// The server has ended for a cause that a new start need not mend: its exit status, and the last line that it printed.
+struct Stopped : std::runtime_error {
+  Stopped(int status, const std::string& line)
+      : runtime_error("the server has ended with status " + std::to_string(status) + ": " + line), status(status), line(line) {}
+  int status;  ///< Above 128 where a signal killed it, and 127 where it can't be started.
+  std::string line;
+};
+/// The journal has fewer grants than were seen: it is another one, or has lost some. The status is 6, as of a refused journal.
+struct Behind : Stopped { using Stopped::Stopped; };
+/// This line asks nothing: its words are none of the conversation, or name what the cell doesn't have. Nothing is changed.
+struct NoRequest : std::invalid_argument { using invalid_argument::invalid_argument; };
+/// Another client asks under this session number, so its count doesn't tell whose step was granted.
+struct SharedSession : std::logic_error { using logic_error::logic_error; };
+
+/// A running server, and how many steps of each session were granted.
+class Cell {
+ public:
+  /// Starts the server by these words. Its journal has to have `at_least` so many grants: what `seen` said in an earlier run.
+  explicit Cell(std::vector<std::string> command, std::uint64_t at_least = 0) : command_(std::move(command)), seen_(at_least) {
+    start();
+    reader_ = std::thread([this] { read_replies(); });
+  }
+  /// Closes the conversation. Who wants to know how it ended calls `close` before.
+  ~Cell() { try { close(); } catch (const std::exception&) {} }
+
+  /// Asks for a step of a session: `granted` or `refused WHY`.
+  std::string ask(unsigned session, const std::string& step) {
+    const std::string line = std::to_string(session) + " " + step;
+    std::unique_lock lock(state_);
+    const auto taken = taken_.extract(session);  // a call that ends by an exception leaves no count, and the next one asks for it
+    lock.unlock();
+    const std::uint64_t before = taken ? taken.mapped() : grants(session);
+    Reply reply = say(line);
+    while (!reply) {
+      const std::uint64_t now = grants(session);
+      if (now < before || now > before + 1) throw SharedSession("another client asks: " + line);
+      reply = now > before ? Reply("granted") : say(line);
+    }
+    lock.lock();
+    taken_[session] = before + (*reply == "granted");
+    return *reply;
+  }
+  /// How many steps of a session were granted. A client with a list of steps goes on after so many of them.
+  std::uint64_t grants(unsigned session) { return std::stoull(told(std::to_string(session) + " grants")); }
+  /// What a step would be told now: `granted` or `refused WHY`. Nothing is changed.
+  std::string why(const std::string& step) { return told("why " + step); }
+  /// How many parts are in the cell.
+  std::uint64_t left() { return std::stoull(told("left")); }
+  /// How many grants the journal has, as far as the replies tell.
+  std::uint64_t seen() const { return seen_; }
+
+  /// The reply to a line, after the line's own words. None: the server was killed before it came, and is started again.
+  std::optional<std::string> say(const std::string& line) {
+    if (line.size() > 64 || line.find('\n') != line.npos) throw NoRequest(line);
+    std::unique_lock sending(sending_), state(state_, std::defer_lock);
+    if (stopped_) std::rethrow_exception(stopped_);
+    state.lock();
+    std::future<Reply> reply = waiting_.emplace_back(line + " ", std::promise<Reply>()).second.get_future();
+    state.unlock();
+    const std::string sent = line + "\n";
+    while (send(socket_, sent.data(), sent.size(), MSG_NOSIGNAL) < 0 && errno == EINTR) continue;
+    sending.unlock();
+    const Reply said = reply.get();
+    if (said && begins(*said, "line refused ")) throw NoRequest(line);
+    return said ? Reply(said->substr(line.size() + 1)) : said;
+  }
+
+  /// Ends the conversation, and answers its last lines: how many parts are left, and the plan that brings them out.
+  std::vector<std::string> close() {
+    std::unique_lock sending(sending_);
+    if (!stopped_) shutdown(socket_, SHUT_WR), stopped_ = std::make_exception_ptr(Stopped(0, "the conversation is closed"));
+    sending.unlock();
+    if (reader_.joinable()) reader_.join();
+    if (status_ != 0) std::rethrow_exception(stopped_);
+    return lines_;
+  }
+
+ private:
+  using Reply = std::optional<std::string>;
+  static bool begins(const std::string& line, const std::string& with) { return line.compare(0, with.size(), with) == 0; }
+  static bool ends(const std::string& line, const std::string& with) { return line.find(with, line.size() - with.size()) != line.npos; }
+
+  /// The reply to a line that changes nothing, and so may be said again after a kill.
+  std::string told(const std::string& line) { for (;;) if (const Reply reply = say(line)) return *reply; }
+
+  /// Starts the server and waits until it is ready. A few times it may be killed before.
+  void start() {
+    std::string head;
+    for (int tries = 0; tries < 5; ++tries) {
+      spawn();
+      if (read_line(head) && begins(head, "shift 0 after ")) {
+        const std::uint64_t before = seen_.exchange(std::stoull(head.substr(14)));
+        if (seen_ >= before) return;
+        shutdown(socket_, SHUT_WR), wait_for_end();
+        throw Behind(status_ = 6, head + ", where " + std::to_string(before) + " grants were seen");
+      }
+      if ((status_ = wait_for_end()) <= 128) break;
+    }
+    throw Stopped(status_, head);
+  }
+
+  void spawn() {
+    std::vector<char*> words;
+    for (std::string& word : command_) words.push_back(word.data());
+    words.push_back(nullptr);
+    int both[2];
+    if (socketpair(AF_UNIX, SOCK_STREAM | SOCK_CLOEXEC, 0, both) != 0) throw Stopped(127, "no socket can be made");
+    if ((child_ = fork()) == 0) {
+      setsid();  // the Ctrl-C that ends this program doesn't kill it: it ends in order, when its input does
+      if (dup2(both[1], 0) == 0 && dup2(both[1], 1) == 1) execvp(words[0], words.data());
+      _exit(127);
+    }
+    ::close(both[1]);
+    output_ = fdopen(socket_ = both[0], "r");
+  }
+
+  int wait_for_end() {
+    int status = 127 << 8;
+    while (std::getc(output_) != EOF) continue;
+    while (child_ > 0 && waitpid(child_, &status, 0) < 0 && errno == EINTR) continue;
+    std::fclose(output_);
+    return WIFSIGNALED(status) ? 128 + WTERMSIG(status) : WEXITSTATUS(status);
+  }
+
+  /// Reads a line to its end. False: the server has ended, and the line is what it left of one.
+  bool read_line(std::string& line) {
+    int byte;
+    for (line.clear(); (byte = std::getc(output_)) != '\n'; std::clearerr(output_)) {
+      if (byte != EOF) line += static_cast<char>(byte);
+      else if (!std::ferror(output_) || errno != EINTR) return false;
+    }
+    return true;
+  }
+
+  /// Hands out the replies, which come in the order of the lines, and starts the server again where it was killed.
+  void read_replies() {
+    for (bool is_over = false; !is_over;) {
+      std::string line;
+      for (lines_.clear(); read_line(line);) {
+        const std::lock_guard lock(state_);
+        const bool is_reply = !waiting_.empty() && (begins(line, waiting_.front().first) || begins(line, "line refused "));
+        if (!is_reply || ends(line, " halted")) { lines_.push_back(line); continue; }
+        seen_ += ends(line, " granted") && !begins(line, "why ");
+        waiting_.front().second.set_value(line);
+        waiting_.pop_front();
+      }
+      if (!line.empty()) lines_.push_back(line);
+      const std::lock_guard sending(sending_);
+      const bool is_closing = bool(stopped_);
+      status_ = wait_for_end();
+      if (!is_closing || status_ != 0) stopped_ = std::make_exception_ptr(Stopped(status_, lines_.empty() ? "" : lines_.back()));
+      if (!is_closing && status_ > 128) try { start(); stopped_ = nullptr; } catch (const Stopped&) { stopped_ = std::current_exception(); }
+      is_over = bool(stopped_);
+      for (; !waiting_.empty(); waiting_.pop_front())
+        is_over ? waiting_.front().second.set_exception(stopped_) : waiting_.front().second.set_value({});
+    }
+  }
+
+  std::vector<std::string> command_, lines_;
+  std::map<unsigned, std::uint64_t> taken_;
+  std::deque<std::pair<std::string, std::promise<Reply>>> waiting_;
+  std::atomic<std::uint64_t> seen_;
+  std::mutex sending_, state_;  // a line may block while it is sent, and replies are handed out meanwhile
+  std::exception_ptr stopped_;
+  std::thread reader_;
+  std::FILE* output_ = nullptr;
+  int socket_ = -1, status_ = 0;
+  pid_t child_ = -1;
+};
+}  // namespace wishkabe
