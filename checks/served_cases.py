@@ -12,6 +12,8 @@ from journal_file import granted, journal
 from served import Server, within
 
 HERE = pathlib.Path(__file__).resolve().parent
+# How many bytes the server reads at once, and how many lines share their syncs.
+PIECE_BYTES, GROUP_LINES = 65_536, 512
 # Lines with their replies on the cell of two machines, from the empty cell on.
 TALK = [
     ("1 load 7 A", "granted"),
@@ -341,8 +343,9 @@ def order_of_writes(wrong, cell, folder):
         grants = len(cell.entries(file))
         stable, syncs = stable_before_told(trace.read_text(), text, 13 + len(cell.text))
         wrong.see(f"{name}: each grant is stable before it is told", stable, grants)
-        pieces = -(-len(lines) // 4096)
-        wrong.see(f"{name}: {grants} grants in {pieces} pieces share {syncs} syncs", syncs, 2 * pieces)
+        pieces = [lines[at : at + PIECE_BYTES].count(b"\n") for at in range(0, len(lines), PIECE_BYTES)]
+        groups = sum(-(-count // GROUP_LINES) for count in pieces)
+        wrong.see(f"{name}: {grants} grants in {groups} groups share {syncs} syncs", syncs, 2 * groups)
 
 
 def stable_before_told(trace, text, gate):

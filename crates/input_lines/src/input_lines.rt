@@ -15,7 +15,7 @@ use std::marker::Model;
 pub const LINE_KEPT: usize = 65;
 
 // How many bytes are asked for at a time: as many as a pipe gives at once.
-const PIECE_BYTES: usize = 4096;
+const PIECE_BYTES: usize = 65_536;
 
 /// The line at hand, the bytes of the line that has begun, and the bytes after these that were read.
 #[derive(Drop)]

@@ -131,21 +131,21 @@ impl<D: Disk> LiveCell<D> {
         ensures granted { OnErr result (reply_to self.old.cell self.old.parts request.now ≡ Granted) }
         ensures same { OnErr result (self.new ≡ self.old) }
     {
-        match self.core.decide(request) {
-            Reply::Granted => {
-                if self.journal.len() + self.group.grants().len() as u64 >= self.room {
-                    return Err(JournalFull);
-                }
-                self.group.push(&Grant {
-                    shift: 0,
-                    session,
-                    request: *request,
-                });
-                self.core.apply(request);
-                Ok(Reply::Granted)
-            }
-            Reply::Refused(why) => Ok(Reply::Refused(why)),
+        if self.journal.len() + self.group.grants().len() as u64 >= self.room {
+            return match self.core.decide(request) {
+                Reply::Granted => Err(JournalFull),
+                Reply::Refused(why) => Ok(Reply::Refused(why)),
+            };
         }
+        let reply = self.core.ask(request);
+        if let Reply::Granted = reply {
+            self.group.push(&Grant {
+                shift: 0,
+                session,
+                request: *request,
+            });
+        }
+        Ok(reply)
     }
 
     /// Makes the pending grants stable, by as many calls of the device as one takes, and by none where there is none. At `Ok` each
