@@ -19,13 +19,16 @@ use Rattle.cell_base.specs.Scripts.{Progress, script_of}
 use Rattle.policy_laws.specs.Decisions.{is_saturation}
 use Rattle.policy_laws.proofs.Lists.{All-found}
 use Rattle.solo_rounds.specs.Underway.{IsWithinScript, script_asks_left}
-use Rattle.wait_board.specs.declared.waiter.Waiter.{Waiter}
+use Rattle.wait_queue.specs.declared.waiter.Waiter.{Waiter}
 use Rattle.wait_board.specs.declared.entries.BoardTold.TheVariants as told
 use Rattle.wait_board.specs.declared.entries.BoardEntry.{BoardEntry}
-use Rattle.wait_board.specs.Boards.{OnBoard, asks_of, board, after_wait, end_of_wait, entry, is_answer, is_ready, with_waiter}
-use Rattle.wait_board.specs.Boards.{noted, renewed, scan_within, all_renewed, told_on, waiter_of, without_first}
+use Rattle.wait_board.specs.Boards.{OnBoard, asks_of, board, after_wait, end_of_wait, entry, is_answer, with_waiter}
+use Rattle.wait_board.specs.Boards.{noted, scan_within, all_renewed, told_on}
+use Rattle.wait_queue.specs.Waiting.{is_ready, renewed, waiter_of, without_first}
 use Rattle.wait_board.specs.BoardState.{AreApart, IsOther}
-use Rattle.wait_board.proofs.Firsts.{All-without, length-without, pairs-head, pairs-map, pairs-tail, pairs-without}
+use Rattle.wait_queue.proofs.Looks.{without-all}
+use Rattle.wait_queue.proofs.Scanning.{length-without}
+use Rattle.wait_board.proofs.Pairs.{pairs-head, pairs-map, pairs-tail, pairs-without}
 use Rattle.wait_board.proofs.Room.{others_wait}
 use Rattle.board_rounds.specs.Rounds.{progress_in, reply_in}
 use Rattle.board_rounds.specs.Underway.{HasStep, IsGoing, left_in}
@@ -131,7 +134,7 @@ module _ (shift : Shift) where
           apart = pairs-without test IsOther on.waiters going.apart;
           within = within-last shift history e reply (ended_reply reply) has going.within;
           waiting = others_wait_on history e (without_first test on.waiters) (others_apart test on.waiters w going.apart some)
-              (All-without test (Waits history) on.waiters going.waiting);
+              (without-all test (Waits history) on.waiters going.waiting);
           sessions = all_sessions history e going.sessions has.known;
           few = omega (arith, going.few, asks, one, left-falls shift history e reply (ended_reply reply) has);
           room = omega (arith, going.room, asks, one, length-append history (e ∷ []));

@@ -22,9 +22,10 @@ use Rattle.solo_rounds.proofs.Ends.{same_everywhere}
 use Rattle.policy_laws.specs.Decisions.{is_saturation}
 use Rattle.wait_board.specs.declared.entries.BoardTold.TheVariants as told
 use Rattle.wait_board.specs.declared.entries.BoardEntry.{BoardEntry}
-use Rattle.wait_board.specs.declared.waiter.Waiter.{Waiter}
-use Rattle.wait_board.specs.Boards.{OnBoard, asks_of, board, after_wait, end_of_wait, entry, is_ready}
-use Rattle.wait_board.specs.Boards.{with_waiter, noted, opened, scan_within, all_renewed, told_on, waiter_of}
+use Rattle.wait_queue.specs.declared.waiter.Waiter.{Waiter}
+use Rattle.wait_board.specs.Boards.{OnBoard, asks_of, board, after_wait, end_of_wait, entry}
+use Rattle.wait_board.specs.Boards.{with_waiter, noted, opened, scan_within, all_renewed, told_on}
+use Rattle.wait_queue.specs.Waiting.{is_ready, waiter_of}
 use Rattle.wait_board.specs.BoardState.{BoardState}
 use Rattle.wait_board.proofs.Asks.{board-asks}
 use Rattle.board_rounds.specs.Rounds.{present_step, progress_in, queue_run, round, rounds}

@@ -16,7 +16,8 @@ use Rattle.cell_base.specs.Scripts.{Progress, begin_at, progress_after, script_o
 use Rattle.wait_board.specs.declared.entries.BoardTold.{BoardTold}
 use Rattle.wait_board.specs.declared.entries.BoardTold.TheVariants as told
 use Rattle.wait_board.specs.declared.entries.BoardEntry.{BoardEntry}
-use Rattle.wait_board.specs.Boards.{OnBoard, board, opened, waiter_of}
+use Rattle.wait_queue.specs.Waiting.{waiter_of}
+use Rattle.wait_board.specs.Boards.{OnBoard, board, opened}
 
 -- the reply to a session's present step that an entry tells; that it waits is none yet
 abbrev pub reply_in : BoardTold → Option Reply

@@ -7,7 +7,7 @@ use Rattle.cell_base.specs.Fits.{ShiftFits, steps_of}
 use Rattle.cell_base.specs.Rounds.{IsSession}
 use Rattle.cell_base.specs.Scripts.{Progress, script_of}
 use Rattle.solo_rounds.specs.Underway.{IsWithinScript, script_asks_left, progress_at}
-use Rattle.wait_board.specs.declared.waiter.Waiter.{Waiter}
+use Rattle.wait_queue.specs.declared.waiter.Waiter.{Waiter}
 use Rattle.wait_board.specs.declared.entries.BoardEntry.{BoardEntry}
 use Rattle.wait_board.specs.Boards.{OnBoard, asks_of}
 use Rattle.wait_board.specs.BoardState.{AreApart, BoardState}

@@ -12,7 +12,8 @@ use Rattle.wait_board.specs.declared.entries.BoardTold.{BoardTold}
 use Rattle.wait_board.specs.declared.entries.BoardTold.TheVariants as told
 use Rattle.wait_board.specs.declared.entries.BoardEntry.{BoardEntry}
 use Rattle.policy_laws.specs.Decisions.{is_saturation}
-use Rattle.wait_board.specs.Boards.{OnBoard, entry, is_ready, is_answer, end_of_wait, after_wait, all_renewed}
+use Rattle.wait_board.specs.Boards.{OnBoard, entry, is_answer, end_of_wait, after_wait, all_renewed}
+use Rattle.wait_queue.specs.Waiting.{is_ready}
 use Rattle.wait_board.specs.Boards.{scan_within, noted, with_waiter, told_on, board, asks_of, asked_in_turn}
 
 -- the end of a wait is no ask

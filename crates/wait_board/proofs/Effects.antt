@@ -9,11 +9,12 @@ use Rattle.cell_base.specs.declared.requests.Reply.{Reply}
 use Rattle.cell_base.specs.declared.requests.Reply.TheVariants.{Granted, Refused}
 use Rattle.cell_base.specs.Outcomes.{reply_to, state_after}
 use Rattle.policy_laws.specs.Laws.{RefusalLaw}
-use Rattle.wait_board.specs.declared.waiter.Waiter.{Waiter}
+use Rattle.wait_queue.specs.declared.waiter.Waiter.{Waiter}
 use Rattle.wait_board.specs.declared.entries.BoardTold.TheVariants as told
 use Rattle.wait_board.specs.declared.entries.BoardEntry.{BoardEntry}
 use Rattle.policy_laws.specs.Decisions.{is_saturation}
-use Rattle.wait_board.specs.Boards.{OnBoard, entry, is_ready, end_of_wait, after_wait, all_renewed}
+use Rattle.wait_board.specs.Boards.{OnBoard, entry, end_of_wait, after_wait, all_renewed}
+use Rattle.wait_queue.specs.Waiting.{is_ready}
 use Rattle.wait_board.specs.Boards.{scan_within, noted, with_waiter, told_on, board, takes_effect, parts_after}
 
 module _ (cell : Cell) (law : RefusalLaw cell) (first : List Part) where

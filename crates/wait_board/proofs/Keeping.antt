@@ -13,10 +13,11 @@ use Rattle.cell_base.specs.Outcomes.{reply_to, state_after}
 use Rattle.cell_base.specs.Policy.{IsAdmitted}
 use Rattle.policy_laws.specs.Laws.{RefusalLaw}
 use Rattle.policy_laws.proofs.Admission.{admission_law}
-use Rattle.wait_board.specs.declared.waiter.Waiter.{Waiter}
+use Rattle.wait_queue.specs.declared.waiter.Waiter.{Waiter}
 use Rattle.wait_board.specs.declared.entries.BoardTold.TheVariants as told
 use Rattle.policy_laws.specs.Decisions.{is_saturation}
-use Rattle.wait_board.specs.Boards.{OnBoard, noted, with_waiter, told_on, board, waiter_of}
+use Rattle.wait_board.specs.Boards.{OnBoard, noted, with_waiter, told_on, board}
+use Rattle.wait_queue.specs.Waiting.{waiter_of}
 use Rattle.wait_board.specs.BoardState.{IsWaiting, IsOther, AreApart, KeepsBoard}
 use Rattle.wait_board.proofs.Scans.{full, Stands, scan-settled}
 use Rattle.wait_board.proofs.Asks.{asked_on}

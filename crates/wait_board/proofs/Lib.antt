@@ -1,7 +1,8 @@
 -- The lemmas, by what they are about.
-pub mod Firsts
+pub mod Pairs
 pub mod Scans
 pub mod Steps
+pub mod Serving
 pub mod Asks
 pub mod Effects
 pub mod Room

@@ -10,10 +10,11 @@ use Rattle.std.proofs.lemmas.List.Kept.{AllPairs-cons}
 use Rattle.std.proofs.lemmas.Map.Made.{IsDistinct-from_AllPairs}
 use Rattle.std.proofs.lemmas.Map.Steps.{length-le_from_distinct_below}
 use Rattle.cell_base.specs.Fits.{IsWithin}
-use Rattle.wait_board.specs.declared.waiter.Waiter.{Waiter}
-use Rattle.wait_board.specs.Boards.{waiter_of}
+use Rattle.wait_queue.specs.declared.waiter.Waiter.{Waiter}
+use Rattle.wait_queue.specs.Waiting.{waiter_of}
 use Rattle.wait_board.specs.BoardState.{IsOther, AreApart}
-use Rattle.wait_board.proofs.Firsts.{each_fails, pairs-map}
+use Rattle.cell_base.proofs.Elements.{All-find_none}
+use Rattle.wait_board.proofs.Pairs.{pairs-map}
 
 same : (a b : ℕ) → eqb a b ≡ true → a ≡ b
 same a b is = ⊎_elim (λ (yes : (eqb a b ≡ true) × (a ≡ b)). yes.1)
@@ -31,7 +32,7 @@ below n (x ∷ xs) all q =
 -- a session that doesn't wait is no waiter's
 pub others_wait : (ws : List Waiter) (session : ℕ) → waiter_of ws session ≡ None → All (λ (w : Waiter). w.session ≢ session) ws
 others_wait ws session none k d within =
-    eqb-false (get_or ws k d).session session (each_fails (λ (w : Waiter). w.session == session) ws none k d within)
+    eqb-false (get_or ws k d).session session (All-find_none (λ (w : Waiter). w.session == session) ws none k d within)
 
 -- 0, the session and those of the waiters are different numbers, at most the number of sessions
 pub fewer : (ws : List Waiter) (sessions session : ℕ) → All (λ (w : Waiter). IsWithin 1 sessions w.session) ws → AreApart ws

@@ -16,12 +16,15 @@ use Rattle.cell_base.specs.Outcomes.{reply_to}
 use Rattle.cell_base.specs.Policy.{IsAdmitted}
 use Rattle.policy_laws.proofs.Admission.{admission_law, saturation_law}
 use Rattle.policy_laws.proofs.Lists.{All-found}
-use Rattle.wait_board.specs.declared.waiter.Waiter.{Waiter}
+use Rattle.wait_queue.specs.declared.waiter.Waiter.{Waiter}
 use Rattle.policy_laws.specs.Decisions.{is_saturation, is_saturated}
-use Rattle.wait_board.specs.Boards.{OnBoard, is_ready, without_first, after_wait}
-use Rattle.wait_board.specs.Boards.{refusal_in, renewed, all_renewed, scan_within, scan}
+use Rattle.wait_queue.specs.Waiting.{is_ready, refusal_in, renewed, without_first}
+use Rattle.wait_queue.proofs.Looks.{without-all}
+use Rattle.wait_queue.proofs.Scanning.{length-without}
+use Rattle.wait_board.specs.Boards.{OnBoard, after_wait, all_renewed, scan_within, scan}
 use Rattle.wait_board.specs.BoardState.{IsFullFor, IsWaiting, IsOther, AreApart}
-use Rattle.wait_board.proofs.Firsts.{length-without, each_fails, All-without, pairs-without, pairs-map}
+use Rattle.cell_base.proofs.Elements.{All-find_none}
+use Rattle.wait_board.proofs.Pairs.{pairs-without, pairs-map}
 
 false-true : {A : Type 0} → false ≡ true → A
 false-true e = absurd (let h : false ≡ true = e in cc)
@@ -99,7 +102,7 @@ module _ (cell : Cell) where
       stands-decided on w stands some = record {
         admitted = (admission_law cell fits on.parts stands.admitted).request w.request
             (All-found Stays (is_ready cell on.parts) on.waiters w stands.stay some).request;
-        stay = All-without (is_ready cell on.parts) Stays on.waiters stands.stay;
+        stay = without-all (is_ready cell on.parts) Stays on.waiters stands.stay;
         apart = pairs-without (is_ready cell on.parts) IsOther on.waiters stands.apart;
       }
 
@@ -108,7 +111,7 @@ module _ (cell : Cell) where
         admitted = stands.admitted;
         waiting = All-map (IsWaiting cell on.parts sessions) (renewed cell on.parts) on.waiters (λ k d within.
             waits on.parts (get_or on.waiters k d) stands.admitted (stands.stay k d within)
-            (each_fails (is_ready cell on.parts) on.waiters none k d within));
+            (All-find_none (is_ready cell on.parts) on.waiters none k d within));
         apart = pairs-map IsOther IsOther (renewed cell on.parts) (λ a b other. other) on.waiters stands.apart;
       }
 

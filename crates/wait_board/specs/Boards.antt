@@ -1,5 +1,5 @@
 -- What stands on a board, and what an ask makes of it.
-use Rattle.std.specs.Prelude.{ℕ, zero, suc, ◌==◌, Bool, true, false, not, if◌then◌else◌, Option, List, [], ◌∷◌, ◌++◌, length, map}
+use Rattle.std.specs.Prelude.{ℕ, zero, suc, Bool, true, false, if◌then◌else◌, List, [], ◌∷◌, ◌++◌, length, map}
 use Rattle.std.specs.List.{find, filter}
 use Rattle.std.specs.Option.{option_map_or}
 use Rattle.cell_base.specs.declared.cells.Cell.{Cell}
@@ -9,8 +9,9 @@ use Rattle.cell_base.specs.declared.requests.Refusal.{Refusal}
 use Rattle.cell_base.specs.declared.requests.Reply.{Reply}
 use Rattle.cell_base.specs.declared.requests.Reply.TheVariants.{Granted, Refused}
 use Rattle.cell_base.specs.Outcomes.{reply_to, state_after}
-use Rattle.policy_laws.specs.Decisions.{is_saturation, is_saturated}
-use Rattle.wait_board.specs.declared.waiter.Waiter.{Waiter}
+use Rattle.policy_laws.specs.Decisions.{is_saturation}
+use Rattle.wait_queue.specs.declared.waiter.Waiter.{Waiter}
+use Rattle.wait_queue.specs.Waiting.{is_ready, renewed, without_first}
 use Rattle.wait_board.specs.declared.entries.BoardReply.{BoardReply}
 use Rattle.wait_board.specs.declared.entries.BoardReply.TheVariants as answers
 use Rattle.wait_board.specs.declared.entries.BoardTold.{BoardTold}
@@ -27,15 +28,6 @@ pub record OnBoard : Type 0 where
 abbrev pub entry : ℕ → Request → BoardTold → BoardEntry
 entry session request told = record { session = session; request = request; told = told }
 
--- the waiter's request is no longer saturated
-abbrev pub is_ready : Cell → List Part → Waiter → Bool
-is_ready cell parts waiter = not (is_saturated (reply_to cell parts waiter.request))
-
--- the waiters without the first one that passes the test
-abbrev pub without_first : (Waiter → Bool) → List Waiter → List Waiter
-without_first test [] = []
-without_first test (waiter ∷ waiters) = if test waiter then waiters else waiter ∷ without_first test waiters
-
 -- what a reply tells one that waited
 abbrev pub end_of_wait : Reply → BoardTold
 end_of_wait Granted = told.Served
@@ -48,15 +40,6 @@ after_wait cell on waiter = record {
   waiters = without_first (is_ready cell on.parts) on.waiters;
   history = on.history ++ entry waiter.session waiter.request (end_of_wait (reply_to cell on.parts waiter.request)) ∷ [];
 }
-
--- the refusal of a reply, or the old one
-abbrev pub refusal_in : Reply → Refusal → Refusal
-refusal_in Granted old = old
-refusal_in (Refused why) old = why
-
--- a waiter keeps the refusal of its request
-abbrev pub renewed : Cell → List Part → Waiter → Waiter
-renewed cell parts waiter = record waiter { refusal = refusal_in (reply_to cell parts waiter.request) waiter.refusal }
 
 -- where nobody is ready each waiter keeps its refusal
 abbrev pub all_renewed : Cell → OnBoard → OnBoard
@@ -129,7 +112,3 @@ parts_after cell parts (entry ∷ entries) =
 abbrev pub asked_in_turn : Cell → OnBoard → List BoardEntry → OnBoard
 asked_in_turn cell on [] = on
 asked_in_turn cell on (ask ∷ asks) = asked_in_turn cell (board cell on ask.session ask.request) asks
-
--- the waiter of a session
-abbrev pub waiter_of : List Waiter → ℕ → Option Waiter
-waiter_of waiters session = find (λ waiter. waiter.session == session) waiters

@@ -1,3 +1,4 @@
 -- What the contracts cite.
 pub mod Boards
 pub mod BoardState
+pub mod Laws

@@ -1,30 +1,31 @@
 //! The board.
-ghost use Rattle.std.specs.Prelude.{◌≡◌, ◌<◌, ◌≤◌, None, [], length, IfOk, IfErr, vec_capacity};
+ghost use Rattle.std.specs.Prelude.{◌≡◌, ◌<◌, ◌≤◌, None, [], length, IfOk, IfErr};
 ghost use Rattle.cell_base.specs.Fits.{RequestFits, IsWithin};
-ghost use Rattle.wait_board.specs.Boards.{waiter_of};
+ghost use Rattle.wait_queue.specs.Waiting.{waiter_of};
 ghost use Rattle.wait_board.specs.BoardState.{AnswersTry, IsBoardAsked, IsNewBoard, KeepsBoard};
 
 use crate::asking::ask;
-use crate::waiter::waiter_of;
 use crate::{BoardEntry, BoardFault, BoardReply, Waiter};
 use admission_core::Core;
 use cell_base::{List, NoMemory, Part, Request, Shelf};
 use policy_laws::refusal_law;
 use std::alloc::Global;
 use std::marker::Model;
+use wait_queue::WaitQueue;
 
 /// A core and the sessions that wait for room in it. Contracts see it as a `BoardState`. All memory is taken at the opening.
 #[derive(Drop)]
 pub struct Board {
     core: Core,
     opening: List<Part>,
-    waiters: Vec<Waiter>,
+    waiters: WaitQueue,
     history: Shelf<BoardEntry>,
     sessions: u16,
 }
 
 impl Model for Board {
-    ghost use Rattle.std.specs.Prelude.{◌≤◌, vec_capacity};
+    ghost use Rattle.std.specs.Prelude.{◌≤◌};
+    ghost use Rattle.wait_queue.specs.Watching.{AreWatching};
     ghost use Rattle.wait_board.specs.BoardState.{BoardState, on_board, KeepsBoard};
 
     ghost Value = { BoardState };
@@ -32,7 +33,7 @@ impl Model for Board {
     ghost view = { λ s. record {
       cell = s.core.cell;
       opening = s.opening;
-      on = on_board s.core s.waiters.items s.history.items;
+      on = on_board s.core s.waiters.waiters s.history.items;
       spare = s.history.spare;
       sessions = s.sessions;
     } };
@@ -40,29 +41,29 @@ impl Model for Board {
     ghost invariant = { λ s. KeepsBoard (record {
       cell = s.core.cell;
       opening = s.opening;
-      on = on_board s.core s.waiters.items s.history.items;
+      on = on_board s.core s.waiters.waiters s.history.items;
       spare = s.history.spare;
       sessions = s.sessions;
     })
-        × (s.sessions ≤ vec_capacity s.waiters) };
+        × (AreWatching s.core.cell s.core.parts s.waiters.waiters s.waiters.watches × (s.sessions ≤ s.waiters.room)) };
 }
 
 // The memory of a board.
 struct Memory {
     opening: List<Part>,
-    waiters: Vec<Waiter>,
+    waiters: WaitQueue,
     history: Shelf<BoardEntry>,
 }
 
 // A copy of the parts, and room for the waiters and for so many entries.
 fn reserve(alloc: Global, core: &Core, sessions: u16, room: u64) -> Result<Memory, NoMemory>
     ensures opening { IfOk result (λ memory. memory.opening ≡ core.now.parts) }
-    ensures waiters { IfOk result (λ memory. (memory.waiters.items ≡ []) × (sessions ≤ vec_capacity memory.waiters)) }
+    ensures waiters { IfOk result (λ memory. memory.waiters ≡ record { waiters = []; watches = []; room = sessions }) }
     ensures history { IfOk result (λ memory. (memory.history.items ≡ []) × (room ≤ memory.history.spare)) }
 {
     Ok(Memory {
         opening: core.parts(alloc)?,
-        waiters: Vec::with_capacity(alloc, sessions as usize)?,
+        waiters: WaitQueue::with_room(alloc, sessions)?,
         history: Shelf::with_room(alloc, room)?,
     })
 }
@@ -143,14 +144,14 @@ impl Board {
         ensures waiters { result.now ≡ self.now.on.waiters }
         ensures kept { KeepsBoard self.now }
     {
-        &self.waiters
+        self.waiters.waiting()
     }
 
     /// The waiter of a session, None exactly where it does not wait.
     pub fn waiter_of(&self, session: u16) -> Option<Waiter>
         ensures { result ≡ waiter_of self.now.on.waiters session }
     {
-        waiter_of(&self.waiters, session)
+        self.waiters.waiter_of(session)
     }
 
     /// What was told since the opening, in its order.
