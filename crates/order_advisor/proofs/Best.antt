@@ -17,8 +17,9 @@ use Rattle.cell_base.specs.declared.cells.Cell.{Cell}
 use Rattle.cell_base.specs.Masks.{has_bit}
 use Rattle.order_advisor.specs.declared.advice.Advice.{Advice}
 use Rattle.order_advisor.specs.Advices.{IsBest}
-use Rattle.order_advisor.specs.Orders.{weight, own_weight, members_under, IsOrderList, ComesBefore}
-use Rattle.order_advisor.specs.Sets.{first_orders, added, hex, order_in, KnowsLeast}
+use Rattle.order_advisor.specs.declared.weighing.Weighing.{Weighing}
+use Rattle.order_advisor.specs.Orders.{weight, own_weight, weight_under, unit_weight, IsOrderList, ComesBefore}
+use Rattle.order_advisor.specs.Sets.{first_orders, added_weight, hex, order_in, KnowsLeast}
 use Rattle.policy_laws.proofs.Totals.{total, total-le}
 use Rattle.order_advisor.proofs.Sums.{total-same, total-add, total-times, total-at}
 use Rattle.order_advisor.proofs.Digits.{numeral, numeral-total, numeral-less, numeral-same, numeral_digit, numeral_cut}
@@ -26,10 +27,10 @@ use Rattle.order_advisor.proofs.Ties.{members_no_more, weight-total}
 use Rattle.order_advisor.proofs.Rankings.{below, below-bit, below-all, IsRanking, size-le, size-lt, cost_in}
 use Rattle.order_advisor.proofs.Rankings.{cost_below, costs-le, attained, Attains}
 
-module _ (cell : Cell) (n : ℕ) (is_count : n ≡ length cell.resources) where
-  -- what resource r adds in a ranking
+module _ (weighing : Weighing) (cell : Cell) (n : ℕ) (is_count : n ≡ length cell.resources) where
+  -- what the stages weigh that lead to resource r in a ranking
   abbrev adds : (ℕ → ℕ) → ℕ → ℕ
-  adds o r = added cell r (below n o (suc (o r)))
+  adds o r = added_weight weighing cell r (below n o (suc (o r)))
 
   first_at : (set q : ℕ) → q < n → get_or (first_orders cell set) q 0 ≡ cond (has_bit set q) 0 1
   first_at set q within =
@@ -52,49 +53,51 @@ module _ (cell : Cell) (n : ℕ) (is_count : n ≡ length cell.resources) where
 
   -- no more than under orders that allow as much, and no less than under orders that allow no more
   adds-le : (o : ℕ → ℕ) (others : List ℕ) (r : ℕ) → r < n → ((q : ℕ) → q < n → o q ≤ o r → get_or others q 0 ≤ get_or others r 0)
-      → adds o r ≤ members_under cell others r
+      → adds o r ≤ weight_under weighing cell others r
   adds-le o others r within allows =
-      members_no_more cell r (omega arith) (first_orders cell (below n o (suc (o r)))) others
+      mul-le-mul_right (unit_weight weighing cell r)
+      (members_no_more cell r (omega arith) (first_orders cell (below n o (suc (o r)))) others
       (λ q h at_most. allows q (omega arith) (first-less o r q (omega arith) (omega (
         arith,
         at_most,
         first-here o r r within
             (omega arith),
-      ))))
+      )))))
 
   adds-ge : (o : ℕ → ℕ) (others : List ℕ) (r : ℕ) → r < n → ((q : ℕ) → q < n → get_or others q 0 ≤ get_or others r 0 → o q ≤ o r)
-      → members_under cell others r ≤ adds o r
+      → weight_under weighing cell others r ≤ adds o r
   adds-ge o others r within allows =
-      members_no_more cell r (omega arith) others (first_orders cell (below n o (suc (o r))))
-      (λ q h at_most. omega (arith, first-here o r q (omega arith) (allows q (omega arith) at_most)))
+      mul-le-mul_right (unit_weight weighing cell r)
+      (members_no_more cell r (omega arith) others (first_orders cell (below n o (suc (o r))))
+      (λ q h at_most. omega (arith, first-here o r q (omega arith) (allows q (omega arith) at_most))))
 
-  weight-of : (others : List ℕ) → weight cell others ≡ total (members_under cell others) n
-  weight-of others = weight-total cell others ∙ ap (total (members_under cell others)) (sym is_count)
+  weight-of : (others : List ℕ) → weight weighing cell others ≡ total (weight_under weighing cell others) n
+  weight-of others = weight-total cell weighing others ∙ ap (total (weight_under weighing cell others)) (sym is_count)
 
   -- the weight of a list that ranks as o does
   weight-ranked : (o : ℕ → ℕ) (others : List ℕ) → ((q r : ℕ) → q < n → r < n → o q ≤ o r → get_or others q 0 ≤ get_or others r 0)
-      → ((q r : ℕ) → q < n → r < n → get_or others q 0 ≤ get_or others r 0 → o q ≤ o r) → weight cell others ≡ total (adds o) n
+      → ((q r : ℕ) → q < n → r < n → get_or others q 0 ≤ get_or others r 0 → o q ≤ o r) → weight weighing cell others ≡ total (adds o) n
   weight-ranked o others there back =
       weight-of others
-      ∙ total-same (members_under cell others) (adds o) n
+      ∙ total-same (weight_under weighing cell others) (adds o) n
       (λ r h. let least = adds-le o others r h (λ q inside. there q r inside h) in
       let most = adds-ge o others r h (λ q inside. back q r inside h) in
       omega (arith, least, most))
 
   -- the cost of a whole ranking is a number with the places as digits
-  cost-whole : (o place : ℕ → ℕ) (k : ℕ) → ((q : ℕ) → q < n → o q < k) → cost_below cell n o place k ≡ numeral (total (adds o) n) place n
+  cost-whole : (o place : ℕ → ℕ) (k : ℕ) → ((q : ℕ) → q < n → o q < k) → cost_below weighing cell n o place k ≡ numeral (total (adds o) n) place n
   cost-whole o place k all =
       let none : n - n ≡ 0 = omega arith in
       let unit : numeral (total (adds o) n) place n * hex (n - n) ≡ numeral (total (adds o) n) place n * 1 = ap (λ j. numeral (total
       (adds o) n) place n * hex j) none in
       let sum = numeral-total (total (adds o) n) place n n (omega arith) in
       let weights = total-times (adds o) (hex n) n in
-      total-same (λ q. cond (nat_lt (o q) k) (cost_in cell n o place q) 0) (cost_in cell n o place) n
-      (λ q h. ap (λ b. cond b (cost_in cell n o place q) 0) (lt-ltb (o q) k (all q h)))
+      total-same (λ q. cond (nat_lt (o q) k) (cost_in weighing cell n o place q) 0) (cost_in weighing cell n o place) n
+      (λ q h. ap (λ b. cond b (cost_in weighing cell n o place q) 0) (lt-ltb (o q) k (all q h)))
       ∙ total-add (λ q. adds o q * hex n) (λ q. place q * hex (n - 1 - q)) n
       ∙ omega (arith, unit, sum, weights)
 
-  module _ (few : n ≤ 16) (costs : List ℕ) (known : KnowsLeast cell n (2 ^ n) costs) where
+  module _ (few : n ≤ 16) (costs : List ℕ) (known : KnowsLeast weighing cell n (2 ^ n) costs) where
     abbrev pub least_cost : ℕ
     least_cost = get_or costs (2 ^ n - 1) 0
 
@@ -104,20 +107,20 @@ module _ (cell : Cell) (n : ℕ) (is_count : n ≡ length cell.resources) where
     least-le o place ranking behind k all =
         omega (
           arith,
-          costs-le cell n costs known o place ranking behind k,
+          costs-le weighing cell n costs known o place ranking behind k,
           ap (λ set. get_or costs set 0)
               (below-all n o k all),
           cost-whole o place k all,
         )
 
     -- the ranking that has this cost
-    some_ranking : (o : ℕ → ℕ) × (k : ℕ) × Attains cell n costs known (2 ^ n - 1) o k
-    some_ranking = attained cell n costs known (2 ^ n) (2 ^ n - 1) below_power below_power
+    some_ranking : (o : ℕ → ℕ) × (k : ℕ) × Attains weighing cell n costs known (2 ^ n - 1) o k
+    some_ranking = attained weighing cell n costs known (2 ^ n) (2 ^ n - 1) below_power below_power
       where
         below_power : 2 ^ n - 1 < 2 ^ n
         below_power = omega (arith, pow_mono {i = 0} {j = n} (omega arith))
 
-    module _ (o : ℕ → ℕ) (k : ℕ) (best : Attains cell n costs known (2 ^ n - 1) o k) where
+    module _ (o : ℕ → ℕ) (k : ℕ) (best : Attains weighing cell n costs known (2 ^ n - 1) o k) where
       numbered : (q : ℕ) → q < n → o q < k
       numbered q within = ltb-true (o q) k
           (sym (below-bit n o k q within) ∙ ap (λ m. has_bit m q) best.is ∙ ap (λ x. nat_eq x 1) (bit_at_ones n q within))
@@ -158,12 +161,12 @@ module _ (cell : Cell) (n : ℕ) (is_count : n ≡ length cell.resources) where
           different = λ q r h within same. ranking q r h within (omega (arith, order-at q h, order-at r within, same));
         }
 
-        weight-adds : weight cell orders ≡ total (adds o) n
+        weight-adds : weight weighing cell orders ≡ total (adds o) n
         weight-adds = weight-ranked o orders
             (λ q r h within at_most. omega (arith, order-at q h, order-at r within, at_most))
             (λ q r h within at_most. omega (arith, order-at q h, order-at r within, at_most))
 
-        pub weighs : least_cost / hex n ≡ weight cell orders
+        pub weighs : least_cost / hex n ≡ weight weighing cell orders
         weighs =
             let whole : n ≡ 0 + n = omega arith in
             ap (λ c. c / hex n) is_numeral
@@ -186,12 +189,12 @@ module _ (cell : Cell) (n : ℕ) (is_count : n ≡ length cell.resources) where
               (λ h. h)
               (cases_lt (get_or others r 0) (get_or others q 0))
 
-          lesser_weight : total (adds broken) n ≤ weight cell others
+          lesser_weight : total (adds broken) n ≤ weight weighing cell others
           lesser_weight =
               omega (
                 arith,
                 weight-of others,
-                total-le (adds broken) (members_under cell others) n (λ r h. adds-le broken others r h
+                total-le (adds broken) (weight_under weighing cell others) n (λ r h. adds-le broken others r h
                     (λ q inside. broken-le q r inside h)),
               )
 
@@ -202,7 +205,7 @@ module _ (cell : Cell) (n : ℕ) (is_count : n ≡ length cell.resources) where
           below_broken = least-le broken sizes broken-ranking (λ r h. omega arith) (suc (total broken n))
               (λ q h. omega (arith, total-at broken n q h))
 
-          pub least : least_cost / hex n ≤ weight cell others
+          pub least : least_cost / hex n ≤ weight weighing cell others
           least = ⊎_elim
               (λ (less : total (adds broken) n < total (adds o) n).
               let lower = numeral-less (total (adds broken) n) (total (adds o) n) sizes o 0 n
@@ -212,7 +215,7 @@ module _ (cell : Cell) (n : ℕ) (is_count : n ≡ length cell.resources) where
               (cases_lt (total (adds broken) n) (total (adds o) n))
 
         -- of the lists that weigh as little none comes before
-        module _ (others : List ℕ) (listed : IsOrderList n others) (as_little : weight cell others ≡ least_cost / hex n) where
+        module _ (others : List ℕ) (listed : IsOrderList n others) (as_little : weight weighing cell others ≡ least_cost / hex n) where
           abbrev other_place : ℕ → ℕ
           other_place q = get_or others q 0 - 1
 
@@ -253,15 +256,15 @@ module _ (cell : Cell) (n : ℕ) (is_count : n ≡ length cell.resources) where
                   omega (arith, lower, below_other, is_numeral)
 
     pub is_best : (advice : Advice) → advice.orders ≡ map (order_in n least_cost) (range_with_len 0 n) → advice.weight ≡ least_cost / hex n
-        → advice.given ≡ own_weight cell → IsBest cell advice
+        → advice.given ≡ own_weight weighing cell → IsBest weighing cell advice
     is_best advice read weighed given = at some_ranking.0 some_ranking.1 some_ranking.2
       where
-        at : (o : ℕ → ℕ) (k : ℕ) → Attains cell n costs known (2 ^ n - 1) o k → IsBest cell advice
+        at : (o : ℕ → ℕ) (k : ℕ) → Attains weighing cell n costs known (2 ^ n - 1) o k → IsBest weighing cell advice
         at o k best = record {
           numbers = subst (λ m. IsOrderList m advice.orders) is_count (numbers o k best advice.orders read);
           weighs = weighed ∙ weighs o k best advice.orders read;
           given = given;
-          least = λ others. subst (λ w. w ≤ weight cell others) (sym weighed) (least o k best advice.orders read others);
+          least = λ others. subst (λ w. w ≤ weight weighing cell others) (sym weighed) (least o k best advice.orders read others);
           first = λ others listed as_little.
               first o k best advice.orders read others (subst (λ m. IsOrderList m others) (sym is_count) listed) (as_little ∙ weighed);
         }

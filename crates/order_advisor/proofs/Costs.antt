@@ -7,6 +7,7 @@ use Rattle.std.proofs.Math.Pow.{pow_mono}
 use Rattle.std.proofs.lemmas.Bool.{cases_eq}
 use Rattle.cell_base.specs.declared.cells.Cell.{Cell}
 use Rattle.cell_base.specs.Masks.{has_bit}
+use Rattle.order_advisor.specs.declared.weighing.Weighing.{Weighing}
 use Rattle.order_advisor.specs.Sets.{members_of, hex, cost, most_cost, last_cost, KnowsLeast}
 use Rattle.order_advisor.proofs.Masks.{mask_by, mask_by-same, members_of-total}
 use Rattle.order_advisor.proofs.Digits.{hex-le}
@@ -18,9 +19,9 @@ members_of-next r set =
     ap (λ n. members_of n set) next ∙ members_of-total (suc r) set
     ∙ ap (λ m. m + cond (has_bit set r) 1 0) (sym (members_of-total r set))
 
-pub cost-small : (n r members place : ℕ) → members ≤ 4096 → place ≤ 16 → cost n r members place ≤ most_cost n
-cost-small n r members place few near =
-    omega (arith, mul-le-mul_right (hex n) few, mul-le-mul_right (hex (n - 1 - r)) near, hex-le (n - 1 - r) n (omega arith))
+pub cost-small : (n r weight place : ℕ) → weight ≤ 4096000 → place ≤ 16 → cost n r weight place ≤ most_cost n
+cost-small n r weight place light near =
+    omega (arith, mul-le-mul_right (hex n) light, mul-le-mul_right (hex (n - 1 - r)) near, hex-le (n - 1 - r) n (omega arith))
 
 -- a set that is not empty has a resource
 pub some_bit : (n set : ℕ) → 0 < set → set < 2 ^ n → ((q : ℕ) → q < n → has_bit set q ≡ false) → ⊥
@@ -37,10 +38,10 @@ pub sum-small : (set before power unit less more : ℕ) → set ≡ before + pow
 sum-small set before power unit less more is some low high =
     omega (arith, low, high, mul-le-mul_right unit some, ap (λ s. s * unit) is)
 
-module _ (cell : Cell) (n : ℕ) (costs : List ℕ) (set : ℕ) where
+module _ (weighing : Weighing) (cell : Cell) (n : ℕ) (costs : List ℕ) (set : ℕ) where
   -- the cost of the set with a resource as the last
   abbrev pub with_last : ℕ → ℕ
-  with_last q = get_or costs (set - 2 ^ q) 0 + last_cost cell n set q
+  with_last q = get_or costs (set - 2 ^ q) 0 + last_cost weighing cell n set q
 
   -- some last resource makes the set cost so much
   pub record IsFound (least : ℕ) : Type 0 where
@@ -62,16 +63,16 @@ module _ (cell : Cell) (n : ℕ) (costs : List ℕ) (set : ℕ) where
       so_far.found
 
 -- one set more
-pub KnowsLeast-put : (cell : Cell) (n at : ℕ) (costs : List ℕ) (least : ℕ) → 0 < at → at < 2 ^ n → at < length costs
-    → KnowsLeast cell n at costs
-    → ((r : ℕ) → r < n → has_bit at r ≡ true → least ≤ with_last cell n costs at r)
-    → IsFound cell n costs at least → KnowsLeast cell n (at + 1) (put costs at least)
-KnowsLeast-put cell n at costs least some small inside known at_most found = record {
+pub KnowsLeast-put : (weighing : Weighing) (cell : Cell) (n at : ℕ) (costs : List ℕ) (least : ℕ) → 0 < at → at < 2 ^ n → at < length costs
+    → KnowsLeast weighing cell n at costs
+    → ((r : ℕ) → r < n → has_bit at r ≡ true → least ≤ with_last weighing cell n costs at r)
+    → IsFound weighing cell n costs at least → KnowsLeast weighing cell n (at + 1) (put costs at least)
+KnowsLeast-put weighing cell n at costs least some small inside known at_most found = record {
   empty = get_or-set_other costs at 0 least 0 (λ e. absurd (omega (arith, e, some))) ∙ known.empty;
   least = λ set r h within stands. ⊎_elim
       (λ (e : set ≡ at).
       let stood = sym (ap (λ s. has_bit s r) e) ∙ stands in
-      subst (λ s. get_or (put costs at least) s 0 ≤ get_or (put costs at least) (s - 2 ^ r) 0 + last_cost cell n s r) (sym e)
+      subst (λ s. get_or (put costs at least) s 0 ≤ get_or (put costs at least) (s - 2 ^ r) 0 + last_cost weighing cell n s r) (sym e)
       (omega (arith, here, lower at r (omega arith), at_most r within stood)))
       (λ (other : set ≢ at).
       omega (
@@ -85,7 +86,7 @@ KnowsLeast-put cell n at costs least some small inside known at_most found = rec
   some_last = λ set positive h. ⊎_elim
       (λ (e : set ≡ at).
       subst (λ s. (r : ℕ) × (r < n) × (has_bit s r ≡ true) × (get_or (put costs at least) s 0 ≡ get_or (put costs at least)
-      (s - 2 ^ r) 0 + last_cost cell n s r)) (sym e)
+      (s - 2 ^ r) 0 + last_cost weighing cell n s r)) (sym e)
       (found.last, found.within, found.stands, omega (arith, here, found.is, lower at found.last (omega arith))))
       (λ (other : set ≢ at).
       let before = known.some_last set positive (omega (arith, h, other)) in (

@@ -3,6 +3,7 @@ pub mod Sums
 pub mod Masks
 pub mod Digits
 pub mod Ties
+pub mod Bounds
 pub mod Rankings
 pub mod Best
 pub mod One

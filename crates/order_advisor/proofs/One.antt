@@ -4,9 +4,10 @@ use Rattle.std.proofs.lemmas.Bool.{cases_lt}
 use Rattle.std.proofs.lemmas.List.FromFn.{fill_by_all}
 use Rattle.cell_base.specs.declared.cells.Cell.{Cell}
 use Rattle.order_advisor.specs.declared.advice.Advice.{Advice}
+use Rattle.order_advisor.specs.declared.weighing.Weighing.{Weighing}
 use Rattle.order_advisor.specs.Advices.{IsBest}
 
-module _ (cell : Cell) (a b : Advice) (one : IsBest cell a) (other : IsBest cell b) where
+module _ (weighing : Weighing) (cell : Cell) (a b : Advice) (one : IsBest weighing cell a) (other : IsBest weighing cell b) where
   same_weight : a.weight ≡ b.weight
   same_weight = omega (arith, one.weighs, other.weighs, one.least b.orders, other.least a.orders)
 

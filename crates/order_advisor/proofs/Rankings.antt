@@ -11,7 +11,8 @@ use Rattle.std.proofs.lemmas.Bool.{cases_lt, cases_eq, lt-ltb, le-ltb, ltb-false
 use Rattle.std.proofs.lemmas.Nat.Bits.{bit_at_ones}
 use Rattle.cell_base.specs.declared.cells.Cell.{Cell}
 use Rattle.cell_base.specs.Masks.{has_bit}
-use Rattle.order_advisor.specs.Sets.{added, members_of, hex, cost, last_cost, KnowsLeast}
+use Rattle.order_advisor.specs.declared.weighing.Weighing.{Weighing}
+use Rattle.order_advisor.specs.Sets.{added_weight, members_of, hex, cost, last_cost, KnowsLeast}
 use Rattle.policy_laws.proofs.Totals.{total, total-le}
 use Rattle.order_advisor.proofs.Sums.{total-same, total_changed}
 use Rattle.order_advisor.proofs.Masks.{mask_by, are_bits, mask_by-same, without, members_of-total}
@@ -116,13 +117,13 @@ module _ (n : ℕ) where
       (λ r within. ap (λ x. x == 1) (bit_at_ones n r within) ∙ sym (lt-ltb (o r) k (all r within))))
 
 -- one place more costs more
-cost-le : (n r members place more : ℕ) → place ≤ more → cost n r members place ≤ cost n r members more
-cost-le n r members place more at_most = omega (arith, mul-le-mul_right (hex (n - 1 - r)) at_most)
+cost-le : (n r weight place more : ℕ) → place ≤ more → cost n r weight place ≤ cost n r weight more
+cost-le n r weight place more at_most = omega (arith, mul-le-mul_right (hex (n - 1 - r)) at_most)
 
-module _ (cell : Cell) (n : ℕ) where
+module _ (weighing : Weighing) (cell : Cell) (n : ℕ) where
   -- what resource q costs in a ranking at a place
   abbrev pub cost_in : (ℕ → ℕ) → (ℕ → ℕ) → ℕ → ℕ
-  cost_in o place q = cost n q (added cell q (below n o (suc (o q)))) (place q)
+  cost_in o place q = cost n q (added_weight weighing cell q (below n o (suc (o q)))) (place q)
 
   -- what the resources of numbers below k cost together
   abbrev pub cost_below : (ℕ → ℕ) → (ℕ → ℕ) → ℕ → ℕ
@@ -132,7 +133,7 @@ module _ (cell : Cell) (n : ℕ) where
   abbrev pub AreAfter : (ℕ → ℕ) → (ℕ → ℕ) → Type 0
   AreAfter o place = (r : ℕ) → r < n → total (λ q. cond (nat_lt (o q) (o r)) 1 0) n ≤ place r
 
-  module _ (costs : List ℕ) (known : KnowsLeast cell n (2 ^ n) costs) where
+  module _ (costs : List ℕ) (known : KnowsLeast weighing cell n (2 ^ n) costs) where
     -- no ranking costs less
     module _ (o place : ℕ → ℕ) (ranking : IsRanking n o) (behind : AreAfter o place) where
       at_next : (r : ℕ) → r < n → get_or costs (below n o (o r)) 0 ≤ cost_below o place (o r)
@@ -144,7 +145,7 @@ module _ (cell : Cell) (n : ℕ) where
           (below-bit n o (suc (o r)) r within ∙ lt-ltb (o r) (suc (o r)) (omega arith)) in
           let same = ap (λ set. get_or costs set 0) rest in
           let size = ap (members_of n) rest ∙ size-members n o (o r) in
-          let last = cost-le n r (added cell r (below n o (suc (o r)))) (members_of n (below n o (suc (o r)) - 2 ^ r)) (place r)
+          let last = cost-le n r (added_weight weighing cell r (below n o (suc (o r)))) (members_of n (below n o (suc (o r)) - 2 ^ r)) (place r)
           (omega (arith, size, behind r within)) in
           omega (arith, step, same, last, before, sum-next n o ranking (cost_in o place) r within)
 
@@ -248,8 +249,8 @@ module _ (cell : Cell) (n : ℕ) where
       cost-same : (q : ℕ) → q < n → q ≢ r → o q < k → cost_in more more q ≡ cost_in o o q
       cost-same q h other low =
           let number = more-low q other low in
-          ap (λ j. cost n q (added cell q (below n more (suc j))) j) number
-          ∙ ap (λ set. cost n q (added cell q set) (o q)) (below-same (suc (o q)) (omega arith))
+          ap (λ j. cost n q (added_weight weighing cell q (below n more (suc j))) j) number
+          ∙ ap (λ set. cost n q (added_weight weighing cell q set) (o q)) (below-same (suc (o q)) (omega arith))
 
       number_low : (q : ℕ) → q ≢ r → more q < suc k → more q ≡ o q × (o q < k)
       number_low q other low = ⊎_elim
@@ -271,17 +272,17 @@ module _ (cell : Cell) (n : ℕ) where
           (cases_eq q r))
           (cases_eq p r)
 
-      attains_more : get_or costs set 0 ≡ get_or costs (set - 2 ^ r) 0 + last_cost cell n set r → Attains set more (suc k)
+      attains_more : get_or costs set 0 ≡ get_or costs (set - 2 ^ r) 0 + last_cost weighing cell n set r → Attains set more (suc k)
       attains_more last = record {
         is = more-is;
         different = more-different;
         size = more-sum (λ _. 1) (λ _. 1) (λ q h other low. refl) ∙ omega (arith, rest.size);
         as_little =
             let size : members_of n (set - 2 ^ r) ≡ k = ap (members_of n) (sym rest.is) ∙ size-members n o k ∙ rest.size in
-            let here : cost_in more more r ≡ last_cost cell n set r =
-            ap (λ j. cost n r (added cell r (below n more (suc j))) j) more-here
-            ∙ ap (λ s. cost n r (added cell r s) k) more-is
-            ∙ ap (cost n r (added cell r set)) (sym size) in
+            let here : cost_in more more r ≡ last_cost weighing cell n set r =
+            ap (λ j. cost n r (added_weight weighing cell r (below n more (suc j))) j) more-here
+            ∙ ap (λ s. cost n r (added_weight weighing cell r s) k) more-is
+            ∙ ap (cost n r (added_weight weighing cell r set)) (sym size) in
             omega (arith, last, rest.as_little, more-sum (cost_in o o) (cost_in more more) cost-same, here);
       }
 

@@ -8,7 +8,8 @@ use Rattle.cell_base.specs.declared.cells.Cell.{Cell}
 use Rattle.cell_base.specs.declared.cells.Resource.{Resource}
 use Rattle.cell_base.specs.Stages.{Stage, stages, successors, resource_at, order_of, places_left}
 use Rattle.cell_base.specs.Neighborhoods.{leads_within, leads}
-use Rattle.order_advisor.specs.Orders.{reordered, with_orders, own_orders, members_under, weight, TieLaw}
+use Rattle.order_advisor.specs.declared.weighing.Weighing.{Weighing}
+use Rattle.order_advisor.specs.Orders.{reordered, with_orders, own_orders, members_under, weight_under, weight, TieLaw}
 use Rattle.policy_laws.proofs.Totals.{total}
 use Rattle.order_advisor.proofs.Sums.{total-sum_by}
 
@@ -112,5 +113,6 @@ module _ (cell : Cell) where
       (arith, breaks r q within inside h, at_most))) (λ h. h)
       (cases_lt (get_or orders r 0) (get_or orders q 0))) s
 
-  pub weight-total : (orders : List ℕ) → weight cell orders ≡ total (members_under cell orders) (length cell.resources)
-  weight-total orders = total-sum_by (members_under cell orders) (length cell.resources)
+  pub weight-total : (weighing : Weighing) (orders : List ℕ)
+      → weight weighing cell orders ≡ total (weight_under weighing cell orders) (length cell.resources)
+  weight-total weighing orders = total-sum_by (weight_under weighing cell orders) (length cell.resources)

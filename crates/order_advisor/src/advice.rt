@@ -5,8 +5,10 @@ ghost use Rattle.cell_base.specs.Fits.{CellFits};
 ghost use Rattle.order_advisor.specs.Advices.{IsBest, IsFault};
 ghost use Rattle.order_advisor.specs.Orders.{own_weight};
 ghost use Rattle.order_advisor.specs.Sets.{order_in};
+ghost use Rattle.order_advisor.specs.declared.weighing.Weighing.TheVariants.{Alike, ByCapacity};
 
 use crate::search::{hex, least_costs};
+use crate::weighing::{Weighing, weight_of};
 use cell_base::{Cell, List, NoMemory, ResId};
 use route_table::StageTable;
 use std::alloc::Global;
@@ -46,32 +48,38 @@ impl From<NoMemory> for AdviceFault {
     }
 }
 
-/// The orders of the least weight for a cell of at most `ADVISED` resources.
+/// The orders of the least weight for a cell of at most `ADVISED` resources, where each membership weighs 1.
 pub fn advise(alloc: Global, cell: &Cell) -> Result<Advice, AdviceFault>
     requires { CellFits cell.now }
     ensures few { OnOk result (length cell.now.resources ≤ ADVISED) }
-    ensures best { IfOk result (IsBest cell.now) }
+    ensures best { IfOk result (IsBest Alike cell.now) }
     ensures fault { IfErr result (IsFault cell.now ADVISED) }
 {
-    best_within(alloc, cell, ADVISED)
+    best_within(alloc, cell, Weighing::Alike, ADVISED)
 }
 
-/// The same for a cell of at most `ARRANGED` resources, in a table of two to the number of its resources.
+/// The same for a cell of at most `ARRANGED` resources, where each membership is weighed by the capacity of its resource. It takes a
+/// table of two to the number of resources.
 pub fn arrange(alloc: Global, cell: &Cell) -> Result<Advice, AdviceFault>
     requires { CellFits cell.now }
     ensures few { OnOk result (length cell.now.resources ≤ ARRANGED) }
-    ensures best { IfOk result (IsBest cell.now) }
+    ensures best { IfOk result (IsBest ByCapacity cell.now) }
     ensures fault { IfErr result (IsFault cell.now ARRANGED) }
 {
-    best_within(alloc, cell, ARRANGED)
+    best_within(alloc, cell, Weighing::ByCapacity, ARRANGED)
 }
 
-/// The same for a limit, which is at most `ARRANGED`.
-pub fn best_within(alloc: Global, cell: &Cell, limit: u16) -> Result<Advice, AdviceFault>
+/// The same by a weighing, for a limit, which is at most `ARRANGED`.
+pub fn best_within(
+    alloc: Global,
+    cell: &Cell,
+    weighing: Weighing,
+    limit: u16,
+) -> Result<Advice, AdviceFault>
     requires fits { CellFits cell.now }
     requires limit { limit ≤ ARRANGED }
     ensures few { OnOk result (length cell.now.resources ≤ limit) }
-    ensures best { IfOk result (IsBest cell.now) }
+    ensures best { IfOk result (IsBest weighing cell.now) }
     ensures fault { IfErr result (IsFault cell.now limit) }
 {
     let resources = cell.resources.len() as u16;
@@ -80,33 +88,38 @@ pub fn best_within(alloc: Global, cell: &Cell, limit: u16) -> Result<Advice, Adv
             count: u32::from(resources),
         });
     }
-    Ok(best(alloc, cell, resources)?)
+    Ok(best(alloc, cell, resources, weighing)?)
 }
 
 /// The best orders.
-fn best(alloc: Global, cell: &Cell, resources: u16) -> Result<Advice, NoMemory>
+fn best(alloc: Global, cell: &Cell, resources: u16, weighing: Weighing) -> Result<Advice, NoMemory>
     requires fits { CellFits cell.now }
     requires resources { resources ≡ length cell.now.resources }
     requires limit { resources ≤ ARRANGED }
-    ensures { IfOk result (IsBest cell.now) }
+    ensures { IfOk result (IsBest weighing cell.now) }
 {
     let table = StageTable::new(alloc, cell)?;
-    best_of(alloc, &table, resources)
+    best_of(alloc, &table, resources, weighing)
 }
 
 /// The same over the stages of the cell.
-fn best_of(alloc: Global, table: &StageTable, resources: u16) -> Result<Advice, NoMemory>
+fn best_of(
+    alloc: Global,
+    table: &StageTable,
+    resources: u16,
+    weighing: Weighing,
+) -> Result<Advice, NoMemory>
     requires fits { CellFits table.now }
     requires resources { resources ≡ length table.now.resources }
     requires limit { resources ≤ ARRANGED }
-    ensures { IfOk result (IsBest table.now) }
+    ensures { IfOk result (IsBest weighing table.now) }
 {
-    let costs = least_costs(alloc, table, resources)?;
+    let costs = least_costs(alloc, table, resources, weighing)?;
     let least = costs[(1 << resources) - 1];
     Ok(Advice {
         orders: orders(alloc, resources, least)?,
         weight: (least / hex(resources)) as u64,
-        given: given(alloc, table, resources)?,
+        given: given(alloc, table, resources, weighing)?,
     })
 }
 
@@ -123,15 +136,25 @@ fn orders(alloc: Global, resources: u16, cost: u128) -> Result<List<u32>, NoMemo
 }
 
 /// The weight of the orders that the cell has.
-fn given(alloc: Global, table: &StageTable, resources: u16) -> Result<u64, NoMemory>
+fn given(
+    alloc: Global,
+    table: &StageTable,
+    resources: u16,
+    weighing: Weighing,
+) -> Result<u64, NoMemory>
     requires fits { CellFits table.now }
     requires resources { resources ≡ length table.now.resources }
-    ensures { IfOk result (λ weight. weight ≡ own_weight table.now) }
+    ensures { IfOk result (λ weight. weight ≡ own_weight weighing table.now) }
 {
     let upstream = Upstream::new(alloc, table)?;
     let mut weight = 0;
     for r in 0..resources {
-        weight += upstream.members(alloc, ResId(r))?.len();
+        weight += weight_of(
+            weighing,
+            table,
+            ResId(r),
+            upstream.members(alloc, ResId(r))?.len(),
+        );
     }
     Ok(weight)
 }

@@ -7,30 +7,43 @@ ghost use Rattle.cell_base.specs.Fits.{CellFits};
 ghost use Rattle.order_advisor.specs.Sets.{members_of, hex, cost, last_cost, most_cost, KnowsInside, KnowsLeast};
 
 use crate::inside::{count, has_bit, sweep};
+use crate::weighing::{Weighing, weight_of};
 use cell_base::{NoMemory, ResId};
 use route_table::StageTable;
 use std::alloc::Global;
 
 /// For each set of resources the least cost of putting its resources first.
-pub fn least_costs(alloc: Global, table: &StageTable, resources: u16) -> Result<Vec<u128>, NoMemory>
+pub fn least_costs(
+    alloc: Global,
+    table: &StageTable,
+    resources: u16,
+    weighing: Weighing,
+) -> Result<Vec<u128>, NoMemory>
     requires fits { CellFits table.now }
     requires resources { resources ≡ length table.now.resources }
     requires few { resources ≤ 16 }
     ensures length { IfOk result (λ costs. length costs.items ≡ 2 ^ resources) }
-    ensures least { IfOk result (λ costs. KnowsLeast table.now resources (2 ^ resources) costs.items) }
+    ensures least { IfOk result (λ costs. KnowsLeast weighing table.now resources (2 ^ resources) costs.items) }
 {
     let sets = 1usize << resources;
     let mut costs = vec![in alloc; 0u128; sets]?;
     let mut masks = vec![in alloc; 0u64; table.stages() as usize]?;
     for set in 1..sets {
         sweep(table, set as u64, &mut masks);
-        costs[set] = least_cost(table, resources, &costs, &masks, set as u64);
+        costs[set] = least_cost(table, resources, weighing, &costs, &masks, set as u64);
     }
     Ok(costs)
 }
 
 /// The least cost of a set, once the sets below have theirs.
-fn least_cost(table: &StageTable, resources: u16, costs: &[u128], masks: &[u64], set: u64) -> u128
+fn least_cost(
+    table: &StageTable,
+    resources: u16,
+    weighing: Weighing,
+    costs: &[u128],
+    masks: &[u64],
+    set: u64,
+) -> u128
     requires fits { CellFits table.now }
     requires resources { resources ≡ length table.now.resources }
     requires few { resources ≤ 16 }
@@ -39,17 +52,18 @@ fn least_cost(table: &StageTable, resources: u16, costs: &[u128], masks: &[u64],
     requires length { length costs.now ≡ 2 ^ resources }
     requires masks_length { length masks.now ≡ length (stages table.now) }
     requires masks { KnowsInside table.now set 0 masks.now }
-    requires below { KnowsLeast table.now resources set costs.now }
+    requires below { KnowsLeast weighing table.now resources set costs.now }
     ensures least { (r : ℕ) → r < resources → has_bit set r ≡ true
-        → result ≤ slice_index costs.now (set - 2 ^ r) + last_cost table.now resources set r }
+        → result ≤ slice_index costs.now (set - 2 ^ r) + last_cost weighing table.now resources set r }
     ensures some_last { (r : ℕ) × (r < resources) × (has_bit set r ≡ true)
-        × (result ≡ slice_index costs.now (set - 2 ^ r) + last_cost table.now resources set r) }
+        × (result ≡ slice_index costs.now (set - 2 ^ r) + last_cost weighing table.now resources set r) }
     ensures small { result ≤ set * most_cost resources }
 {
     let mut least = u128::MAX;
     for r in 0..resources {
         if has_bit(set, r) {
-            least = least.min(cost_with_last(table, resources, costs, masks, set, ResId(r)));
+            let with_last = cost_with_last(table, resources, weighing, costs, masks, set, ResId(r));
+            least = least.min(with_last);
         }
     }
     least
@@ -59,6 +73,7 @@ fn least_cost(table: &StageTable, resources: u16, costs: &[u128], masks: &[u64],
 fn cost_with_last(
     table: &StageTable,
     resources: u16,
+    weighing: Weighing,
     costs: &[u128],
     masks: &[u64],
     set: u64,
@@ -71,26 +86,27 @@ fn cost_with_last(
     requires length { length costs.now ≡ 2 ^ resources }
     requires masks_length { length masks.now ≡ length (stages table.now) }
     requires masks { KnowsInside table.now set 0 masks.now }
-    requires below { KnowsLeast table.now resources set costs.now }
+    requires below { KnowsLeast weighing table.now resources set costs.now }
     requires resource { r.0 < resources }
     requires member { has_bit set r.0 ≡ true }
-    ensures value { result ≡ slice_index costs.now (set - 2 ^ r.0) + last_cost table.now resources set r.0 }
+    ensures value { result ≡ slice_index costs.now (set - 2 ^ r.0) + last_cost weighing table.now resources set r.0 }
     ensures small { result ≤ set * most_cost resources }
 {
     let before = set - (1 << r.0);
-    costs[before as usize] + cost(resources, r, count(masks, r), members_of(resources, before))
+    let weight = weight_of(weighing, table, r, count(masks, r));
+    costs[before as usize] + cost(resources, r, weight, members_of(resources, before))
 }
 
 /// What a resource costs: a number whose last digits to base 16 are the places of the resources, before them the weight.
-fn cost(resources: u16, r: ResId, members: u64, place: u16) -> u128
+fn cost(resources: u16, r: ResId, weight: u64, place: u16) -> u128
     requires few { resources ≤ 16 }
     requires resource { r.0 < resources }
-    requires members { members ≤ 4096 }
+    requires weight { weight ≤ 4096000 }
     requires place { place ≤ 16 }
-    ensures value { result ≡ cost resources r.0 members place }
+    ensures value { result ≡ cost resources r.0 weight place }
     ensures small { result ≤ most_cost resources }
 {
-    u128::from(members) * hex(resources) + u128::from(place) * hex(resources - 1 - r.0)
+    u128::from(weight) * hex(resources) + u128::from(place) * hex(resources - 1 - r.0)
 }
 
 /// A power of 16.

@@ -5,6 +5,7 @@ use Rattle.std.proofs.lemmas.Bool.{le-ltb, lt-ltb}
 use Rattle.cell_base.specs.declared.cells.Cell.{Cell}
 use Rattle.order_advisor.specs.Advices.{IsBest, IsFault}
 use Rattle.order_advisor.specs.declared.advice.Advice.{Advice}
+use Rattle.order_advisor.specs.declared.weighing.Weighing.{Weighing}
 use Rattle.order_advisor.specs.declared.advice.AdviceFault.{AdviceFault}
 use Rattle.order_advisor.specs.declared.advice.AdviceFault.TheVariants.{TooManyResources, Memory}
 use Rattle.cell_walks.specs.Allowed.{ByMemory, IsAllowed, IsEndedAt, Passed, Unasked}
@@ -31,29 +32,29 @@ few limit cell most = ap (λ (test : Bool). counted_by test (length cell.resourc
 many : (limit : ℕ) (cell : Cell) → limit < length cell.resources → few_enough limit cell [] ≡ Err (length cell.resources)
 many limit cell more = ap (λ (test : Bool). counted_by test (length cell.resources)) (lt-ltb limit (length cell.resources) more)
 
-module _ (files : FilesTold) (limit : ℕ) (cell : List ℕ) where
+module _ (files : FilesTold) (weighing : Weighing) (limit : ℕ) (cell : List ℕ) where
   abbrev seen : Observed
   seen = observed files no_disk
 
   -- the cell was not read
-  pub advice_unread : (end : EarlyEnd) → IsEndedAt files (cell_file cell) end → IsAllowed seen (orders_within limit cell) (early end)
+  pub advice_unread : (end : EarlyEnd) → IsEndedAt files (cell_file cell) end → IsAllowed seen (orders_within weighing limit cell) (early end)
   advice_unread end ended =
-      ended_at seen Unasked (cell_file cell) (λ held. Tests (few_resources limit held.cell) λ few. advised held) end ended none_done
+      ended_at seen Unasked (cell_file cell) (λ held. Tests (few_resources limit held.cell) λ few. advised weighing held) end ended none_done
 
   module _ (held : KnownCell) (shows : ShowsFile files cell (λ bytes. cell_reads bytes (Ok held))) where
     -- it was, and has too many resources, or memory was wanting
     pub advice_faulty : (fault : AdviceFault) → IsFault held.cell limit fault
-        → IsAllowed seen (orders_within limit cell) (early (end_with OfCell (fault_line fault)))
+        → IsAllowed seen (orders_within weighing limit cell) (early (end_with OfCell (fault_line fault)))
     advice_faulty (TooManyResources count) is =
         Passed held shows
-        (ended_at seen Unasked (few_resources limit held.cell) (λ few. advised held) (end_with OfCell (fault_line (TooManyResources count)))
+        (ended_at seen Unasked (few_resources limit held.cell) (λ few. advised weighing held) (end_with OfCell (fault_line (TooManyResources count)))
         (ended_by_fault files (few_resources limit held.cell) count (many limit held.cell is.0 ∙ ap Err (sym is.1))) none_done)
     advice_faulty Memory is =
         Passed held shows
-        (ended_at seen Unasked (few_resources limit held.cell) (λ few. advised held) WantOfMemory (ByMemory refl) none_done)
+        (ended_at seen Unasked (few_resources limit held.cell) (λ few. advised weighing held) WantOfMemory (ByMemory refl) none_done)
 
     -- it was, and its best orders are printed
-    pub advice_done : (advice : Advice) → length held.cell.resources ≤ limit → IsBest held.cell advice
-        → IsAllowed seen (orders_within limit cell) (done (advice_lines held.cell advice))
+    pub advice_done : (advice : Advice) → length held.cell.resources ≤ limit → IsBest weighing held.cell advice
+        → IsAllowed seen (orders_within weighing limit cell) (done (advice_lines held.cell advice))
     advice_done advice most best =
         Passed held shows (Passed tt (few limit held.cell most) (record { advice = advice; best = best; is = refl }, none_done))

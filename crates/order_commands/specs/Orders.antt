@@ -1,4 +1,4 @@
--- `advise CELL` and `arrange CELL`: the orders of a cell's resources with the fewest memberships in neighborhoods.
+-- `advise CELL` and `arrange CELL`: the orders of a cell's resources whose neighborhoods weigh least.
 use Rattle.std.specs.Prelude.{◌≡◌, ℕ, List, length, nat_lt, if◌then◌else◌, Option, Some, None, Result, Ok, Err, ⊤}
 use Rattle.cell_base.specs.declared.cells.Cell.{Cell}
 use Rattle.order_advisor.specs.Advices.{IsBest}
@@ -6,6 +6,8 @@ use Rattle.order_advisor.specs.declared.advice.Advice.{Advice}
 use Rattle.order_advisor.specs.declared.advice.AdviceFault.{AdviceFault}
 use Rattle.order_advisor.specs.declared.advice.AdviceFault.TheVariants.{TooManyResources, Memory}
 use Rattle.order_advisor.specs.declared.advice.TheConstants.{ADVISED, ARRANGED}
+use Rattle.order_advisor.specs.declared.weighing.Weighing.{Weighing}
+use Rattle.order_advisor.specs.declared.weighing.Weighing.TheVariants.{Alike, ByCapacity}
 use Rattle.cell_walks.specs.Observed.{Known}
 use Rattle.cell_walks.specs.Outcomes.{Outcome, done, early}
 use Rattle.cell_walks.specs.Walks.{Test, Walk, Tests, Answers}
@@ -33,28 +35,28 @@ few_resources limit cell = record {
 }
 
 -- The best orders of the cell are printed: they weigh least, and of those that do so they come first.
-pub record IsAdvised (cell : Cell) (outcome : Outcome) : Type 0 where
+pub record IsAdvised (weighing : Weighing) (cell : Cell) (outcome : Outcome) : Type 0 where
   pub advice : Advice
-  pub best : IsBest cell advice
+  pub best : IsBest weighing cell advice
   pub is : outcome ≡ done (advice_lines cell advice)
 
 -- what is answered for a cell
-abbrev pub advised : KnownCell → Walk
-advised held = Answers λ input outcome. IsAdvised held.cell outcome
+abbrev pub advised : Weighing → KnownCell → Walk
+advised weighing held = Answers λ input outcome. IsAdvised weighing held.cell outcome
 
 -- the same for a file of a cell with no more resources than the limit
-abbrev pub orders_within : ℕ → List ℕ → Walk
-orders_within limit cell =
+abbrev pub orders_within : Weighing → ℕ → List ℕ → Walk
+orders_within weighing limit cell =
     Tests (cell_file cell) λ held.
-    Tests (few_resources limit held.cell) λ few. advised held
+    Tests (few_resources limit held.cell) λ few. advised weighing held
 
--- `advise CELL`
+-- `advise CELL`: each membership weighs 1
 abbrev pub advise : List ℕ → Walk
-advise = orders_within ADVISED
+advise = orders_within Alike ADVISED
 
--- `arrange CELL`
+-- `arrange CELL`: each weighs 1,000 divided by the capacity of the resource, rounded down
 abbrev pub arrange : List ℕ → Walk
-arrange = orders_within ARRANGED
+arrange = orders_within ByCapacity ARRANGED
 
 -- the line where there is no advice; want of memory has none
 abbrev pub fault_line : AdviceFault → Option (List ℕ)

@@ -1,4 +1,4 @@
-//! `advise CELL` and `arrange CELL`: the orders of a cell's resources with the fewest memberships in neighborhoods.
+//! `advise CELL` and `arrange CELL`: the orders of a cell's resources whose neighborhoods weigh least.
 ghost use Rattle.std.specs.Prelude.{◌≡◌, ◌≤◌, length, IfOk, OnOk, OnErr};
 ghost use Rattle.order_advisor.specs.declared.advice.TheConstants.{ARRANGED};
 ghost use Rattle.cell_walks.specs.Clauses.{Ends, HasCause, IsAllowed, IsDelivered, TookAll, TookSome};
@@ -12,7 +12,7 @@ use crate::lines::{order_line, too_many_line, weight_line};
 use cell_base::{Cell, ResId};
 use cell_texts::{CommandEnd, print_line, read_cell};
 use cell_walks::{EarlyEnd, Refusal, Status, Subject, finish_early};
-use order_advisor::{ADVISED, ARRANGED, Advice, AdviceFault, best_within};
+use order_advisor::{ADVISED, ARRANGED, Advice, AdviceFault, Weighing, best_within};
 use outside_io::{Disk, Failed, Files, Sink};
 use std::alloc::Global;
 
@@ -23,7 +23,7 @@ struct Advised {
     advice: Advice,
 }
 
-/// Runs `advise CELL`, for a cell of at most `ADVISED` resources.
+/// Runs `advise CELL`, for a cell of at most `ADVISED` resources: each membership weighs 1.
 pub fn run_advise<F: Files, K: Sink, D: Disk>(
     alloc: Global,
     files: &mut F,
@@ -36,10 +36,11 @@ pub fn run_advise<F: Files, K: Sink, D: Disk>(
         Ends (observed files disk) (sink_told K.taken K.was_put K.faults out.old out.new) (advise cell.now) result.status }
     ensures same { result.disk ≡ disk }
 {
-    run_within(alloc, files, out, cell, ADVISED, disk)
+    run_within(alloc, files, out, cell, Weighing::Alike, ADVISED, disk)
 }
 
-/// Runs `arrange CELL`, for a cell of at most `ARRANGED` resources.
+/// Runs `arrange CELL`, for a cell of at most `ARRANGED` resources: each membership weighs 1,000 divided by the capacity of the resource,
+/// rounded down.
 pub fn run_arrange<F: Files, K: Sink, D: Disk>(
     alloc: Global,
     files: &mut F,
@@ -52,25 +53,34 @@ pub fn run_arrange<F: Files, K: Sink, D: Disk>(
         Ends (observed files disk) (sink_told K.taken K.was_put K.faults out.old out.new) (arrange cell.now) result.status }
     ensures same { result.disk ≡ disk }
 {
-    run_within(alloc, files, out, cell, ARRANGED, disk)
+    run_within(
+        alloc,
+        files,
+        out,
+        cell,
+        Weighing::ByCapacity,
+        ARRANGED,
+        disk,
+    )
 }
 
-// The same for a limit. All memory is taken before the first line is printed.
+// The same by a weighing, for a limit. All memory is taken before the first line is printed.
 fn run_within<F: Files, K: Sink, D: Disk>(
     alloc: Global,
     files: &mut F,
     out: &mut K,
     cell: &str,
+    weighing: Weighing,
     limit: u16,
     disk: D,
 ) -> CommandEnd<D>
     requires { limit ≤ ARRANGED }
     ensures ends { let files = files_told F.holds F.is_sound F.faults files.old files.new in
         let disk = disk_told D.reads_as D.may_leave D.moment D.left_since D.faults disk result.disk in
-        Ends (observed files disk) (sink_told K.taken K.was_put K.faults out.old out.new) (orders_within limit cell.now) result.status }
+        Ends (observed files disk) (sink_told K.taken K.was_put K.faults out.old out.new) (orders_within weighing limit cell.now) result.status }
     ensures same { result.disk ≡ disk }
 {
-    let made = advice_of_files(alloc, files, cell, limit);
+    let made = advice_of_files(alloc, files, cell, weighing, limit);
     let status = print_made(out, made);
     CommandEnd { status, disk }
 }
@@ -80,16 +90,17 @@ fn advice_of_files<F: Files>(
     alloc: Global,
     files: &mut F,
     cell: &str,
+    weighing: Weighing,
     limit: u16,
 ) -> Result<Advised, EarlyEnd>
     requires { limit ≤ ARRANGED }
     ensures allowed { let files = files_told F.holds F.is_sound F.faults files.old files.new in
-        IsAllowed (observed files no_disk) (orders_within limit cell.now) (advised_outcome result) }
+        IsAllowed (observed files no_disk) (orders_within weighing limit cell.now) (advised_outcome result) }
     ensures each { IfOk result (λ advised. length advised.advice.orders ≡ length advised.cell.resources) }
     ensures fits { IfOk result (λ advised. CellFits advised.cell) }
 {
     match read_cell(alloc, files, cell) {
-        Ok(held) => match best_within(alloc, &held.cell, limit) {
+        Ok(held) => match best_within(alloc, &held.cell, weighing, limit) {
             Ok(advice) => Ok(Advised {
                 cell: held.cell,
                 advice,

@@ -3,6 +3,7 @@ use Rattle.std.proofs.Common.{◌≡◌, ℕ, ◌≤◌, ◌<◌, ◌+◌, ◌-�
 use Rattle.std.proofs.lemmas.Nat.{one_shl, mul-le}
 use Rattle.std.proofs.Math.Pow.{pow_mono}
 use Rattle.policy_laws.proofs.Limits.{few_stages}
+use Rattle.order_advisor.specs.Orders.{unit_weight}
 use Rattle.order_advisor.specs.Sets.{members_of, cost, most_cost}
 use Rattle.order_advisor.proofs.Masks.{without}
 use Rattle.order_advisor.proofs.Digits.{hex-le}
@@ -18,12 +19,13 @@ fits : (n set : ℕ) → n ≤ 16 → set < 2 ^ n → set * most_cost n < 2 ^ 12
 fits n set few small =
     omega (
       arith,
-      mul-le set (most_cost n) 65536 (8192 * 2 ^ 64)
+      mul-le set (most_cost n) 65536 (8388608 * 2 ^ 64)
           (omega (arith, small, pow_mono {i = n} {j = 16} few)) (omega (arith, hex-le n 16 few)),
     )
 
-pub cost-requires-clause-members : goal.cost-requires-clause-members
-cost-requires-clause-members c = omega (arith, c.count.ensures.few, c.requires.masks_length, few_stages c.args.table.now c.requires.fits)
+pub weight_of-weight-requires-clause-members : goal.weight_of-weight-requires-clause-members
+weight_of-weight-requires-clause-members c =
+    omega (arith, c.count.ensures.few, c.requires.masks_length, few_stages c.args.table.now c.requires.fits)
 
 pub returns-clause-small : goal.returns-clause-small
 returns-clause-small c =
@@ -54,4 +56,7 @@ returns-clause-value c =
     let known = c.requires.masks in
     let counted = added-counted c.args.table.now c.args.set c.args.r.0 masks c.requires.masks_length known c.requires.member in
     ap₂ ◌+◌ (ap (λ s. get_or c.args.costs.now s 0) rest)
-    (c.cost.ensures.value ∙ ap₂ (cost n c.args.r.0) (c.count.ensures.value ∙ counted) (c.members_of.ensures.value ∙ ap (members_of n) rest))
+    (c.cost.ensures.value
+    ∙ ap₂ (cost n c.args.r.0) (c.weight_of-weight.ensures.value
+    ∙ ap (λ members. members * unit_weight c.args.weighing c.args.table.now c.args.r.0) (c.count.ensures.value ∙ counted))
+    (c.members_of.ensures.value ∙ ap (members_of n) rest))

@@ -14,7 +14,7 @@ returns-clause-ends g c = record {
       (disk_told g.D.Disk.reads_as g.D.Disk.may_leave g.D.Disk.moment g.D.Disk.left_since g.D.Disk.faults c.args.disk c.args.disk)
       (untouched g.D.Disk.reads_as g.D.Disk.may_leave g.D.Disk.moment g.D.Disk.left_since g.D.Disk.faults c.args.disk
       (g.met.D.Disk.only_now c.args.disk))
-      (advised_outcome c.advice_of_files-made.result) (orders_within c.args.limit c.args.cell.now) (λ held few. tt)
+      (advised_outcome c.advice_of_files-made.result) (orders_within c.args.weighing c.args.limit c.args.cell.now) (λ held few. tt)
       c.advice_of_files-made.ensures.allowed;
   delivered = c.print_made-status.ensures;
 }
