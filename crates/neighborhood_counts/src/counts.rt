@@ -3,7 +3,7 @@ ghost use Rattle.std.specs.Prelude.{◌≡◌, ℕ, ◌+◌, ◌-◌, ◌<◌, �
 ghost use Rattle.std.specs.Option.{option_map};
 ghost use Rattle.std.specs.Int.{bit_at};
 ghost use Rattle.cell_base.specs.Masks.{has_bit, bits_only_of};
-ghost use Rattle.neighborhood_counts.specs.Counts.{IsMaskOf, AreHeld, first_full};
+ghost use Rattle.neighborhood_counts.specs.Counts.{IsFullMask, IsMaskOf, AreHeld, first_full};
 
 use cell_base::{List, NoMemory, ResId};
 use std::alloc::Global;
@@ -70,6 +70,13 @@ impl Counts {
         } else {
             Some(ResId(full.trailing_zeros() as u16))
         }
+    }
+
+    /// The resources that take no more, as a mask.
+    pub fn full(&self) -> u64
+        ensures { IsFullMask self.now result }
+    {
+        self.full
     }
 
     /// The number of parts that the neighborhood of a resource holds.

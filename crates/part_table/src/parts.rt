@@ -1,6 +1,6 @@
 //! The table of parts.
 ghost use Rattle.std.specs.Prelude.{◌≡◌, ◌+◌, ◌<◌, ◌≤◌, ◌==◌, true, false, [], ◌∷◌, ◌++◌, length, Some, None};
-ghost use Rattle.std.specs.Prelude.{slice_get, find, IfOk, IfSome};
+ghost use Rattle.std.specs.Prelude.{slice_get, find, IfOk, IfSome, IsSome};
 ghost use Rattle.std.specs.Option.{option_map, ForSome};
 ghost use Rattle.cell_base.specs.Policy.{is_of_job, is_loaded, HaveDistinctJobs};
 ghost use Rattle.cell_base.specs.Outcomes.{part_of, without, is_waiting_on, finish_first};
@@ -133,7 +133,8 @@ impl Parts {
 
     /// The first part on a resource of the cell of which the table was told, with a hint to it.
     pub fn find_on(&self, on: ResId) -> Option<Found>
-        requires { on.0 < MAX_RESOURCES }
+        requires told { IsSome self.now.told }
+        requires resource { on.0 < MAX_RESOURCES }
         ensures { ForSome self.now.told (λ cell. option_map (λ found. found.part) result
             ≡ find (λ part. resource_of_part cell part == on.0) self.now.parts) }
     {
@@ -187,7 +188,8 @@ impl Parts {
     /// The work on the first part that is not done on a resource of the cell of which the table was told, if there is one. The part keeps
     /// its place in the order. Gives its job.
     pub fn finish_first(&mut self, on: ResId) -> Option<JobId>
-        requires { on.0 < MAX_RESOURCES }
+        requires told { IsSome self.old.told }
+        requires resource { on.0 < MAX_RESOURCES }
         ensures job { ForSome self.old.told (λ cell.
             result ≡ option_map (λ part. part.job) (find (is_waiting_on cell on.0) self.old.parts)) }
         ensures table { ForSome self.old.told (λ cell.

@@ -17,6 +17,7 @@ fn takes_its_plan(rt: &impl Abort, core: &mut Core, job: JobId) {
     assert_eq!(rt; core.take_plan_step(), Some(Request::Unload { job }));
     assert_eq!(rt; core.take_plan_step(), None);
     assert_eq!(rt; core.parts_left(), 0);
+    assert_eq!(rt; core.full(), 0);
 }
 
 #[test]
@@ -38,7 +39,10 @@ fn opens_and_answers(rt: HostRuntime) -> Result<(), Fail> {
     assert_eq!(rt; core.decide(&load), Reply::Refused(Refusal::JobLoaded));
     assert_eq!(rt; core.parts_left(), 1);
     assert_eq!(rt; core.part(0), waiting);
+    assert_eq!(rt; core.part_of(job), Some(waiting));
+    assert_eq!(rt; core.part_of(JobId(8)), None);
     assert_eq!(rt; core.count(ResId(0)), 1);
+    assert_eq!(rt; core.full(), 1);
     takes_its_plan(&rt, &mut core, job);
     let _core = may_be_shared(core);
     Ok(())

@@ -10,5 +10,6 @@ fn counts_are_made(rt: HostRuntime) -> Result<(), Fail> {
     capacities.try_push(1)?;
     let counts = Counts::new(rt.alloc(), &capacities)?;
     assert_eq!(rt; counts.count(ResId(1)), 0);
+    assert_eq!(rt; counts.full(), 0);
     Ok(())
 }

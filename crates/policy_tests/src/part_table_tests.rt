@@ -1,14 +1,13 @@
 //! With memory at hand the table is made, and a part is found by any hint, be it right, stale or none.
 ghost use Rattle.std.specs.Prelude.{◌≡◌, false};
 
-use cell_base::{JobId, NoMemory, Part, ResId, TypeId};
+use cell_base::{JobId, NoMemory, Part, ResId, TypeId, cell_fits};
 use part_table::{Found, Parts};
+use route_table::StageTable;
+use small_cells::cell_of_one;
 use std::alloc::Global;
 use std::process::Abort;
 use std::test::Fail;
-
-/// The one resource.
-const ON: ResId = ResId(0);
 
 /// The part of a job at a place.
 fn part(job: u32, place: u16) -> Part
@@ -40,7 +39,6 @@ fn a_table_is_made(rt: HostRuntime) -> Result<(), Fail> {
     let parts = Parts::with_room(alloc, 3)?;
     assert_eq!(rt; parts.len(), 0);
     assert_eq!(rt; parts.find(JobId(7)), None);
-    assert_eq!(rt; parts.find_on(ON), None);
     Ok(())
 }
 
@@ -50,7 +48,7 @@ fn a_part_goes_on_by_any_hint(rt: HostRuntime) -> Result<(), Fail> {
     let mut parts = Parts::with_room(alloc, 3)?;
     parts.arrive(part(7, 0));
     parts.arrive(part(8, 0));
-    let found = parts.find_on(ON).ok_or("a part")?;
+    let found = parts.find(JobId(7)).ok_or("a part")?;
     assert_eq!(rt; found.part, part(7, 0));
     parts.advance_found(found, 1, false);
     assert_parts(&rt, alloc, &parts, &[part(8, 0), part(7, 1)])?;
@@ -72,7 +70,7 @@ fn a_part_leaves_by_any_hint(rt: HostRuntime) -> Result<(), Fail> {
     parts.arrive(part(7, 0));
     parts.arrive(part(8, 0));
     parts.arrive(part(9, 0));
-    let found = parts.find_on(ON).ok_or("a part")?;
+    let found = parts.find(JobId(7)).ok_or("a part")?;
     assert_eq!(rt; found.part, part(7, 0));
     let other = Found {
         part: part(8, 0),
@@ -84,6 +82,24 @@ fn a_part_leaves_by_any_hint(rt: HostRuntime) -> Result<(), Fail> {
     assert_parts(&rt, alloc, &parts, &[part(9, 0)])?;
     parts.depart(JobId(9));
     assert_parts(&rt, alloc, &parts, &[])?;
-    assert_eq!(rt; parts.find_on(ON), None);
+    assert_eq!(rt; parts.find(JobId(9)), None);
+    Ok(())
+}
+
+#[test]
+fn a_table_that_was_told_finds_by_resources(rt: HostRuntime) -> Result<(), Fail> {
+    let alloc = rt.alloc();
+    let cell = cell_of_one(alloc)?;
+    assert!(rt; cell_fits(&cell));
+    let stages = StageTable::new(alloc, &cell)?;
+    let mut parts = Parts::with_room(alloc, 3)?.told_of(alloc, &stages)?;
+    assert_eq!(rt; parts.find_on(ResId(0)), None);
+    parts.arrive(part(7, 0));
+    let found = parts.find_on(ResId(0)).ok_or("a part")?;
+    assert_eq!(rt; found.part, part(7, 0));
+    assert_eq!(rt; parts.finish_first(ResId(0)), Some(JobId(7)));
+    assert_eq!(rt; parts.finish_first(ResId(0)), None);
+    parts.depart(JobId(7));
+    assert_eq!(rt; parts.find_on(ResId(0)), None);
     Ok(())
 }

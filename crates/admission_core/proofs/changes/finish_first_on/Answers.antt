@@ -1,4 +1,5 @@
 -- The first part that waits is done, and needs one step less.
+use Rattle.std.specs.Prelude.{is_some}
 use Rattle.std.proofs.Common.{◌≡◌, ℕ, ◌+◌, ◌-◌, false, not, ◌==◌, None, find, List, length, ap, subst, sym, ◌∙◌, arith}
 use Rattle.std.proofs.lemmas.Bool.{and_parts, not-true}
 use Rattle.cell_base.specs.declared.cells.Cell.{Cell}
@@ -18,8 +19,11 @@ use Rattle.admission_core.proofs.Moving.{some_job, no_job}
 use Rattle.admission_core.proofs.Tallying.{counts_finished, work_finished, work_without}
 use Rattle.admission_core.proofs.changes.finish_first_on.Goals as goal
 
-pub finish_first-requires : goal.finish_first-requires
-finish_first-requires c =
+pub finish_first-requires-clause-told : goal.finish_first-requires-clause-told
+finish_first-requires-clause-told c = ap is_some c.requires.sound.tallied.same_cell
+
+pub finish_first-requires-clause-resource : goal.finish_first-requires-clause-resource
+finish_first-requires-clause-resource c =
     omega (arith, c.requires.machine, c.requires.sound.fits.resource_count.1)
 
 module _ (cell : Cell) (before : Tally) (sound : IsSound cell before) (machine : ResId) where

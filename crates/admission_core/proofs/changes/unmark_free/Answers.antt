@@ -1,4 +1,5 @@
 -- No part is found on the resource.
+use Rattle.std.specs.Prelude.{is_some}
 use Rattle.std.proofs.Common.{◌≡◌, ◌==◌, None, find, ap, sym, ◌∙◌}
 use Rattle.std.specs.Option.{option_map}
 use Rattle.cell_base.specs.Plans.{resource_of_part}
@@ -6,6 +7,9 @@ use Rattle.part_table.specs.declared.found.Found.{Found}
 use Rattle.admission_core.proofs.Moving.{none_flagged}
 use Rattle.admission_core.proofs.Marking.{marked_free}
 use Rattle.admission_core.proofs.changes.unmark_free.Goals as goal
+
+pub find_on-requires-clause-told : goal.find_on-requires-clause-told
+find_on-requires-clause-told c = ap is_some c.requires.tallied.same_cell
 
 pub returns-then-is_none : goal.returns-then-is_none
 returns-then-is_none c =

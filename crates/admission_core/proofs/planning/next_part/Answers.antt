@@ -1,4 +1,5 @@
 -- The first part on the lowest resource that is occupied is the next one.
+use Rattle.std.specs.Prelude.{is_some}
 use Rattle.std.proofs.Common.{◌≡◌, ◌==◌, ◌<◌, length, find, Some, ap, sym, subst, ◌∙◌, arith, w64}
 use Rattle.std.specs.Int.{trailing_zeros}
 use Rattle.std.specs.Option.{option_map}
@@ -22,6 +23,9 @@ pub at-requires : goal.at-requires
 at-requires c =
     lowest_within c.args.table.now c.args.tally.now.parts.parts c.args.occupied.now c.loop-left.left c.loop-left.invariant (omega arith)
     (omega arith) (subst (IsOfRanks c.args.occupied.now.ranks) c.mask-left.ensures.value c.mask-left.ensures.of_ranks)
+
+pub find_on-requires-clause-told : goal.find_on-requires-clause-told
+find_on-requires-clause-told c = ap is_some c.requires.sound.tallied.same_cell
 
 pub loop-left-smaller : goal.loop-left-smaller
 loop-left-smaller c = (without_lowest c.loop-left.left (omega arith) (omega arith)).less
