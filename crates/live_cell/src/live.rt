@@ -198,6 +198,13 @@ impl<D: Disk> LiveCell<D> {
         self.journal.len()
     }
 
+    /// The disk.
+    pub fn disk(&self) -> &D
+        ensures { result.now ≡ self.now.disk }
+    {
+        self.journal.disk()
+    }
+
     /// The core, after all that was decided.
     pub fn core(&self) -> &Core
         ensures core { result.now ≡ record { cell = self.now.cell; parts = self.now.parts } }

@@ -1,0 +1,5 @@
+-- What the contracts of a peer cite.
+pub mod Meanings
+pub mod MemPeer
+pub mod Moments
+pub mod Runs
