@@ -28,3 +28,5 @@ mod small_cells_tests;
 mod upstream_sets_tests;
 #[cfg(test)]
 mod wait_board_tests;
+#[cfg(test)]
+mod wait_queue_tests;

@@ -1,8 +1,11 @@
 //! What no clause says: that memory is had, that two threads share a board by a lock, and that what it then holds is what its
-//! asks make of a new one. The cell has one machine of one unit.
+//! asks make of a new one. The cell has one machine of one unit; and that a load which makes no room ends the wait of a load of the same
+//! job, where the cell has two machines.
 use admission_core::Core;
-use cell_base::{JobId, Refusal, Request, ResId, TypeId, cell_fits, request_fits};
-use small_cells::cell_of_one;
+use cell_base::{
+    Cell, JobId, List, NoMemory, Refusal, Request, ResId, TypeId, cell_fits, request_fits,
+};
+use small_cells::{add_machine, add_type, cell_of_one};
 use std::alloc::Global;
 use std::sync::{Mutex, Wait};
 use std::test::Fail;
@@ -99,9 +102,24 @@ const ONE: [Request; 3] = [LOAD_7, PROCESS, UNLOAD_7];
 
 const TWO: [Request; 3] = [LOAD_8, PROCESS, UNLOAD_8];
 
-/// A board of three sessions over the empty cell.
+/// Two machines of one unit, and for each a type that is worked on there alone.
+fn two_apart(alloc: Global) -> Result<Cell, NoMemory> {
+    let mut resources = List::new(alloc);
+    add_machine(&mut resources, b"M1", 1)?;
+    add_machine(&mut resources, b"M2", 2)?;
+    let mut types = List::new(alloc);
+    add_type(alloc, &mut types, b"A", &[0])?;
+    add_type(alloc, &mut types, b"B", &[1])?;
+    Ok(Cell { resources, types })
+}
+
+/// A board of three sessions over the empty cell of one machine.
 fn board_of_three(alloc: Global, room: u64) -> Result<Board, Fail> {
-    let cell = cell_of_one(alloc)?;
+    board_over(alloc, cell_of_one(alloc)?, room)
+}
+
+/// A board of three sessions over an empty cell.
+fn board_over(alloc: Global, cell: Cell, room: u64) -> Result<Board, Fail> {
     if !cell_fits(&cell) {
         return Err("the cell fits".into());
     }
@@ -129,9 +147,9 @@ fn asked(board: &mut Board, session: u16, request: &Request) -> Answer {
     }
 }
 
-/// Whether the board answers each ask of the table as it says.
-fn answers_as_listed(board: &mut Board) -> bool {
-    for (session, request, expected) in ASKS.iter() {
+/// Whether the board answers each ask of a table as it says.
+fn answers_as_listed(board: &mut Board, asks: &[(u16, Request, Answer)]) -> bool {
+    for (session, request, expected) in asks.iter() {
         if asked(board, *session, request) != *expected {
             return false;
         }
@@ -142,9 +160,61 @@ fn answers_as_listed(board: &mut Board) -> bool {
 #[test]
 fn a_load_waits_until_the_machine_is_free(rt: HostRuntime) -> Result<(), Fail> {
     let mut board = board_of_three(rt.alloc(), 8)?;
-    assert!(rt; answers_as_listed(&mut board));
+    assert!(rt; answers_as_listed(&mut board, &ASKS));
     assert_eq!(rt; board.history(), HISTORY.as_slice());
     assert!(rt; board.waiting().is_empty());
+    Ok(())
+}
+
+/// Session 2 waits for M1 with a load of job 8. One of job 57, which shares a place with it in a queue of three, leaves it there; one of
+/// its own job at M2 ends the wait, though no neighborhood got room.
+const LOADS: [(u16, Request, Answer); 6] = [
+    (1, LOAD_7, Answer::Told(BoardReply::Granted)),
+    (2, LOAD_8, Answer::Told(BoardReply::Waits(FULL))),
+    (
+        3,
+        Request::Load {
+            job: JobId(57),
+            kind: TypeId(1),
+        },
+        Answer::Told(BoardReply::Granted),
+    ),
+    (
+        3,
+        Request::Process { machine: ResId(1) },
+        Answer::Told(BoardReply::Granted),
+    ),
+    (
+        3,
+        Request::Unload { job: JobId(57) },
+        Answer::Told(BoardReply::Granted),
+    ),
+    (
+        3,
+        Request::Load {
+            job: JobId(8),
+            kind: TypeId(1),
+        },
+        Answer::Told(BoardReply::Granted),
+    ),
+];
+
+#[test]
+fn a_load_of_the_same_job_ends_a_wait(rt: HostRuntime) -> Result<(), Fail> {
+    let cell = two_apart(rt.alloc())?;
+    let mut board = board_over(rt.alloc(), cell, 8)?;
+    assert!(rt; answers_as_listed(&mut board, &LOADS[..5]));
+    assert_eq!(rt; board.waiting(), [SECOND].as_slice());
+    assert!(rt; answers_as_listed(&mut board, &LOADS[5..]));
+    assert!(rt; board.waiting().is_empty());
+    assert_eq!(rt;
+        board.history().last().copied(),
+        Some(BoardEntry {
+            session: 2,
+            request: LOAD_8,
+            told: BoardTold::Dropped(Refusal::JobLoaded),
+        })
+    );
     Ok(())
 }
 

@@ -24,11 +24,12 @@ use Rattle.policy_laws.proofs.States.{IsAdmitted-empty}
 use Rattle.cell_texts.proofs.Fitting.{refusal_fits}
 use Rattle.wait_board.specs.declared.entries.BoardEntry.{BoardEntry}
 use Rattle.wait_board.specs.declared.entries.BoardTold.TheVariants as told
-use Rattle.wait_board.specs.declared.waiter.Waiter.{Waiter}
-use Rattle.wait_board.specs.Boards.{OnBoard, board, after_wait, end_of_wait, entry, is_ready, with_waiter, noted}
-use Rattle.wait_board.specs.Boards.{opened, renewed, scan_within, all_renewed, told_on, waiter_of}
+use Rattle.wait_queue.specs.declared.waiter.Waiter.{Waiter}
+use Rattle.wait_board.specs.Boards.{OnBoard, board, after_wait, end_of_wait, entry, with_waiter, noted}
+use Rattle.wait_board.specs.Boards.{opened, scan_within, all_renewed, told_on}
+use Rattle.wait_queue.specs.Waiting.{is_ready, renewed, waiter_of}
 use Rattle.wait_board.specs.BoardState.{IsWaiting}
-use Rattle.wait_board.proofs.Firsts.{All-without}
+use Rattle.wait_queue.proofs.Looks.{without-all}
 use Rattle.board_rounds.specs.Rounds.{present_step, progress_in, queue_run, rounds, turn, turns}
 use Rattle.queue_command.specs.Lines.{BoardFits, BoardEntryFits, BoardToldFits, WaiterFits}
 
@@ -61,7 +62,7 @@ module _ (cell : Cell) (fits : CellFits cell) where
         admitted = state_after_admitted cell fits on.parts w.request fit.admitted request;
         entries = push_fits on.history (entry w.session w.request (end_of_wait (reply_to cell on.parts w.request))) fit.entries
             (record { request = request; told = end_fits on.parts w.request fit.admitted request });
-        requests = All-without test Asks on.waiters fit.requests;
+        requests = without-all test Asks on.waiters fit.requests;
       }
 
   settled_fit : (on : OnBoard) → Fit on → Fit (all_renewed cell on)

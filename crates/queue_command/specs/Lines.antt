@@ -14,7 +14,7 @@ use Rattle.record_text.specs.Lines.{line_of, why_words}
 use Rattle.wait_board.specs.declared.entries.BoardEntry.{BoardEntry}
 use Rattle.wait_board.specs.declared.entries.BoardTold.{BoardTold}
 use Rattle.wait_board.specs.declared.entries.BoardTold.TheVariants as told
-use Rattle.wait_board.specs.declared.waiter.Waiter.{Waiter}
+use Rattle.wait_queue.specs.declared.waiter.Waiter.{Waiter}
 use Rattle.wait_board.specs.Boards.{OnBoard}
 use Rattle.cell_texts.specs.Blocks.{Lines, left_lines}
 

@@ -1,7 +1,7 @@
 -- The line of one more session that waits was taken, or the sink failed at it.
 use Rattle.std.proofs.Common.{List, arith, subst, ◌∙◌}
 use Rattle.outside_io.specs.Puts.{SinkTold, sink_told}
-use Rattle.wait_board.specs.declared.waiter.Waiter.{Waiter}
+use Rattle.wait_queue.specs.declared.waiter.Waiter.{Waiter}
 use Rattle.queue_command.specs.Lines.{still_line}
 use Rattle.cell_texts.proofs.Delivered.{Underway, breaks_off, goes_on, rest_at}
 use Rattle.queue_command.proofs.printing.print_waiters.Goals as goal
