@@ -11,7 +11,7 @@ use Rattle.cell_base.specs.Stages.{resource_numbers}
 use Rattle.order_advisor.specs.declared.weighing.Weighing.TheVariants.{Alike}
 use Rattle.order_advisor.specs.Orders.{members_under, weight, with_orders}
 use Rattle.order_advisor.proofs.Ties.{length-reordered}
-use Rattle.refusal_reason.specs.Shown.{resource_lines, show_lines, stage_line}
+use Rattle.refusal_reason.specs.Shown.{resource_lines, stage_line}
 use Rattle.order_commands.specs.Shown.{ShowsMembers, ShowsWeight}
 
 -- of each resource one line, and one for each stage of its neighborhood

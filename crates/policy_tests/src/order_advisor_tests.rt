@@ -56,7 +56,26 @@ fn eight_machines_are_for_the_larger_table(rt: HostRuntime) -> Result<(), Fail> 
     assert!(rt; refused == Some(AdviceFault::TooManyResources { count: 8 }));
     let advice = arrange(rt.alloc(), &cell).map_err(|_| "advice")?;
     assert!(rt; advice.orders.as_slice() == [8, 7, 6, 5, 4, 3, 2, 1].as_slice());
-    assert!(rt; advice.weight == 8);
-    assert!(rt; advice.given == 36);
+    assert!(rt; advice.weight == 8_000);
+    assert!(rt; advice.given == 36_000);
+    Ok(())
+}
+
+#[test]
+fn a_machine_comes_before_a_store_of_three_units(rt: HostRuntime) -> Result<(), Fail> {
+    let mut cell = both_ways(rt.alloc(), 2)?;
+    for (r, resource) in cell.resources.as_mut_slice().iter_mut().enumerate() {
+        if r == 0 {
+            resource.capacity = 3;
+        }
+    }
+    assert!(rt; cell_fits(&cell));
+    let alike = advise(rt.alloc(), &cell).map_err(|_| "advice")?;
+    assert!(rt; alike.orders.as_slice() == [1, 2].as_slice());
+    assert!(rt; alike.weight == 5);
+    let by_capacity = arrange(rt.alloc(), &cell).map_err(|_| "advice")?;
+    assert!(rt; by_capacity.orders.as_slice() == [2, 1].as_slice());
+    assert!(rt; by_capacity.weight == 2_999);
+    assert!(rt; by_capacity.given == 3_666);
     Ok(())
 }
