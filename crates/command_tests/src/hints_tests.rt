@@ -393,7 +393,7 @@ fn each_fault_of_a_journal_has_its_line(rt: HostRuntime) -> Result<(), Fail> {
 fn calls_outside_that_fail(rt: HostRuntime) -> Result<(), Fail> {
     let absent = Error::from(ErrorKind::NotFound);
     let locked = Error::from(ErrorKind::WouldBlock);
-    let advice = "copy the journal or restart the machine before you go on with it";
+    let advice = "copy the journal or restart the computer before you go on with it";
     let cases = [
         (3, "open", absent, ""),
         (7, "open", absent, ""),

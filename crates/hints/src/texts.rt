@@ -179,7 +179,7 @@ pub const NO_RECORD_LINE: &str = "no record has this line after those before it"
 pub const NO_NUMBER: &str = "no number from 0 to 18446744073709551615";
 
 /// What is to be done after a write or a sync that failed.
-pub const AFTER_WRITE: &str = "; copy the journal or restart the machine before you go on with it";
+pub const AFTER_WRITE: &str = "; copy the journal or restart the computer before you go on with it";
 
 /// Why a journal can't be opened.
 pub const IS_LOCKED: &str = "; another program has it open";
