@@ -1,5 +1,6 @@
 """A server over pipes, and sessions that ask it and count what they were granted, apart from the client in `examples/`."""
 import os
+import pathlib
 import queue
 import subprocess
 import threading
@@ -34,6 +35,19 @@ def within(seconds, is_so):
             return True
         time.sleep(0.02)
     return False
+
+
+def servers_of(journal):
+    """The processes whose words have `serve` and this journal among them."""
+    found = []
+    for one in pathlib.Path("/proc").glob("[0-9]*"):
+        try:
+            words = (one / "cmdline").read_bytes().split(b"\0")
+        except OSError:
+            continue
+        if b"serve" in words and str(journal).encode() in words:
+            found.append(int(one.name))
+    return found
 
 
 class CellFile:
