@@ -20,10 +20,6 @@ use Rattle.shift_recovery.specs.declared.faults.JournalFault.{JournalFault}
 use Rattle.shift_recovery.specs.declared.faults.JournalFault.TheVariants.{OtherCell}
 use Rattle.shift_recovery.specs.declared.heads.Head.{Head}
 use Rattle.shift_recovery.specs.declared.heads.Head.TheVariants.{Blank, Open}
-use Rattle.shift_recovery.specs.declared.pieces.TheConstants.{PIECE}
-use Rattle.shift_recovery.specs.declared.starts.Start.{Start}
-use Rattle.shift_recovery.specs.Starts.{IsStart}
-use Rattle.outside_io.specs.Telling.{told as shown_there}
 use Rattle.shift_recovery.proofs.HeadTests.{head_by, blank_by, open_by, neither, both_true}
 use Rattle.shift_recovery.specs.Readings.{has_name, head_of, first_difference, grants_from, found, after_head, from_head, read_as}
 
@@ -148,12 +144,6 @@ head_file file kept seen len n head len_is n_is split size same is =
     ] in
     ap (λ (k : ℕ). head_of k file) (sym len_is) ∙ ap (head_of len) split ∙ head_longer len kept (drop n file) side
     ∙ ap (head_of len) (sym same) ∙ sym is
-
-pub started_head : (told : Option (List ℕ)) (start : Start) (file : List ℕ) → IsStart told start → told ≡ Some file
-    → head_of (length file) file ≡ start.head
-started_head told start file is is_told =
-    let seen = shown_there _ _ file is_told is.shows in
-    head_file file start.kept.items start.kept.items start.len (min PIECE start.len) start.head (sym seen.0) refl seen.1 is.size refl is.head
 
 pub short_head : (file : List ℕ) → length file ≤ 1 → head_of (length file) file ≡ Blank Short
 unfolding head_of

@@ -2,7 +2,6 @@
 pub mod Readings
 pub mod Reads
 pub mod Windows
-pub mod Starts
 pub mod Walked
 pub mod Opening
 pub mod Recovering

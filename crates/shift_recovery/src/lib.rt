@@ -10,13 +10,10 @@
 //! }
 //! ```
 //!
-//! `recover` reads the file once, in pieces, from its start on, and writes nothing. Then it syncs, so that a later crash leaves what it
-//! read. What it finds is `read_as`, a definition over the whole file. On what a crash may leave of a journal's calls it never answers
-//! one of the four faults of `JournalFault`, where the cell text is the same and there is room.
-//!
-//! A file that is only read may be added to meanwhile by whoever writes the journal. Where it ends before a fault, its length is asked
-//! again, and where it has grown the reading goes on; a head that wasn't whole is read anew. So what is found is a prefix of the grants.
-//! No contract speaks of that: a disk that tells its bytes is added to by nobody else.
+//! `recover` begins with a sync, so that what it reads is what a later crash leaves. Then it reads the file once, in
+//! pieces, from its start on, and writes nothing. What it finds is `read_as`, a definition over the whole file. On what
+//! a crash may leave of a journal's calls it never answers one of the four faults of `JournalFault`, where the cell text
+//! is the same and there is room.
 //!
 //! `scan` is the same for grants that need not be kept: it hands each one to a `Taker` as it is read, so that a journal of any
 //! length takes the memory of a few pieces. Where nothing stands that could be gone on with, it answers an `OpenError`, the disk with
@@ -25,13 +22,11 @@
 
 mod faults;
 mod gates;
-mod growth;
 mod heads;
 mod open_error;
 mod pieces;
 mod recoveries;
 mod scans;
-mod starts;
 mod takers;
 mod texts;
 mod walks;

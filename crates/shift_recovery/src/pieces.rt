@@ -1,5 +1,5 @@
 //! The pieces in which a file is read.
-ghost use Rattle.std.specs.Prelude.{◌≡◌, ◌+◌, ◌-◌, ◌≤◌, ◌++◌, min, length, drop, IfOk, IfSome, OnOk, IsErrOf};
+ghost use Rattle.std.specs.Prelude.{◌≡◌, ◌+◌, ◌-◌, ◌<◌, ◌++◌, min, length, drop, IfOk, IfSome, OnOk, IsErrOf};
 ghost use Rattle.std.specs.Option.{ForSome};
 ghost use Rattle.outside_io.specs.Causes.{Rose};
 ghost use Rattle.shift_recovery.specs.Reads.{OnlyReads};
@@ -20,7 +20,7 @@ pub(crate) fn with_piece<D: Disk>(
     len: u64,
     kept: &[u8],
 ) -> Result<Vec<u8>, Stop>
-    requires within { at ≤ len }
+    requires unread { at < len }
     requires size { ForSome (D.reads_as disk.old) (λ file. length file ≡ len) }
     ensures reads { OnlyReads D.reads_as D.may_leave D.moment D.left_since disk.old disk.new }
     ensures longer { IfOk result (λ window. length window.items ≡ length kept.now + min PIECE (len - at)) }

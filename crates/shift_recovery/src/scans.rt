@@ -10,9 +10,9 @@ ghost use Rattle.shift_recovery.specs.Scanning.{disk_scanned, IsScan, IsReading,
 ghost use Rattle.shift_recovery.specs.Opening.{disk_of, HasOpenCause, IsRefusalOf, RestsWhereRefused};
 
 use crate::faults::{JournalFault, Stop};
-use crate::heads::Head;
+use crate::heads::{Head, read_head};
 use crate::open_error::{OpenError, OpenFault, at_stop};
-use crate::starts::read_start;
+use crate::pieces::with_piece;
 use crate::takers::Taker;
 use crate::texts::{Compared, compare};
 use crate::walks::{Walked, walk};
@@ -50,7 +50,7 @@ pub fn scan<D: Disk, T: Taker>(
         → IsFoundBy (read_as file cell_text.now room) room grants }
 {
     let mut disk = disk;
-    match read_stable(alloc, &mut disk, cell_text, room, taker) {
+    match read_journal(alloc, &mut disk, cell_text, room, taker) {
         Ok(Reading::Blank(form)) => match Blank::new(alloc, disk, form) {
             Ok(blank) => Ok(Scanned::Fresh(blank)),
             Err(disk) => Err(OpenError {
@@ -80,8 +80,8 @@ pub(crate) enum Reading {
     Faulty(JournalFault),
 }
 
-// Reads what stands there, and makes it stable. A sync that came first would leave out what another process writes before it is read.
-fn read_stable<D: Disk, T: Taker>(
+// Makes what the disk reads as stable, and reads it.
+fn read_journal<D: Disk, T: Taker>(
     alloc: Global,
     disk: &mut D,
     cell_text: &[u8],
@@ -96,34 +96,18 @@ fn read_stable<D: Disk, T: Taker>(
     ensures device { IsErrOf result Stop.Device → Rose (D.faults disk.old) (D.faults disk.new) }
     ensures memory { IsErrOf result Stop.Memory → D.faults disk.new ≡ D.faults disk.old }
 {
-    let reading = read_journal(alloc, disk, cell_text, room, taker)?;
     disk.sync()?;
-    Ok(reading)
-}
-
-// Reads the head, compares the text after it, and walks over the gates after that.
-fn read_journal<D: Disk, T: Taker>(
-    alloc: Global,
-    disk: &mut D,
-    cell_text: &[u8],
-    room: u64,
-    taker: &mut T,
-) -> Result<Reading, Stop>
-    requires none { (first : ℕ) → T.took taker.old first [] taker.old }
-    ensures reads { OnlyReads D.reads_as D.may_leave D.moment D.left_since disk.old disk.new }
-    ensures exact { IfOk result (IsReading (D.reads_as disk.old) cell_text.now room T.took taker.old taker.new) }
-    ensures ok { OnOk result (D.faults disk.new ≡ D.faults disk.old) }
-    ensures device { IsErrOf result Stop.Device → Rose (D.faults disk.old) (D.faults disk.new) }
-    ensures memory { IsErrOf result Stop.Memory → D.faults disk.new ≡ D.faults disk.old }
-{
-    let start = read_start(alloc, disk)?;
-    let size = match start.head {
+    let len = disk.len()?;
+    if len == 0 {
+        return Ok(Reading::Blank(BlankForm::Short));
+    }
+    let kept = with_piece(alloc, disk, 0, len, &[])?;
+    let size = match read_head(&kept, len) {
         Head::Blank(form) => return Ok(Reading::Blank(form)),
         Head::Faulty(why) => return Ok(Reading::Faulty(why)),
         Head::Open(size) => u64::from(size),
     };
-    let len = start.len;
-    match compare(alloc, disk, len, start.kept, size, cell_text)? {
+    match compare(alloc, disk, len, kept, size, cell_text)? {
         Compared::Differs(at) => Ok(Reading::Faulty(JournalFault::OtherCell { at })),
         Compared::Same(window) => {
             match walk(alloc, disk, len, TEXT_AT + size, window, room, taker)? {

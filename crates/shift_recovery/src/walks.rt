@@ -7,7 +7,6 @@ ghost use Rattle.shift_recovery.specs.Walked.{IsWalkFrom};
 
 use crate::faults::{JournalFault, Stop};
 use crate::gates::gate_in;
-use crate::growth::grown;
 use crate::pieces::{PIECE, with_piece};
 use crate::takers::Taker;
 use crate::texts::Window;
@@ -23,8 +22,7 @@ pub(crate) enum Walked {
     Faulty(JournalFault),
 }
 
-/// Walks from the gate at an offset to the first closed one, and hands on at most so many grants. A gate that was opened since the
-/// length was asked stands open at the end of the file as it was, and the walk goes on in the file as it is.
+/// Walks from the gate at an offset to the first closed one, and hands on at most so many grants.
 pub(crate) fn walk<D: Disk, T: Taker>(
     alloc: Global,
     disk: &mut D,
@@ -48,7 +46,6 @@ pub(crate) fn walk<D: Disk, T: Taker>(
         mut kept,
         mut used,
     } = window;
-    let mut len = len;
     let mut gate = first;
     let mut count = 0;
     'gates: loop {
@@ -58,10 +55,7 @@ pub(crate) fn walk<D: Disk, T: Taker>(
                 used = 0;
                 at += PIECE.min(len - at);
             }
-            Some(Err(why)) => match grown(disk, len)? {
-                Some(now) => len = now,
-                None => return Ok(Walked::Faulty(why)),
-            },
+            Some(Err(why)) => return Ok(Walked::Faulty(why)),
             Some(Ok(None)) => return Ok(Walked::Closed { gate, count }),
             Some(Ok(Some(grant))) => {
                 if count == room {

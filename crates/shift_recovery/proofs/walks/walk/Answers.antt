@@ -16,12 +16,12 @@ use Rattle.shift_recovery.proofs.walks.walk.Goals as goal
 abbrev good : Option Grant → Result (Option Grant) JournalFault
 good found = Ok found
 
-pub returns-in-None-2-clause-walked : goal.returns-in-None-2-clause-walked
-returns-in-None-2-clause-walked g c =
+pub returns-in-Some-Err-clause-walked : goal.returns-in-Some-Err-clause-walked
+returns-in-Some-Err-clause-walked g c =
     let v = c.gates.invariant in
     where_told _ (λ file. grants_from c.args.room c.args.room c.args.first (drop c.args.first file) ≡ Err c.in-Some-Err.why) (λ file is.
     told _ _ file is v.walked ∙ ap (with_grants c.gates.invariant.grants) (fault_ends c.args.room _ c.gates.gate _ c.in-Some-Err.why
-    (gate_known file c.gates.kept.items c.deref.result.now c.gates.gate c.gates.at c.gates.used c.gates.len _
+    (gate_known file c.gates.kept.items c.deref.result.now c.gates.gate c.gates.at c.gates.used c.args.len _
     c.deref.ensures.value (told _ _ file is v.shows) c.in-Some-Err.ensures.found ∙ c.in-Some-Err.field-0-is)))
 
 pub returns-in-Some-Ok-None-clause-walked : goal.returns-in-Some-Ok-None-clause-walked
@@ -35,7 +35,7 @@ returns-in-Some-Ok-None-clause-walked g c =
       gate_is = v.gate_is;
       found = where_told _ (λ file. grants_from c.args.room c.args.room c.args.first (drop c.args.first file) ≡ Ok v.grants) (λ file is.
           told _ _ file is v.walked ∙ ap (with_grants v.grants) (closed_ends c.args.room _ c.gates.gate _
-          (gate_known file c.gates.kept.items c.deref.result.now c.gates.gate c.gates.at c.gates.used c.gates.len _
+          (gate_known file c.gates.kept.items c.deref.result.now c.gates.gate c.gates.at c.gates.used c.args.len _
           c.deref.ensures.value (told _ _ file is v.shows) c.in-Some-Ok-None.ensures.found ∙ c.in-Some-Ok-None.field-0-is
           ∙ ap (λ (o : Option Grant). good o) c.in-Some-Ok-None.field-0-0-is)) ∙ with_none v.grants);
     }
@@ -49,7 +49,7 @@ returns-then-count-room-clause-walked g c =
     ≡ Err (Long (c.args.room + 1))) (λ file is.
     told _ _ file is v.walked ∙ ap (with_grants c.gates.invariant.grants)
     (too_long c.args.room _ c.gates.gate _ c.in-Some-Ok-Some.grant (omega (arith, c.if-count-room.true, v.counted))
-    (gate_known file c.gates.kept.items c.deref.result.now c.gates.gate c.gates.at c.gates.used c.gates.len _
+    (gate_known file c.gates.kept.items c.deref.result.now c.gates.gate c.gates.at c.gates.used c.args.len _
     c.deref.ensures.value (told _ _ file is v.shows) c.in-Some-Ok-Some.ensures.found ∙ is_grant)))
 
 -- the window holds the gate, the record and the gate after it
@@ -95,7 +95,7 @@ gates-preserved g c =
       reads = v.reads;
       faults = v.faults;
       window = record { used_within = omega (arith, long); begins = omega (arith, v.window.begins); read_within = v.window.read_within };
-      shows = where_told _ (λ file. (length file ≡ c.gates.len)
+      shows = where_told _ (λ file. (length file ≡ c.args.len)
           × (drop (c.gates.gate + ENTRY_SIZE) file ≡ drop (c.gates.used + ENTRY_SIZE) c.gates.kept.items ++ drop c.gates.at file))
           (λ file is.
           let seen = told _ _ file is v.shows in (
@@ -113,7 +113,7 @@ gates-preserved g c =
           (drop (c.gates.gate + ENTRY_SIZE) file))) (λ file is.
           walk_step file grants new grant c.args.room c.args.first c.gates.gate refl
           v.within other
-          (gate_known file c.gates.kept.items c.deref.result.now c.gates.gate c.gates.at c.gates.used c.gates.len _
+          (gate_known file c.gates.kept.items c.deref.result.now c.gates.gate c.gates.at c.gates.used c.args.len _
           c.deref.ensures.value (told _ _ file is v.shows) c.in-Some-Ok-Some.ensures.found ∙ is_grant)
           (told _ _ file is v.walked));
     }

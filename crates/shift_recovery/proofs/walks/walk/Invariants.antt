@@ -1,6 +1,6 @@
 -- So far grants were taken, and what is found from the gate on comes after them.
 use Rattle.std.specs.Prelude.{IfSome}
-use Rattle.std.proofs.Common.{◌≡◌, ◌+◌, ◌-◌, ◌*◌, ◌^◌, ◌≤◌, List, length, drop}
+use Rattle.std.proofs.Common.{◌≡◌, ◌+◌, ◌-◌, ◌*◌, ◌≤◌, List, length, drop}
 use Rattle.cell_base.specs.declared.shifts.Grant.{Grant}
 use Rattle.entry_codec.specs.declared.encoder.TheConstants.{ENTRY_SIZE}
 use Rattle.shift_recovery.specs.Readings.{grants_from}
@@ -25,4 +25,4 @@ invariant-gates g l = record {
 }
 
 abbrev pub decreases-gates : goal.decreases-gates
-decreases-gates g l = (2 ^ 64 - l.len) + (2 ^ 64 - l.at) + (2 ^ 64 - l.gate)
+decreases-gates g l = (l.len - l.at) + (l.len - l.gate)
