@@ -2,7 +2,8 @@
 use cell_base::List;
 use cell_texts::CommandEnd;
 use cell_walks::Status;
-use outside_io::{CallKind, DiskCall, MemDisk, MemFiles, MemSink, MemSource};
+use outside_io::{CallKind, DiskCall, MemDisk, MemFiles};
+use peers::MemPeer;
 use serve_command::run_serve;
 use std::alloc::Global;
 use std::sync::Wait;
@@ -19,11 +20,12 @@ const ANSWERED: &[u8] =
     b"shift 0 after 0\nleft 0\n1 load 7 A granted\n2 load 8 Z refused saturated M2 1 of 1\n1 grants 1\n\
       why load 8 Z refused saturated M2 1 of 1\n1 process M1 granted\nline refused 7\nleft 1\nplan 3\nmove 7\nprocess M2\nunload 7\n";
 
-// How a conversation ended, what was put, and what the disk holds.
+// How a conversation ended, what was put and what of it was handed on, and what the disk holds.
 #[derive(Drop)]
 struct Held {
     status: Status,
     put: Vec<u8>,
+    heard: Vec<u8>,
     journal: Vec<u8>,
 }
 
@@ -46,15 +48,13 @@ fn hold<R: Wait>(
 ) -> Result<Held, Fail> {
     let mut files = MemFiles::new(alloc, List::new(alloc));
     files.add("cell", CELL)?;
-    let mut input = MemSource::new(alloc, ASKED, piece, reads)?;
-    let mut out = MemSink::new(alloc, puts);
     let disk = MemDisk::new(alloc, journal, calls)?;
-    let CommandEnd { status, disk } = run_serve(
-        rt, alloc, &mut files, &mut input, &mut out, "cell", disk,
-    );
+    let mut peer = MemPeer::new(alloc, &disk, ASKED, piece, reads, puts)?;
+    let CommandEnd { status, disk } = run_serve(rt, alloc, &mut files, &mut peer, "cell", disk);
     Ok(Held {
         status,
-        put: Vec::from_slice(alloc, out.bytes())?,
+        put: Vec::from_slice(alloc, peer.bytes())?,
+        heard: Vec::from_slice(alloc, peer.heard())?,
         journal: Vec::from_slice(alloc, disk.bytes())?,
     })
 }
@@ -73,7 +73,7 @@ fn the_answers_are_the_same_for_each_size_of_the_pieces(rt: HostRuntime) -> Resu
             List::new(alloc),
         )?;
         assert_eq!(rt; held.status, Status::Done);
-        assert_eq!(rt; held.put.as_slice(), ANSWERED);
+        assert_eq!(rt; held.heard.as_slice(), ANSWERED);
         let later = hold(
             &rt,
             alloc,
@@ -126,7 +126,7 @@ fn a_read_that_fails_ends_after_the_answers(rt: HostRuntime) -> Result<(), Fail>
     )?;
     assert_eq!(rt; held.status, Status::ReadFault);
     assert_eq!(rt;
-        held.put.as_slice(),
+        held.heard.as_slice(),
         b"shift 0 after 0\nleft 0\n1 load 7 A granted\nread fault\n".as_slice()
     );
     Ok(())

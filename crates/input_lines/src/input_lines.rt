@@ -2,12 +2,14 @@
 ghost use Rattle.std.specs.Prelude.{◌≡◌, ◌↔◌, ◌+◌, ◌≤◌, ◌<◌, ◌++◌, ◌∷◌, [], ℕ, List, Ok, length, take, drop, true, false, position};
 ghost use Rattle.std.specs.Prelude.{IfOk, IsTrue, OnErr};
 ghost use Rattle.outside_io.specs.Causes.{HasCause};
+ghost use Rattle.peers.specs.Reads.{IsRead};
 ghost use Rattle.input_lines.specs.Lines.{is_newline};
 ghost use Rattle.input_lines.specs.Reading.{GivesPiece, AreLinesSoFar, reading};
 
 use arrayvec::ArrayVec;
 use cell_base::NoMemory;
-use outside_io::{Failed, Source};
+use outside_io::{Disk, Failed};
+use peers::Peer;
 use std::alloc::Global;
 use std::marker::Model;
 
@@ -58,15 +60,18 @@ impl InputLines {
         self.at == self.end
     }
 
-    /// Reads the next piece, where all that was read is spent, and answers how many bytes it has. No bytes: the end of the input.
-    pub fn fill<S: Source>(&mut self, source: &mut S) -> Result<usize, Failed>
+    /// Reads the next piece of a peer beside a disk, where all that was read is spent and all that was put is handed on, and answers how
+    /// many bytes it has. No bytes: the end of the input.
+    pub fn fill<D: Disk, T: Peer<D>>(&mut self, peer: &mut T, disk: &D) -> Result<usize, Failed>
         requires spent { self.old.ahead ≡ [] }
-        ensures goes_on { IfOk result (λ count. GivesPiece (S.given source.old) (S.given source.new) self.old self.new count) }
-        ensures end { result ≡ Ok 0 → S.has_ended source.new }
-        ensures nothing { OnErr result ((S.given source.new ≡ S.given source.old) × (self.new ≡ self.old)) }
-        ensures cause { HasCause (S.faults source.old) (S.faults source.new) result }
+        requires handed { T.handed_on peer.old ≡ T.taken peer.old }
+        ensures goes_on { IfOk result (λ count. GivesPiece (T.given peer.old) (T.given peer.new) self.old self.new count) }
+        ensures end { result ≡ Ok 0 → T.has_ended peer.new }
+        ensures nothing { OnErr result ((T.given peer.new ≡ T.given peer.old) × (self.new ≡ self.old)) }
+        ensures cause { HasCause (T.read_faults peer.old) (T.read_faults peer.new) result }
+        ensures read { IsRead D.Disk T.Peer disk.now peer.old peer.new }
     {
-        match source.next_piece(self.piece.as_mut_slice()) {
+        match peer.next_piece(disk, self.piece.as_mut_slice()) {
             Ok(count) => {
                 self.at = 0;
                 self.end = count;

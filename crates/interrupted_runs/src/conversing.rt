@@ -4,7 +4,8 @@ use crate::call::{CallEnd, files_with};
 use anyhow::{Context, Result, bail};
 use cell_base::List;
 use cell_program::{Ended, serve_main};
-use outside_io::{CallKind, DiskCall, MemDisk, MemSink, MemSource, Sink};
+use outside_io::{CallKind, DiskCall, MemDisk, MemSource};
+use peers::{MemPeer, Peer, Silent};
 use std::alloc::Global;
 use std::sync::Wait;
 use torn_sinks::TornSink;
@@ -43,40 +44,43 @@ impl<'a> Asked<'a> {
     ) -> Result<CallEnd> {
         let (mut calls, mut puts) = (List::new(alloc), List::new(alloc));
         let mut reads = List::new(alloc);
+        let mut torn = None;
         if let Some(Failing { kind, nth }) = failing {
             match kind {
                 Outside::Disk(kind) => push(&mut calls, DiskCall { kind, nth })?,
                 Outside::Put => push(&mut puts, nth)?,
                 Outside::Read => push(&mut reads, nth)?,
-                Outside::TornPut => {
-                    let mut out = TornSink::new(alloc, nth.saturating_sub(1));
-                    let ended = self.ask_over(rt, alloc, journal, calls, reads, &mut out)?;
-                    return CallEnd::new(alloc, ended, out.bytes());
-                }
+                Outside::TornPut => torn = Some(nth),
             }
         }
-        let mut out = MemSink::new(alloc, puts);
-        let ended = self.ask_over(rt, alloc, journal, calls, reads, &mut out)?;
-        CallEnd::new(alloc, ended, out.bytes())
-    }
-
-    // Asks them over this sink. The listed calls of the disk and reads of the input fail.
-    fn ask_over<R: Wait, K: Sink>(
-        &self,
-        rt: &R,
-        alloc: Global,
-        journal: &[u8],
-        calls: List<DiskCall>,
-        reads: List<u64>,
-        out: &mut K,
-    ) -> Result<Ended<MemDisk>> {
         let disk = MemDisk::new(alloc, journal, calls);
         let disk = disk.ok().context("no memory")?;
-        let mut files = files_with(alloc, b"")?;
-        let input = MemSource::new(alloc, self.lines.as_bytes(), self.piece, reads);
-        let mut input = input.ok().context("no memory")?;
-        Ok(serve_main(rt, alloc, &mut files, &mut input, out, "cell", disk))
+        let lines = self.lines.as_bytes();
+        if let Some(nth) = torn {
+            let source = MemSource::new(alloc, lines, self.piece, reads);
+            let mut peer = Silent {
+                source: source.ok().context("no memory")?,
+                sink: TornSink::new(alloc, nth.saturating_sub(1)),
+            };
+            let ended = ask_over(rt, alloc, disk, &mut peer)?;
+            return CallEnd::new(alloc, ended, peer.sink.bytes());
+        }
+        let peer = MemPeer::new(alloc, &disk, lines, self.piece, reads, puts);
+        let mut peer = peer.ok().context("no memory")?;
+        let ended = ask_over(rt, alloc, disk, &mut peer)?;
+        CallEnd::new(alloc, ended, peer.bytes())
     }
+}
+
+// Serves what a peer asks.
+fn ask_over<R: Wait, T: Peer<MemDisk>>(
+    rt: &R,
+    alloc: Global,
+    disk: MemDisk,
+    peer: &mut T,
+) -> Result<Ended<MemDisk>> {
+    let mut files = files_with(alloc, b"")?;
+    Ok(serve_main(rt, alloc, &mut files, peer, "cell", disk))
 }
 
 fn push<T: Drop>(calls: &mut List<T>, call: T) -> Result<()> {

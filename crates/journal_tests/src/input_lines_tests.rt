@@ -1,7 +1,8 @@
 //! The same lines for each way in which a text may come.
 use cell_base::List;
 use input_lines::InputLines;
-use outside_io::MemSource;
+use outside_io::MemDisk;
+use peers::MemPeer;
 use std::alloc::Global;
 use std::test::Fail;
 
@@ -14,14 +15,22 @@ const LINES: &[u8] =
 
 // The lines of a text that comes in such pieces, each with a bar.
 fn barred(alloc: Global, piece: usize) -> Result<Vec<u8>, Fail> {
-    let mut source = MemSource::new(alloc, TEXT, piece, List::new(alloc))?;
+    let disk = MemDisk::new(alloc, b"", List::new(alloc))?;
+    let mut peer = MemPeer::new(
+        alloc,
+        &disk,
+        TEXT,
+        piece,
+        List::new(alloc),
+        List::new(alloc),
+    )?;
     let mut lines = InputLines::new(alloc)?;
     let mut barred = Vec::new(alloc);
     for _ in 0..1000 {
         if lines.next_line() {
             barred.extend_from_slice(lines.line())?;
             barred.push(b'|')?;
-        } else if let Ok(0) = lines.fill(&mut source) {
+        } else if let Ok(0) = lines.fill(&mut peer, &disk) {
             break;
         }
     }
@@ -42,13 +51,14 @@ fn a_read_that_fails_loses_nothing(rt: HostRuntime) -> Result<(), Fail> {
     let alloc = rt.alloc();
     let mut fails = List::new(alloc);
     fails.try_push(2)?;
-    let mut source = MemSource::new(alloc, b"left\n", 3, fails)?;
+    let disk = MemDisk::new(alloc, b"", List::new(alloc))?;
+    let mut peer = MemPeer::new(alloc, &disk, b"left\n", 3, fails, List::new(alloc))?;
     let mut lines = InputLines::new(alloc)?;
     let mut given = Vec::new(alloc);
     for _ in 0..5 {
         if lines.next_line() {
             given.extend_from_slice(lines.line())?;
-        } else if lines.fill(&mut source).is_err() {
+        } else if lines.fill(&mut peer, &disk).is_err() {
             given.push(b'!')?;
         }
     }

@@ -2,7 +2,7 @@
 use Rattle.std.specs.Prelude.{Option, Some, None}
 use Rattle.std.specs.List.{concat}
 use Rattle.std.specs.Io.KnownBytes.{Appends}
-use Rattle.std.proofs.Common.{◌≡◌, ⊎_elim, inl, inr, ℕ, ◌≤◌, List, [], ◌∷◌, ◌++◌, refl, sym, ap, subst, ◌∙◌, Bor}
+use Rattle.std.proofs.Common.{◌≡◌, ⊎_elim, inl, inr, ℕ, List, [], ◌∷◌, ◌++◌, refl, sym, ap, subst, ◌∙◌, Bor}
 use Rattle.std.proofs.KnownBytes.{Appends-nil, Appends-trans}
 use Rattle.outside_io.specs.Meanings.{DiskMeaning}
 use Rattle.outside_io.specs.Puts.{SinkTold, TookAll, TookSome, WerePut, sink_told}
@@ -10,7 +10,7 @@ use Rattle.outside_io.specs.PutLaws.{some_is_prefix}
 use Rattle.outside_io.specs.Sink.{AppendsPrefix}
 use Rattle.peers.specs.Meanings.{PeerMeaning, peer_took}
 use Rattle.peers.specs.Moments.{IsAmong, IsDuringPut, IsPutting, IsWithin}
-use Rattle.peers.specs.Runs.{RunsTo, call_runs, runs_wider}
+use Rattle.peers.specs.Runs.{call_runs, runs_wider}
 use Rattle.lent_peers.specs.Beside.{IsBeside}
 use Rattle.lent_peers.specs.LentPuts.{IsLentPut, LentOn, WentOn}
 use Rattle.lent_peers.specs.declared.lent.Lent.{Lent}

@@ -2,4 +2,5 @@
 pub mod Meanings
 pub mod MemPeer
 pub mod Moments
+pub mod Reads
 pub mod Runs

@@ -37,6 +37,7 @@ use Rattle.serve_command.specs.Serve.{Stopped, Stops, answered_lines, full_line}
 use Rattle.serve_command.specs.Serving.{IsJournalFull, HasNoGroup}
 use Rattle.serve_command.specs.declared.asks.Ask.{Ask}
 use Rattle.serve_command.specs.declared.server.Server.{Server}
+use Rattle.lent_peers.proofs.Flushing.{all_still}
 use Rattle.serve_command.proofs.Delivering.{delivered_after}
 use Rattle.serve_command.proofs.Grouping.{answers-append, since-append}
 use Rattle.serve_command.proofs.Standing.{first_of_more, left_begins, left_goes, shows_weaker}
@@ -248,6 +249,54 @@ module _ {D : Type 0} (reads_as : D → Option (List ℕ)) (may_leave : D → Li
       nothing [] is = refl
       nothing (byte ∷ bytes) is = absurd (omega (arith, is))
 
+-- ---- calls that leave one side as it is
+
+module _ {D : Type 0} (reads_as : D → Option (List ℕ)) (may_leave : D → List ℕ → Type 0) (moment : D → ℕ)
+    (left_since : D → ℕ → List ℕ → Type 0) (faults : D → ℕ) (cell : Cell) (cell_text : List ℕ) (opening : List Grant) (first : D)
+    (server : Server D) (lines : LinesState) (given : List (List ℕ)) {T : Type 0} where
+  -- nothing is read
+  abbrev pub input_kept : (sink : SinkTold) (gave : T → Option (List ℕ)) (ended : T → Type 0) (input_faults : T → ℕ) (a b c : T)
+      → IsConversing reads_as may_leave moment left_since faults (source_told gave ended input_faults a b) sink cell cell_text opening first
+      server lines given
+      → gave c ≡ gave b → input_faults c ≡ input_faults b
+      → IsConversing reads_as may_leave moment left_since faults (source_told gave ended input_faults a c) sink cell cell_text opening first
+      server lines given
+  input_kept sink gave ended input_faults a b c so_far unread no_read = record {
+    text = so_far.text;
+    came = subst (λ (now : Option (List ℕ)). Appends (gave a) now so_far.text) (sym unread) so_far.came;
+    reads = so_far.reads;
+    cell_is = so_far.cell_is;
+    asked = so_far.asked;
+    stands_after = so_far.stands_after;
+    left = so_far.left;
+    took = so_far.took;
+    sink_still = so_far.sink_still;
+    input_still = no_read ∙ so_far.input_still;
+    disk_still = so_far.disk_still;
+  }
+
+  -- nothing is put, in a call that belongs to the put before it
+  pub sink_kept : (input : SourceTold) (taken : T → Option (List ℕ)) (was_put : T → List ℕ → T → Type 0) (sink_faults : T → ℕ) (a b c : T)
+      → IsConversing reads_as may_leave moment left_since faults input (sink_told taken was_put sink_faults a b) cell cell_text opening first
+      server lines given
+      → ((t : T) (piece : List ℕ) → was_put t piece b → was_put t piece c) → taken c ≡ taken b → sink_faults c ≡ sink_faults b
+      → IsConversing reads_as may_leave moment left_since faults input (sink_told taken was_put sink_faults a c) cell cell_text opening first
+      server lines given
+  sink_kept input taken was_put sink_faults a b c so_far of_put same still = record {
+    text = so_far.text;
+    came = so_far.came;
+    reads = so_far.reads;
+    cell_is = so_far.cell_is;
+    asked = so_far.asked;
+    stands_after = so_far.stands_after;
+    left = so_far.left;
+    took = all_still taken was_put sink_faults b c of_put same a (line_of (head_words 0 (length opening)))
+        (answers cell opening 1 (map (ask_of cell) given)) so_far.took;
+    sink_still = still ∙ so_far.sink_still;
+    input_still = so_far.input_still;
+    disk_still = so_far.disk_still;
+  }
+
 -- it could not be read
 module _ {D K S : Type 0} (reads_as : D → Option (List ℕ)) (may_leave : D → List ℕ → Type 0) (moment : D → ℕ)
     (left_since : D → ℕ → List ℕ → Type 0) (faults : D → ℕ) (cell : Cell) (cell_text : List ℕ) (opening : List Grant) (first : D)
@@ -291,23 +340,26 @@ module _ {D K S : Type 0} (reads_as : D → Option (List ℕ)) (may_leave : D �
     (left_since : D → ℕ → List ℕ → Type 0) (faults : D → ℕ) (cell_text : List ℕ) (opening : List Grant) (server : Server D)
     (behind : StandsAfter reads_as may_leave cell_text opening server) (ready : HasNoGroup server) (new : server.asked ≡ 0)
     (only_now : (c : List ℕ) → left_since server.live.disk (moment server.live.disk) c → may_leave server.live.disk c)
-    (gave : S → Option (List ℕ)) (ended : S → Type 0) (input_faults : S → ℕ) (x : S)
-    (taken : K → Option (List ℕ)) (was_put : K → List ℕ → K → Type 0) (sink_faults : K → ℕ) (a b : K) (line : List ℕ)
+    (gave : S → Option (List ℕ)) (ended : S → Type 0) (input_faults : S → ℕ) (x y : S) (unread : gave y ≡ gave x)
+    (no_read : input_faults y ≡ input_faults x) (taken : K → Option (List ℕ)) (was_put : K → List ℕ → K → Type 0) (sink_faults : K → ℕ) (a b : K) (line : List ℕ)
     (line_is : line ≡ line_of (head_words 0 server.live.len)) where
-  head_is : line ≡ line_of (head_words 0 (length opening))
+  pub head_is : line ≡ line_of (head_words 0 (length opening))
   head_is = line_is ∙ ap (λ (n : ℕ). line_of (head_words 0 n))
       (omega (arith, behind.at.number, ap (λ (gs : List Grant). length gs) ready.pending))
 
   nothing_left : IsLeftWith reads_as may_leave moment left_since faults cell_text opening [] [] server.live.disk server.live.disk
   nothing_left = left_begins reads_as may_leave moment left_since faults cell_text opening server.live.disk only_now behind.disk
 
+  nothing_came : Appends (gave x) (gave y) []
+  nothing_came = subst (λ (now : Option (List ℕ)). Appends (gave x) now []) (sym unread) (Appends-nil (gave x))
+
   -- the head was put
   pub begins : TookAll (sink_told taken was_put sink_faults a b) (line ∷ []) → sink_faults b ≡ sink_faults a
-      → IsConversing reads_as may_leave moment left_since faults (source_told gave ended input_faults x x)
+      → IsConversing reads_as may_leave moment left_since faults (source_told gave ended input_faults x y)
       (sink_told taken was_put sink_faults a b) server.live.cell cell_text opening server.live.disk server fresh_lines []
   begins took still = record {
     text = [];
-    came = Appends-nil (gave x);
+    came = nothing_came;
     reads = record { begun = []; kept = refl; goes_on = λ more. refl };
     cell_is = refl;
     asked = new;
@@ -315,19 +367,19 @@ module _ {D K S : Type 0} (reads_as : D → Option (List ℕ)) (may_leave : D �
     left = nothing_left;
     took = subst (λ (l : List ℕ). TookAll (sink_told taken was_put sink_faults a b) (l ∷ [])) head_is took;
     sink_still = still;
-    input_still = refl;
+    input_still = no_read;
     disk_still = refl;
   }
 
   -- it was not
   pub not_begun : TookSome (sink_told taken was_put sink_faults a b) (line ∷ []) → Rose (sink_faults a) (sink_faults b)
-      → IsServedAfter reads_as may_leave moment left_since faults (source_told gave ended input_faults x x)
+      → IsServedAfter reads_as may_leave moment left_since faults (source_told gave ended input_faults x y)
       (sink_told taken was_put sink_faults a b) server.live.cell cell_text opening server.live.disk server.live.disk SinkFault
   not_begun some rose = record {
     outcome = record { status = SinkFault; pieces = answered_lines server.live.cell opening []; added = []; unsure = [] };
     served = record {
       text = [];
-      came = Appends-nil (gave x);
+      came = nothing_came;
       asked = [];
       others = [];
       split = refl;

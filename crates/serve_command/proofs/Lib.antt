@@ -2,10 +2,16 @@ pub mod Answering
 pub mod Asking
 pub mod Conversing
 pub mod Counting
+pub mod Crashing
 pub mod Delivering
 pub mod Ending
 pub mod Grouping
 pub mod Histories
+pub mod Living
+pub mod LoopLives
+pub mod OpeningLives
+pub mod Printing
+pub mod RoundLives
 pub mod Rounding
 pub mod Standing
 pub mod Taking

@@ -2,7 +2,10 @@ pub mod Answers
 pub mod Asks
 pub mod Clauses
 pub mod Conversing
+pub mod ExactlyOnce
 pub mod Laws
+pub mod Lives
+pub mod LivesThrough
 pub mod Rounds
 pub mod Serve
 pub mod Serving

@@ -1,23 +1,28 @@
 //! `serve CELL JOURNAL`: the lines of the input, each answered after the grants of the journal and of the lines before it.
-ghost use Rattle.std.specs.Prelude.{◌≡◌, ◌≤◌, length, IfOk};
-ghost use Rattle.outside_io.specs.Source.{source_told};
-ghost use Rattle.cell_walks.specs.Clauses.{Ends, IsDelivered, disk_told, early, files_told, sink_told};
-ghost use Rattle.cell_walks.specs.Observed.{observed_with};
+ghost use Rattle.std.specs.Prelude.{◌≡◌, ◌≤◌, ◌∷◌, [], length, IfOk};
+ghost use Rattle.peers.specs.Meanings.{peer_gave, peer_took};
+ghost use Rattle.lent_peers.specs.Beside.{IsBeside};
+ghost use Rattle.cell_walks.specs.Clauses.{Ends, IsDelivered, disk_told, early, files_told};
+ghost use Rattle.cell_walks.specs.Observed.{ShowsFile, observed_with};
+ghost use Rattle.cell_walks.specs.Statuses.{early_line};
 ghost use Rattle.cell_texts.specs.Clauses.{CellFits, MAX_CELL_BYTES, known};
 ghost use Rattle.serve_command.specs.Serve.{serve};
 ghost use Rattle.serve_command.specs.Conversing.{IsDesk, IsServedOnJournal};
+ghost use Rattle.serve_command.specs.LivesThrough.{LivesOnJournal, LivesThrough, WhereTold};
 
+use crate::beside::finish_beside;
 use crate::counts::SessionCounts;
 use crate::replies::{GROUP_LINES, Replies};
 use crate::server::Server;
 use crate::serving::serve_live;
 use cell_base::NoMemory;
 use cell_texts::{CellFile, CommandEnd, read_cell};
-use cell_walks::{EarlyEnd, finish_early};
+use cell_walks::EarlyEnd;
 use input_lines::InputLines;
 use journal_texts::at_journal_fault;
 use live_cell::{LiveCell, OpenedLive};
-use outside_io::{Disk, Files, Sink, Source};
+use outside_io::{Disk, Files};
+use peers::Peer;
 use shift_recovery::{OpenError, OpenFault};
 use std::alloc::Global;
 use std::sync::Wait;
@@ -33,36 +38,39 @@ struct Desk {
 }
 
 /// Runs `serve CELL JOURNAL`. All memory is taken before the first line is put.
-pub fn run_serve<R: Wait, F: Files, S: Source, K: Sink, D: Disk>(
+pub fn run_serve<R: Wait, F: Files, D: Disk, T: Peer<D>>(
     rt: &R,
     alloc: Global,
     files: &mut F,
-    input: &mut S,
-    out: &mut K,
+    peer: &mut T,
     cell: &str,
     disk: D,
 ) -> CommandEnd<D>
-    ensures { let files = files_told F.holds F.is_sound F.faults files.old files.new in
-        let input = source_told S.given S.has_ended S.faults input.old input.new in
+    ensures ends { let files = files_told F.holds F.is_sound F.faults files.old files.new in
         let disk = disk_told D.reads_as D.may_leave D.moment D.left_since D.faults disk result.disk in
-        Ends (observed_with files input disk) (sink_told K.taken K.was_put K.faults out.old out.new) (serve cell.now) result.status }
+        Ends (observed_with files (peer_gave T.Peer peer.old peer.new) disk) (peer_took T.Peer peer.old peer.new) (serve cell.now) result.status }
+    // At each moment since entry: what was given and put, and what a crash may leave.
+    ensures moments { let files = files_told F.holds F.is_sound F.faults files.old files.new in
+        WhereTold D.Disk T.Peer disk peer.old (λ given before file.
+        LivesThrough D.Disk T.Peer (ShowsFile files cell.now) given before file disk peer.old result.disk peer.new) }
 {
     match read_cell(alloc, files, cell) {
         Ok(held) => match reserve(alloc) {
-            Ok(desk) => serve_journal(rt, alloc, held, desk, input, out, disk),
-            Err(_) => end_early(out, EarlyEnd::WantOfMemory, disk),
+            Ok(desk) => serve_journal(rt, alloc, held, desk, peer, disk),
+            Err(_) => end_early(peer, EarlyEnd::WantOfMemory, disk),
         },
-        Err(end) => end_early(out, end, disk),
+        Err(end) => end_early(peer, end, disk),
     }
 }
 
 // Puts the line of an early end, and hands the disk back.
-fn end_early<K: Sink, D>(out: &mut K, end: EarlyEnd, disk: D) -> CommandEnd<D>
+fn end_early<D: Disk, T: Peer<D>>(peer: &mut T, end: EarlyEnd, disk: D) -> CommandEnd<D>
     ensures disk { result.disk ≡ disk }
-    ensures delivered { IsDelivered (sink_told K.taken K.was_put K.faults out.old out.new) (early end) result.status }
+    ensures delivered { IsDelivered (peer_took T.Peer peer.old peer.new) (early end) result.status }
+    ensures beside { IsBeside D.Disk T.Peer disk peer.old peer.new (early_line end ∷ []) }
 {
     CommandEnd {
-        status: finish_early(out, end),
+        status: finish_beside(peer, &disk, end),
         disk,
     }
 }
@@ -79,21 +87,21 @@ fn reserve(alloc: Global) -> Result<Desk, NoMemory>
 }
 
 // The conversation of a cell that was read.
-fn serve_journal<R: Wait, S: Source, K: Sink, D: Disk>(
+fn serve_journal<R: Wait, D: Disk, T: Peer<D>>(
     rt: &R,
     alloc: Global,
     held: CellFile,
     desk: Desk,
-    input: &mut S,
-    out: &mut K,
+    peer: &mut T,
     disk: D,
 ) -> CommandEnd<D>
     requires fits { CellFits held.cell }
     requires short { length held.text.items ≤ MAX_CELL_BYTES }
     requires desk { IsDesk desk }
-    ensures { let disk = disk_told D.reads_as D.may_leave D.moment D.left_since D.faults disk result.disk in
-        IsServedOnJournal disk (source_told S.given S.has_ended S.faults input.old input.new)
-        (sink_told K.taken K.was_put K.faults out.old out.new) (known held) result.status }
+    ensures served { let disk = disk_told D.reads_as D.may_leave D.moment D.left_since D.faults disk result.disk in
+        IsServedOnJournal disk (peer_gave T.Peer peer.old peer.new) (peer_took T.Peer peer.old peer.new) (known held) result.status }
+    ensures moments { WhereTold D.Disk T.Peer disk peer.old (λ given before file.
+        LivesOnJournal D.Disk T.Peer (known held) given before file disk peer.old result.disk peer.new) }
 {
     let CellFile { cell, text } = held;
     let Desk {
@@ -110,12 +118,12 @@ fn serve_journal<R: Wait, S: Source, K: Sink, D: Disk>(
                 replies,
                 first: None,
             };
-            serve_live(rt, server, lines, input, out)
+            serve_live(rt, server, lines, peer)
         }
         Err(OpenError { disk, why }) => match why {
-            OpenFault::Refused(why) => end_early(out, at_journal_fault(why), disk),
-            OpenFault::Device => end_early(out, EarlyEnd::DeviceFailed, disk),
-            OpenFault::Memory => end_early(out, EarlyEnd::WantOfMemory, disk),
+            OpenFault::Refused(why) => end_early(peer, at_journal_fault(why), disk),
+            OpenFault::Device => end_early(peer, EarlyEnd::DeviceFailed, disk),
+            OpenFault::Memory => end_early(peer, EarlyEnd::WantOfMemory, disk),
         },
     }
 }

@@ -1,7 +1,9 @@
 //! What follows of the answers, each law the contract of a function that does nothing.
 ghost use Rattle.std.specs.Prelude.{List};
 ghost use Rattle.cell_base.specs.declared.shifts.Grant.{Grant};
+ghost use Rattle.serve_command.specs.ExactlyOnce.{Acknowledged, ExactlyOnce, GoesOn};
 ghost use Rattle.serve_command.specs.Laws.{EachOnce, IsBlock, IsServedHistory};
+ghost use Rattle.serve_command.specs.Lives.{Start};
 ghost use Rattle.serve_command.specs.declared.asks.Ask.{Ask};
 
 use cell_base::Cell;
@@ -23,4 +25,20 @@ pub fn steps_are_one_history(cell: &Cell)
 /// Where each line asks for a step, what is put is a block of a record.
 pub fn steps_are_a_record(cell: &Cell)
     ensures { (opening : List Grant) (asked : List Ask) → IsBlock cell.now opening asked }
+{}
+
+/// At each moment of a conversation each file that a crash then may leave has each grant whose answer was put.
+pub fn acknowledged()
+    ensures { (start : Start) → Acknowledged start }
+{}
+
+/// A session that has at most one step without an answer finds after a crash at any moment the count of grants that it was told, or one
+/// more: so the step was granted once, or not at all, and `K grants` tells which.
+pub fn exactly_once()
+    ensures { (start : Start) → ExactlyOnce start }
+{}
+
+/// A conversation that is opened on what a crash left goes on after the first of the lines that were sent.
+pub fn goes_on_after_a_crash()
+    ensures { (start : Start) → GoesOn start }
 {}

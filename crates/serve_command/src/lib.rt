@@ -14,6 +14,7 @@
 #![tactic(auto)]
 
 mod asks;
+mod beside;
 mod command;
 mod counts;
 pub mod laws;

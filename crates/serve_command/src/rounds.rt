@@ -2,20 +2,25 @@
 ghost use Rattle.std.specs.Prelude.{◌≡◌, ◌<◌, ◌+◌, ◌^◌, List, ℕ, Ok, IfSome, OnOk, take, length, ◌≤◌, ◌++◌, ◌∷◌, []};
 ghost use Rattle.cell_base.specs.declared.shifts.Grant.{Grant};
 ghost use Rattle.input_lines.specs.Reading.{AreLinesSoFar};
-ghost use Rattle.cell_walks.specs.Clauses.{IsDelivered, printed, sink_told};
+ghost use Rattle.peers.specs.Meanings.{peer_took};
+ghost use Rattle.lent_peers.specs.Beside.{IsBeside};
+ghost use Rattle.cell_walks.specs.Clauses.{IsDelivered, printed};
 ghost use Rattle.cell_walks.specs.declared.status.Status.TheVariants.{DeviceFault, JournalRefused};
+ghost use Rattle.serve_command.specs.Lives.{LivesOn};
 ghost use Rattle.serve_command.specs.Rounds.{GROUP_LINES, StandsAfter, HasNoGroup, IsGroupOfLines, Rounds, StandsAt, Stays, full_line};
 
 use crate::asks::read_ask;
+use crate::beside::{finish_beside, print_beside};
 use crate::command::MAX_SERVED;
 use crate::replies::GROUP_LINES;
 use crate::server::Server;
-use cell_texts::{print_line, print_lines};
-use cell_walks::{Status, finish, finish_early};
+use cell_walks::Status;
 use input_lines::InputLines;
 use journal_texts::at_journal_fault;
-use outside_io::{Disk, Sink};
+use outside_io::Disk;
+use peers::Peer;
 use shift_recovery::JournalFault;
+use std::slice;
 
 impl<D: Disk> Server<D> {
     /// Answers the lines that are at hand, up to a group of them: the answers are kept, and the grants are pending. Says whether the
@@ -43,57 +48,71 @@ impl<D: Disk> Server<D> {
 
     /// Answers a group of the lines at hand: decides them, makes their grants stable, and puts the answers. Or gives the status with which
     /// the conversation stops.
-    pub fn round<K: Sink>(&mut self, lines: &mut InputLines, out: &mut K) -> Result<(), Status>
+    pub fn round<T: Peer<D>>(&mut self, lines: &mut InputLines, peer: &mut T) -> Result<(), Status>
         requires ready { HasNoGroup self.old }
         requires few { self.old.asked + GROUP_LINES < 2 ^ 64 }
         ensures round { (cell_text : List ℕ) (grants : List Grant) (text : List ℕ) (given : List (List ℕ))
             → StandsAfter D.reads_as D.may_leave cell_text grants self.old → AreLinesSoFar text given lines.old
             → Rounds D.reads_as D.may_leave D.moment D.left_since D.faults self.old.live.cell
-            (sink_told K.taken K.was_put K.faults out.old out.new)
+            (peer_took T.Peer peer.old peer.new)
             cell_text grants text given self.old self.new lines.new result }
         ensures ready { OnOk result (HasNoGroup self.new) }
         ensures few { OnOk result (self.new.asked ≤ self.old.asked + GROUP_LINES) }
-        ensures still { OnOk result (K.faults out.new ≡ K.faults out.old) }
+        ensures still { OnOk result (T.faults peer.new ≡ T.faults peer.old) }
         ensures fed { OnOk result (D.faults self.new.live.disk ≡ D.faults self.old.live.disk) }
+        ensures lives { LivesOn D.Disk T.Peer self.old lines.old peer.old self.new.live.disk peer.new }
+        ensures unread { T.given peer.new ≡ T.given peer.old }
+        ensures no_read { T.read_faults peer.new ≡ T.read_faults peer.old }
+        ensures handed { OnOk result (T.handed_on peer.old ≡ T.taken peer.old → T.handed_on peer.new ≡ T.taken peer.new) }
     {
         let full = self.take_group(lines);
         if let Err(_) = self.live.commit() {
-            return Err(self.put_halted(out));
+            return Err(self.put_halted(peer));
         }
-        if let Err(_) = print_lines(out, self.replies.as_slice()) {
+        if let Err(_) = print_beside(peer, self.live.disk(), self.replies.as_slice()) {
             return Err(Status::SinkFault);
         }
         self.replies.clear();
         self.first = None;
         if full {
-            return Err(put_full(out));
+            return Err(put_full(peer, self.live.disk()));
         }
         Ok(())
     }
 
     // Puts the answers before the first grant of the group, and that it halted.
-    fn put_halted<K: Sink>(&self, out: &mut K) -> Status
-        ensures { IfSome self.now.first (λ first. first.at ≤ length self.now.replies
-            → IsDelivered (sink_told K.taken K.was_put K.faults out.old out.new)
+    fn put_halted<T: Peer<D>>(&self, peer: &mut T) -> Status
+        ensures delivered { IfSome self.now.first (λ first. first.at ≤ length self.now.replies
+            → IsDelivered (peer_took T.Peer peer.old peer.new)
             (printed DeviceFault (take first.at self.now.replies ++ first.line ∷ [])) result) }
+        ensures beside { IfSome self.now.first (λ first. first.at ≤ length self.now.replies
+            → IsBeside D.Disk T.Peer self.now.live.disk peer.old peer.new (take first.at self.now.replies ++ first.line ∷ [])) }
+        ensures unread { T.given peer.new ≡ T.given peer.old }
+        ensures no_read { T.read_faults peer.new ≡ T.read_faults peer.old }
     {
         let Some(first) = &self.first else {
             return Status::DeviceFault;
         };
+        let disk = self.live.disk();
         let replies = self.replies.as_slice();
-        if let Err(_) = print_lines(out, &replies[..first.at.min(replies.len())]) {
+        if let Err(_) = print_beside(peer, disk, &replies[..first.at.min(replies.len())]) {
             return Status::SinkFault;
         }
-        finish(out, Status::DeviceFault, &first.line)
+        match print_beside(peer, disk, slice::from_ref(&first.line)) {
+            Ok(()) => Status::DeviceFault,
+            Err(_) => Status::SinkFault,
+        }
     }
 }
 
 // Puts the line of a journal that is full.
-fn put_full<K: Sink>(out: &mut K) -> Status
-    ensures { IsDelivered (sink_told K.taken K.was_put K.faults out.old out.new) (printed JournalRefused (full_line ∷ [])) result }
+fn put_full<D: Disk, T: Peer<D>>(peer: &mut T, disk: &D) -> Status
+    ensures delivered { IsDelivered (peer_took T.Peer peer.old peer.new) (printed JournalRefused (full_line ∷ [])) result }
+    ensures beside { IsBeside D.Disk T.Peer disk.now peer.old peer.new (full_line ∷ []) }
 {
-    finish_early(
-        out,
+    finish_beside(
+        peer,
+        disk,
         at_journal_fault(JournalFault::Long {
             len: MAX_SERVED + 1,
         }),

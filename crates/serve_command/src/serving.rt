@@ -1,44 +1,47 @@
 //! The conversation: round after round, until the input ends.
 ghost use Rattle.std.specs.Prelude.{◌≡◌, List, ℕ, Ok};
 ghost use Rattle.cell_base.specs.declared.shifts.Grant.{Grant};
-ghost use Rattle.outside_io.specs.Source.{source_told};
-ghost use Rattle.cell_walks.specs.Clauses.{sink_told};
+ghost use Rattle.peers.specs.Meanings.{peer_gave, peer_took};
 ghost use Rattle.serve_command.specs.Conversing.{Converses, IsServedAfter, fresh_lines};
+ghost use Rattle.serve_command.specs.Lives.{LivesFrom};
 ghost use Rattle.serve_command.specs.Rounds.{StandsAfter, HasNoGroup};
 
+use crate::beside::{finish_beside, print_beside, print_left_beside};
 use crate::server::Server;
-use cell_texts::{CommandEnd, print_left, print_line};
-use cell_walks::{EarlyEnd, Status, finish_early};
+use cell_texts::CommandEnd;
+use cell_walks::{EarlyEnd, Status};
 use input_lines::InputLines;
 use live_cell::LiveParts;
-use outside_io::{Disk, Sink, Source};
+use outside_io::Disk;
+use peers::Peer;
 use record_text::head_line;
+use std::slice;
 use std::sync::Wait;
 
 // More rounds than a conversation has, so that the number of a line fits 64 bits.
 const MAX_ROUNDS: u64 = 18_014_398_509_481_984;
 
-/// Answers the lines of a source after what a live cell has, and puts the plan once it has ended.
-pub fn serve_live<R: Wait, S: Source, K: Sink, D: Disk>(
+/// Answers the lines of a peer after what a live cell has, and puts the plan once they have ended.
+pub fn serve_live<R: Wait, D: Disk, T: Peer<D>>(
     rt: &R,
     mut server: Server<D>,
     mut lines: InputLines,
-    input: &mut S,
-    out: &mut K,
+    peer: &mut T,
 ) -> CommandEnd<D>
     requires ready { HasNoGroup server }
     requires first { server.asked ≡ 0 }
     requires fresh { lines ≡ fresh_lines }
-    ensures { (cell_text : List ℕ) (opening : List Grant) → StandsAfter D.reads_as D.may_leave cell_text opening server
+    ensures serves { (cell_text : List ℕ) (opening : List Grant) → StandsAfter D.reads_as D.may_leave cell_text opening server
         → IsServedAfter D.reads_as D.may_leave D.moment D.left_since D.faults
-        (source_told S.given S.has_ended S.faults input.old input.new) (sink_told K.taken K.was_put K.faults out.old out.new)
+        (peer_gave T.Peer peer.old peer.new) (peer_took T.Peer peer.old peer.new)
         server.live.cell cell_text opening server.live.disk result.disk result.status }
+    ensures lives { LivesFrom D.Disk T.Peer server peer.old result.disk peer.new }
 {
-    match converse(rt, &mut server, &mut lines, input, out) {
+    match converse(rt, &mut server, &mut lines, peer) {
         Ok(()) => {
             let _core = server.live.core();
             let LiveParts { core, disk } = server.live.finish();
-            match print_left(out, core) {
+            match print_left_beside(peer, &disk, core) {
                 Ok(()) => CommandEnd {
                     status: Status::Done,
                     disk,
@@ -56,34 +59,37 @@ pub fn serve_live<R: Wait, S: Source, K: Sink, D: Disk>(
     }
 }
 
-// Puts the head, and answers the lines of a source until it ends. Or gives the status with which the conversation stops before.
-fn converse<R: Wait, S: Source, K: Sink, D: Disk>(
+// Puts the head, and answers the lines of a peer until they end. Or gives the status with which the conversation stops before.
+fn converse<R: Wait, D: Disk, T: Peer<D>>(
     rt: &R,
     server: &mut Server<D>,
     lines: &mut InputLines,
-    input: &mut S,
-    out: &mut K,
+    peer: &mut T,
 ) -> Result<(), Status>
     requires ready { HasNoGroup server.old }
     requires first { server.old.asked ≡ 0 }
     requires fresh { lines.old ≡ fresh_lines }
-    ensures { (cell_text : List ℕ) (opening : List Grant) → StandsAfter D.reads_as D.may_leave cell_text opening server.old
+    ensures converses { (cell_text : List ℕ) (opening : List Grant) → StandsAfter D.reads_as D.may_leave cell_text opening server.old
         → Converses D.reads_as D.may_leave D.moment D.left_since D.faults
-        (source_told S.given S.has_ended S.faults input.old input.new) (sink_told K.taken K.was_put K.faults out.old out.new)
+        (peer_gave T.Peer peer.old peer.new) (peer_took T.Peer peer.old peer.new)
         server.old.live.cell cell_text opening server.old.live.disk server.new result }
+    ensures lives { LivesFrom D.Disk T.Peer server.old peer.old server.new.live.disk peer.new }
 {
-    if let Err(_) = print_line(out, &head_line(0, server.live.len())) {
+    let head = head_line(0, server.live.len());
+    if let Err(_) = print_beside(peer, server.live.disk(), slice::from_ref(&head)) {
         return Err(Status::SinkFault);
     }
     for _round in 0..MAX_ROUNDS {
-        if let Err(status) = server.round(lines, out) {
+        if let Err(status) = server.round(lines, peer) {
             return Err(status);
         }
         if lines.is_spent() {
-            match lines.fill(input) {
+            match lines.fill(peer, server.live.disk()) {
                 Ok(0) => return Ok(()),
                 Ok(_) => {}
-                Err(_) => return Err(finish_early(out, EarlyEnd::NotRead)),
+                Err(_) => {
+                    return Err(finish_beside(peer, server.live.disk(), EarlyEnd::NotRead));
+                }
             }
         }
     }

@@ -10,6 +10,7 @@ use anyhow::{Context, Result, bail};
 use cell_base::List;
 use cell_program::{Ended, Served, cell_main, serve_main, served_in};
 use outside_io::{FreePace, MemDisk, MemFiles, MemSink, MemSource};
+use peers::Silent;
 use std::io::{ErrorKind, Read};
 use std::process::ExitCode;
 use std::rt::{Env, Files};
@@ -73,19 +74,13 @@ fn serve<R: Files + Input + Print + AllocGlobal + Wait>(
     let mut lines = Vec::new(alloc);
     rt.reader().read_to_end(&mut lines)?;
     let input = MemSource::new(alloc, &lines, PIECE, List::new(alloc));
-    let mut input = input.ok().context("no memory")?;
-    let mut out = MemSink::new(alloc, List::new(alloc));
+    let mut peer = Silent {
+        source: input.ok().context("no memory")?,
+        sink: MemSink::new(alloc, List::new(alloc)),
+    };
     println!(rt; "called")?;
-    let Ended { status, disk } = serve_main(
-        rt,
-        alloc,
-        &mut files,
-        &mut input,
-        &mut out,
-        served.cell,
-        disk,
-    );
-    print_end(rt, status, &out, &disk)
+    let Ended { status, disk } = serve_main(rt, alloc, &mut files, &mut peer, served.cell, disk);
+    print_end(rt, status, &peer.sink, &disk)
 }
 
 // Prints how a call ended.

@@ -9,6 +9,7 @@ use cell_program::{Journal, Served, cell_main, journal_in, serve_main, served_in
 use hinting::{Fails, failure_of, tell};
 use manner::Manner;
 use outside_io::{Disk, Pace};
+use peers::Silent;
 use real_outside::{
     DirFiles, FileDisk, InSource, OUT_BUFFER, OutSink, Purpose, RestPace, SeenSink,
     words_after_name,
@@ -45,21 +46,15 @@ fn serve<R: AllocGlobal + Clock + Eprint + Files<File = File> + Input + Print + 
 ) -> u8 {
     let alloc = rt.alloc();
     let mut files = DirFiles::new(rt, false);
-    let mut input = InSource::new(rt.reader());
-    let mut out = SeenSink::new(rt, OutSink::new(io::writer(rt)), manner.seen());
+    let mut peer = Silent {
+        source: InSource::new(rt.reader()),
+        sink: SeenSink::new(rt, OutSink::new(io::writer(rt)), manner.seen()),
+    };
     let disk = FileDisk::new(rt, alloc, served.journal, Purpose::ToAdd, false);
-    let ended = serve_main(
-        rt,
-        alloc,
-        &mut files,
-        &mut input,
-        &mut out,
-        served.cell,
-        disk,
-    );
+    let ended = serve_main(rt, alloc, &mut files, &mut peer, served.cell, disk);
     if manner.gives_hints {
-        let failure = failure_of(ended.status, &files, &ended.disk, out.inner());
-        tell(rt, words, ended.status, out.line(), failure);
+        let failure = failure_of(ended.status, &files, &ended.disk, peer.sink.inner());
+        tell(rt, words, ended.status, peer.sink.line(), failure);
     }
     ended.status
 }

@@ -1,8 +1,7 @@
 -- The journal is opened and served, or the command ends.
 use Rattle.std.specs.Prelude.{IfSome, Ok, Err}
-use Rattle.std.proofs.Common.{◌≡◌, ◌⊎◌, List, ℕ, ap, arith, length, refl, subst, sym, ◌∙◌}
-use Rattle.outside_io.specs.Puts.{sink_told}
-use Rattle.outside_io.specs.Source.{source_told}
+use Rattle.std.proofs.Common.{◌≡◌, ◌⊎◌, inl, List, ℕ, ap, arith, length, refl, subst, sym, ◌∙◌}
+use Rattle.outside_io.specs.Telling.{told, where_told}
 use Rattle.cell_base.specs.declared.cells.Cell.{Cell}
 use Rattle.cell_base.specs.declared.shifts.Grant.{Grant}
 use Rattle.cell_base.specs.Histories.{replay}
@@ -15,13 +14,19 @@ use Rattle.cell_walks.specs.Allowed.{NotOpened, OpeningFailed, OpeningRefused, O
 use Rattle.cell_walks.specs.DiskTold.{disk_told}
 use Rattle.cell_texts.specs.Tests.{known}
 use Rattle.journal_texts.proofs.Disks.{adds_nothing, only_read}
+use Rattle.peers.specs.Meanings.{peer_gave, peer_took}
+use Rattle.peers.specs.Runs.{RunsTo}
+use Rattle.cell_walks.specs.Statuses.{early_line}
+use Rattle.cell_walks.specs.declared.early_end.EarlyEnd.TheVariants.{DeviceFailed, WantOfMemory}
+use Rattle.serve_command.specs.LivesThrough.{IsUnopened, Opened, Unopened}
+use Rattle.serve_command.proofs.OpeningLives.{either_end, lives_since}
 use Rattle.serve_command.specs.Conversing.{IsServedOnJournal}
 use Rattle.serve_command.specs.declared.command.TheConstants.{MAX_SERVED}
 use Rattle.serve_command.proofs.Ending.{opened_so}
 use Rattle.serve_command.proofs.command.serve_journal.Goals as goal
 
-pub returns-in-Ok : goal.returns-in-Ok
-returns-in-Ok g c =
+pub returns-in-Ok-clause-served : goal.returns-in-Ok-clause-served
+returns-in-Ok-clause-served g c =
     let disk = c.args.disk in
     let live = c.in-Ok.field-0.live in
     let opening : List Grant = c.in-Ok.ensures.opened.0 in
@@ -33,10 +38,9 @@ returns-in-Ok g c =
     (λ file. opened_as c.args.held.cell file text MAX_SERVED ≡ Ok opening)) c.deref.ensures.value after.exact in
     opened_so g.D.Disk.reads_as g.D.Disk.may_leave g.D.Disk.moment g.D.Disk.left_since g.D.Disk.faults
     (known c.args.held) disk c.serve_live.result.disk live opening
-    (source_told g.S.Source.given g.S.Source.has_ended g.S.Source.faults c.args.input.now c.serve_live.new.input)
-    (sink_told g.K.Sink.taken g.K.Sink.was_put g.K.Sink.faults c.args.out.now c.serve_live.new.out)
+    (peer_gave g.T.Peer c.args.peer.now c.serve_live.new.peer) (peer_took g.T.Peer c.args.peer.now c.serve_live.new.peer)
     c.serve_live.result.status after.state after.due exact opened c.in-Ok.ensures.cause
-    (c.serve_live.ensures c.args.held.text.items opening (record {
+    (c.serve_live.ensures.serves c.args.held.text.items opening (record {
       at = record {
         parts = ap (λ (l : LiveState _). l.parts) after.state
             ∙ ap (λ (cell : Cell). replay cell opening) (sym (ap (λ (l : LiveState _). l.cell) after.state));
@@ -46,10 +50,10 @@ returns-in-Ok g c =
       disk = opened.stands;
     }))
 
-pub returns-in-Refused : goal.returns-in-Refused
-returns-in-Refused g c =
-    let input = source_told g.S.Source.given g.S.Source.has_ended g.S.Source.faults c.args.input.now c.args.input.now in
-    let sink = sink_told g.K.Sink.taken g.K.Sink.was_put g.K.Sink.faults c.args.out.now c.end_early.new.out in
+pub returns-in-Refused-clause-served : goal.returns-in-Refused-clause-served
+returns-in-Refused-clause-served g c =
+    let input = peer_gave g.T.Peer c.args.peer.now c.end_early.new.peer in
+    let sink = peer_took g.T.Peer c.args.peer.now c.end_early.new.peer in
     subst (λ (d : _). IsServedOnJournal (disk_told g.D.Disk.reads_as g.D.Disk.may_leave g.D.Disk.moment g.D.Disk.left_since
     g.D.Disk.faults c.args.disk d) input sink (known c.args.held) c.end_early.result.status)
     (sym c.end_early.ensures.disk)
@@ -63,10 +67,10 @@ returns-in-Refused g c =
     c.at_journal_fault.ensures)
     c.end_early.ensures.delivered)
 
-pub returns-in-Device : goal.returns-in-Device
-returns-in-Device g c =
-    let input = source_told g.S.Source.given g.S.Source.has_ended g.S.Source.faults c.args.input.now c.args.input.now in
-    let sink = sink_told g.K.Sink.taken g.K.Sink.was_put g.K.Sink.faults c.args.out.now c.end_early-in-Device.new.out in
+pub returns-in-Device-clause-served : goal.returns-in-Device-clause-served
+returns-in-Device-clause-served g c =
+    let input = peer_gave g.T.Peer c.args.peer.now c.end_early-in-Device.new.peer in
+    let sink = peer_took g.T.Peer c.args.peer.now c.end_early-in-Device.new.peer in
     subst (λ (d : _). IsServedOnJournal (disk_told g.D.Disk.reads_as g.D.Disk.may_leave g.D.Disk.moment g.D.Disk.left_since
     g.D.Disk.faults c.args.disk d) input sink (known c.args.held) c.end_early-in-Device.result.status)
     (sym c.end_early-in-Device.ensures.disk)
@@ -80,13 +84,64 @@ returns-in-Device g c =
     c.deref.ensures.value (rw c.in-Device.is at c.in-Err.ensures.leaves))))
     c.end_early-in-Device.ensures.delivered)
 
-pub returns : goal.returns
-returns g c =
-    let input = source_told g.S.Source.given g.S.Source.has_ended g.S.Source.faults c.args.input.now c.args.input.now in
-    let sink = sink_told g.K.Sink.taken g.K.Sink.was_put g.K.Sink.faults c.args.out.now c.end_early-in-Memory.new.out in
+pub returns-clause-served : goal.returns-clause-served
+returns-clause-served g c =
+    let input = peer_gave g.T.Peer c.args.peer.now c.end_early-in-Memory.new.peer in
+    let sink = peer_took g.T.Peer c.args.peer.now c.end_early-in-Memory.new.peer in
     subst (λ (d : _). IsServedOnJournal (disk_told g.D.Disk.reads_as g.D.Disk.may_leave g.D.Disk.moment g.D.Disk.left_since
     g.D.Disk.faults c.args.disk d) input sink (known c.args.held) c.end_early-in-Memory.result.status)
     (sym c.end_early-in-Memory.ensures.disk)
     (NotOpened _ (OpeningStarved refl (only_read g.D.Disk.reads_as g.D.Disk.may_leave g.D.Disk.moment g.D.Disk.left_since g.D.Disk.faults
     c.args.disk c.in-Err.field-0.disk (rw c.in-Memory.is at c.in-Err.ensures.leaves)))
     c.end_early-in-Memory.ensures.delivered)
+
+pub returns-in-Ok-clause-moments : goal.returns-in-Ok-clause-moments
+returns-in-Ok-clause-moments g c = λ given before given_is put_is clock.
+    let disk = c.args.disk in
+    let live = c.in-Ok.field-0.live in
+    let opening : List Grant = c.in-Ok.ensures.opened.0 in
+    let after = c.in-Ok.ensures.opened.1 in
+    let opened = subst (λ (text : List ℕ). IsOpened g.D.Disk.reads_as g.D.Disk.may_leave g.D.Disk.moment g.D.Disk.left_since disk
+    text opening
+    live.disk) c.deref.ensures.value after.stands in
+    let exact = subst (λ (text : List ℕ). IfSome (g.D.Disk.reads_as disk)
+    (λ file. opened_as c.args.held.cell file text MAX_SERVED ≡ Ok opening)) c.deref.ensures.value after.exact in
+    where_told (g.D.Disk.reads_as disk) _ (λ file is. Opened opening (told _ _ file is exact)
+    (lives_since g.D.Disk g.T.Peer given before disk c.args.peer.now given_is put_is clock (known c.args.held) opening _
+    c.serve_live.result.disk c.serve_live.new.peer file is (ap (λ (l : LiveState _). l.cell) after.state)
+    (record {
+      at = record {
+        parts = ap (λ (l : LiveState _). l.parts) after.state
+            ∙ ap (λ (cell : Cell). replay cell opening) (sym (ap (λ (l : LiveState _). l.cell) after.state));
+        counts = after.taken.1 c.requires.desk.counts (omega (arith, after.few));
+        number = omega (arith, ap (λ (l : LiveState _). l.len) after.state, ap (λ (l : LiveState _). length l.pending) after.state);
+      };
+      disk = opened.stands;
+    }) opened c.serve_live.ensures.lives))
+
+pub returns-in-Refused-clause-moments : goal.returns-in-Refused-clause-moments
+returns-in-Refused-clause-moments g c = λ given before given_is put_is clock.
+    where_told (g.D.Disk.reads_as c.args.disk) _ (λ file is. Unopened (early_line c.at_journal_fault.result)
+    (subst (λ (d : _). RunsTo g.D.Disk g.T.Peer c.args.peer.now c.args.disk c.end_early.new.peer d
+    (IsUnopened (g.D.Disk.may_leave c.args.disk) given before file (early_line c.at_journal_fault.result))) (sym c.end_early.ensures.disk)
+    (either_end g.D.Disk g.T.Peer given before c.args.disk c.args.peer.now given_is put_is clock file (early_line c.at_journal_fault.result) c.args.held.text.items
+    c.in-Err.field-0.disk c.end_early.new.peer is (inl (rw c.in-Refused.is at c.in-Err.ensures.leaves)) c.end_early.ensures.beside)))
+
+pub returns-in-Device-clause-moments : goal.returns-in-Device-clause-moments
+returns-in-Device-clause-moments g c = λ given before given_is put_is clock.
+    where_told (g.D.Disk.reads_as c.args.disk) _ (λ file is. Unopened (early_line DeviceFailed)
+    (subst (λ (d : _). RunsTo g.D.Disk g.T.Peer c.args.peer.now c.args.disk c.end_early-in-Device.new.peer d
+    (IsUnopened (g.D.Disk.may_leave c.args.disk) given before file (early_line DeviceFailed))) (sym c.end_early-in-Device.ensures.disk)
+    (either_end g.D.Disk g.T.Peer given before c.args.disk c.args.peer.now given_is put_is clock file (early_line DeviceFailed) c.args.held.text.items
+    c.in-Err.field-0.disk c.end_early-in-Device.new.peer is (subst (λ (text : List ℕ). OnlyReads g.D.Disk.reads_as g.D.Disk.may_leave g.D.Disk.moment g.D.Disk.left_since c.args.disk
+    c.in-Err.field-0.disk
+    ⊎ IsUnmade g.D.Disk.reads_as g.D.Disk.may_leave g.D.Disk.moment g.D.Disk.left_since c.args.disk text c.in-Err.field-0.disk)
+    c.deref.ensures.value (rw c.in-Device.is at c.in-Err.ensures.leaves)) c.end_early-in-Device.ensures.beside)))
+
+pub returns-clause-moments : goal.returns-clause-moments
+returns-clause-moments g c = λ given before given_is put_is clock.
+    where_told (g.D.Disk.reads_as c.args.disk) _ (λ file is. Unopened (early_line WantOfMemory)
+    (subst (λ (d : _). RunsTo g.D.Disk g.T.Peer c.args.peer.now c.args.disk c.end_early-in-Memory.new.peer d
+    (IsUnopened (g.D.Disk.may_leave c.args.disk) given before file (early_line WantOfMemory))) (sym c.end_early-in-Memory.ensures.disk)
+    (either_end g.D.Disk g.T.Peer given before c.args.disk c.args.peer.now given_is put_is clock file (early_line WantOfMemory) c.args.held.text.items
+    c.in-Err.field-0.disk c.end_early-in-Memory.new.peer is (inl (rw c.in-Memory.is at c.in-Err.ensures.leaves)) c.end_early-in-Memory.ensures.beside)))

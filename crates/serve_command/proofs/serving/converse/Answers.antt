@@ -1,49 +1,87 @@
 -- The head, and then round after round.
-use Rattle.std.proofs.Common.{ℕ, [], Ok, ap, arith, map, subst, sym, ◌∙◌, ◌++◌}
+use Rattle.std.proofs.Common.{◌≡◌, ◌<◌, ℕ, [], ◌∷◌, Ok, length, ap, arith, inl, inr, map, refl, subst, sym, ◌∙◌, ◌++◌}
 use Rattle.cell_base.specs.declared.cells.Cell.{Cell}
 use Rattle.input_lines.specs.Reading.{LinesState}
-use Rattle.outside_io.specs.Puts.{sink_told}
-use Rattle.outside_io.specs.Source.{source_told}
+use Rattle.lent_peers.specs.Beside.{IsBeside}
+use Rattle.peers.specs.Meanings.{peer_gave, peer_took}
+use Rattle.peers.specs.Reads.{IsRead}
+use Rattle.cell_walks.specs.Statuses.{early_line}
+use Rattle.cell_walks.specs.declared.early_end.EarlyEnd.TheVariants.{NotRead}
+use Rattle.outside_io.specs.Causes.{Rose}
+use Rattle.outside_io.specs.Puts.{TookAll, TookSome}
 use Rattle.record_text.specs.Lines.{head_words, line_of}
 use Rattle.serve_command.specs.Answers.{since}
 use Rattle.serve_command.specs.Asks.{ask_of}
 use Rattle.serve_command.specs.Conversing.{IsConversing}
+use Rattle.serve_command.specs.Lives.{LivesTo}
 use Rattle.serve_command.specs.Rounds.{IsLastRound, IsRound}
-use Rattle.serve_command.proofs.Conversing.{begins, is_lost, none_is_ahead, not_begun, piece_comes, round_goes, stops}
+use Rattle.serve_command.proofs.Conversing.{begins, head_is, input_kept, is_lost, none_is_ahead, not_begun, piece_comes, round_goes}
+use Rattle.serve_command.proofs.Conversing.{sink_kept, stops}
+use Rattle.serve_command.proofs.LoopLives.{begins_live, lives_then, lost_lives, read_lives, served_to}
 use Rattle.serve_command.proofs.serving.converse.Goals.{then-is_spent+in-Ok, else-is_spent}
 use Rattle.serve_command.proofs.serving.converse.Goals as goal
 
-pub returns-in-Err : goal.returns-in-Err
-returns-in-Err g c = λ cell_text opening behind.
-    not_begun g.D.Disk.reads_as g.D.Disk.may_leave g.D.Disk.moment g.D.Disk.left_since g.D.Disk.faults cell_text opening c.args.server.now
-    behind c.requires.ready c.requires.first
-    (g.met.D.Disk.only_now c.args.server.now.live.disk) g.S.Source.given g.S.Source.has_ended g.S.Source.faults c.args.input.now
-    g.K.Sink.taken g.K.Sink.was_put g.K.Sink.faults c.args.out.now c.print_line.new.out c.head_line.result
-    (c.head_line.ensures ∙ ap (λ (n : ℕ). line_of (head_words 0 n)) c.len.ensures) c.in-Err.ensures.part c.in-Err.ensures.cause.failed
+pub returns-in-Err-clause-converses : goal.returns-in-Err-clause-converses
+returns-in-Err-clause-converses g c = λ cell_text opening behind.
+    not_begun g.D.Disk.reads_as g.D.Disk.may_leave g.D.Disk.moment g.D.Disk.left_since g.D.Disk.faults cell_text opening
+    c.args.server.now behind c.requires.ready c.requires.first (g.met.D.Disk.only_now c.args.server.now.live.disk)
+    g.T.Peer.given g.T.Peer.has_ended g.T.Peer.read_faults c.args.peer.now c.print_beside.new.peer
+    c.print_beside.ensures.beside.unread c.print_beside.ensures.beside.no_read
+    g.T.Peer.taken g.T.Peer.was_put g.T.Peer.faults c.args.peer.now c.print_beside.new.peer c.head_line-head.result
+    (c.head_line-head.ensures ∙ ap (λ (n : ℕ). line_of (head_words 0 n)) c.len.ensures)
+    (subst (TookSome (peer_took g.T.Peer c.args.peer.now c.print_beside.new.peer)) c.from_ref.ensures.value c.in-Err.ensures.part)
+    c.in-Err.ensures.cause.failed
+
+pub returns-in-Err-clause-lives : goal.returns-in-Err-clause-lives
+returns-in-Err-clause-lives g c = λ start is.
+    begins_live g.D.Disk g.T.Peer start c.args.server.now c.args.peer.now c.print_beside.new.peer c.head_line-head.result is
+    (head_is g.D.Disk.reads_as g.D.Disk.may_leave g.D.Disk.moment g.D.Disk.left_since g.D.Disk.faults start.text start.opening
+    c.args.server.now is.stands_after c.requires.ready c.requires.first (g.met.D.Disk.only_now c.args.server.now.live.disk)
+    g.T.Peer.given g.T.Peer.has_ended g.T.Peer.read_faults c.args.peer.now c.print_beside.new.peer
+    c.print_beside.ensures.beside.unread c.print_beside.ensures.beside.no_read
+    g.T.Peer.taken g.T.Peer.was_put g.T.Peer.faults c.args.peer.now c.print_beside.new.peer c.head_line-head.result
+    (c.head_line-head.ensures ∙ ap (λ (n : ℕ). line_of (head_words 0 n)) c.len.ensures))
+    (subst (λ (d : _). IsBeside g.D.Disk g.T.Peer d c.args.peer.now c.print_beside.new.peer (c.head_line-head.result ∷ [])) c.disk.ensures
+    (subst (IsBeside g.D.Disk g.T.Peer c.disk.result.now c.args.peer.now c.print_beside.new.peer) c.from_ref.ensures.value
+    c.print_beside.ensures.beside))
 
 pub loop-round-init : goal.loop-round-init
 loop-round-init g c = record {
   ready = c.requires.ready;
   few = omega (arith, c.requires.first);
+  handed = c.in_default.ensures.handed (inr (subst (λ (ls : _). 0 < length ls) (sym c.from_ref.ensures.value) (omega arith)));
   goes_on = λ cell_text opening behind. (
     [],
     subst (λ (ls : LinesState). IsConversing g.D.Disk.reads_as g.D.Disk.may_leave g.D.Disk.moment g.D.Disk.left_since g.D.Disk.faults
-        (source_told g.S.Source.given g.S.Source.has_ended g.S.Source.faults c.args.input.now c.args.input.now)
-        (sink_told g.K.Sink.taken g.K.Sink.was_put g.K.Sink.faults c.args.out.now c.print_line.new.out) c.args.server.now.live.cell
+        (peer_gave g.T.Peer c.args.peer.now c.print_beside.new.peer)
+        (peer_took g.T.Peer c.args.peer.now c.print_beside.new.peer) c.args.server.now.live.cell
         cell_text opening c.args.server.now.live.disk
         c.args.server.now ls [])
         (sym c.requires.fresh)
         (begins g.D.Disk.reads_as g.D.Disk.may_leave g.D.Disk.moment g.D.Disk.left_since g.D.Disk.faults cell_text opening
-        c.args.server.now behind c.requires.ready c.requires.first
-        (g.met.D.Disk.only_now c.args.server.now.live.disk) g.S.Source.given g.S.Source.has_ended g.S.Source.faults c.args.input.now
-        g.K.Sink.taken g.K.Sink.was_put g.K.Sink.faults c.args.out.now c.print_line.new.out c.head_line.result
-        (c.head_line.ensures ∙ ap (λ (n : ℕ). line_of (head_words 0 n)) c.len.ensures) c.in_default.ensures.whole
+        c.args.server.now behind c.requires.ready c.requires.first (g.met.D.Disk.only_now c.args.server.now.live.disk)
+        g.T.Peer.given g.T.Peer.has_ended g.T.Peer.read_faults c.args.peer.now c.print_beside.new.peer
+        c.print_beside.ensures.beside.unread c.print_beside.ensures.beside.no_read
+        g.T.Peer.taken g.T.Peer.was_put g.T.Peer.faults c.args.peer.now c.print_beside.new.peer c.head_line-head.result
+        (c.head_line-head.ensures ∙ ap (λ (n : ℕ). line_of (head_words 0 n)) c.len.ensures)
+        (subst (TookAll (peer_took g.T.Peer c.args.peer.now c.print_beside.new.peer)) c.from_ref.ensures.value c.in_default.ensures.whole)
         c.in_default.ensures.cause.kept),
   );
+  lives = λ start is.
+      begins_live g.D.Disk g.T.Peer start c.args.server.now c.args.peer.now c.print_beside.new.peer c.head_line-head.result is
+      (head_is g.D.Disk.reads_as g.D.Disk.may_leave g.D.Disk.moment g.D.Disk.left_since g.D.Disk.faults start.text start.opening
+      c.args.server.now is.stands_after c.requires.ready c.requires.first (g.met.D.Disk.only_now c.args.server.now.live.disk)
+      g.T.Peer.given g.T.Peer.has_ended g.T.Peer.read_faults c.args.peer.now c.print_beside.new.peer
+      c.print_beside.ensures.beside.unread c.print_beside.ensures.beside.no_read
+      g.T.Peer.taken g.T.Peer.was_put g.T.Peer.faults c.args.peer.now c.print_beside.new.peer c.head_line-head.result
+      (c.head_line-head.ensures ∙ ap (λ (n : ℕ). line_of (head_words 0 n)) c.len.ensures))
+      (subst (λ (d : _). IsBeside g.D.Disk g.T.Peer d c.args.peer.now c.print_beside.new.peer (c.head_line-head.result ∷ [])) c.disk.ensures
+      (subst (IsBeside g.D.Disk g.T.Peer c.disk.result.now c.args.peer.now c.print_beside.new.peer) c.from_ref.ensures.value
+      c.print_beside.ensures.beside));
 }
 
-pub returns-in-Err-round : goal.returns-in-Err-round
-returns-in-Err-round g c = λ cell_text opening behind.
+pub returns-in-Err-round-clause-converses : goal.returns-in-Err-round-clause-converses
+returns-in-Err-round-clause-converses g c = λ cell_text opening behind.
     let server = c.args.server.now in
     let cell = server.live.cell in
     let so = c.loop-round.invariant.goes_on cell_text opening behind in
@@ -51,115 +89,245 @@ returns-in-Err-round g c = λ cell_text opening behind.
     let last = c.in-Err-round.ensures.round cell_text front so.1.text so.0 so.1.stands_after so.1.reads in
     stops g.D.Disk.reads_as g.D.Disk.may_leave g.D.Disk.moment g.D.Disk.left_since g.D.Disk.faults cell cell_text opening server.live.disk
     c.loop-round.server c.loop-round.lines so.0
-    (source_told g.S.Source.given g.S.Source.has_ended g.S.Source.faults c.args.input.now c.loop-round.input) g.K.Sink.taken
-    g.K.Sink.was_put g.K.Sink.faults c.args.out.now c.loop-round.out so.1 c.round.new.out c.round.new.self
-    c.round.new.lines c.in-Err-round.status
+    (peer_gave g.T.Peer c.args.peer.now c.round.new.peer) g.T.Peer.taken g.T.Peer.was_put g.T.Peer.faults c.args.peer.now c.loop-round.peer
+    (input_kept g.D.Disk.reads_as g.D.Disk.may_leave g.D.Disk.moment g.D.Disk.left_since g.D.Disk.faults cell cell_text opening server.live.disk c.loop-round.server c.loop-round.lines so.0
+    (peer_took g.T.Peer c.args.peer.now c.loop-round.peer) g.T.Peer.given g.T.Peer.has_ended g.T.Peer.read_faults
+    c.args.peer.now c.loop-round.peer c.round.new.peer so.1 c.round.ensures.unread c.round.ensures.no_read)
+    c.round.new.peer c.round.new.self c.round.new.lines c.in-Err-round.status
     (subst (λ (x : Cell). IsLastRound g.D.Disk.reads_as g.D.Disk.may_leave g.D.Disk.moment g.D.Disk.left_since g.D.Disk.faults x
-    (sink_told g.K.Sink.taken g.K.Sink.was_put g.K.Sink.faults c.loop-round.out c.round.new.out) cell_text front so.1.text so.0
+    (peer_took g.T.Peer c.loop-round.peer c.round.new.peer) cell_text front so.1.text so.0
     c.loop-round.server c.round.new.self c.round.new.lines c.in-Err-round.status) so.1.cell_is last)
 
-pub returns-in-Ok-eq0 : goal.returns-in-Ok-eq0
-returns-in-Ok-eq0 g c = λ cell_text opening behind.
+pub returns-in-Err-round-clause-lives : goal.returns-in-Err-round-clause-lives
+returns-in-Err-round-clause-lives g c = λ start is.
+    let server = c.args.server.now in
+    let so = c.loop-round.invariant.goes_on start.text start.opening is.stands_after in
+    lives_then g.D.Disk g.T.Peer start server.live.disk c.loop-round.server.live.disk c.round.new.self.live.disk
+    c.args.peer.now c.loop-round.peer c.round.new.peer (c.loop-round.invariant.lives start is) so.1.left.tells
+    (λ clock. c.round.ensures.lives start so.1.text so.0
+    (served_to g.D.Disk g.T.Peer start server c.loop-round.server c.args.peer.now c.loop-round.peer c.loop-round.lines so.0 is so.1 clock))
+
+pub returns-in-Ok-eq0-clause-converses : goal.returns-in-Ok-eq0-clause-converses
+returns-in-Ok-eq0-clause-converses g c = λ cell_text opening behind.
     let server = c.args.server.now in
     let cell = server.live.cell in
     let so = c.loop-round.invariant.goes_on cell_text opening behind in
     let front = opening ++ since cell opening (map (ask_of cell) so.0) in
-    let input = source_told g.S.Source.given g.S.Source.has_ended g.S.Source.faults c.args.input.now c.loop-round.input in
     let said = c.in_default-round.ensures.round cell_text front so.1.text so.0 so.1.stands_after so.1.reads in
     let round = subst (λ (x : Cell). IsRound g.D.Disk.reads_as g.D.Disk.may_leave g.D.Disk.moment g.D.Disk.left_since g.D.Disk.faults x
-    (sink_told g.K.Sink.taken g.K.Sink.was_put g.K.Sink.faults c.loop-round.out c.round.new.out) cell_text front so.1.text so.0
+    (peer_took g.T.Peer c.loop-round.peer c.round.new.peer) cell_text front so.1.text so.0
     c.loop-round.server c.round.new.self c.round.new.lines said.0) so.1.cell_is said.1 in
     let conv = round_goes g.D.Disk.reads_as g.D.Disk.may_leave g.D.Disk.moment g.D.Disk.left_since g.D.Disk.faults cell cell_text opening
-    server.live.disk c.loop-round.server c.loop-round.lines so.0 input g.K.Sink.taken g.K.Sink.was_put g.K.Sink.faults c.args.out.now
-    c.loop-round.out so.1 c.round.new.out c.round.new.self c.round.new.lines said.0 round c.in_default-round.ensures.still
+    server.live.disk c.loop-round.server c.loop-round.lines so.0 (peer_gave g.T.Peer c.args.peer.now c.round.new.peer)
+    g.T.Peer.taken g.T.Peer.was_put g.T.Peer.faults c.args.peer.now c.loop-round.peer
+    (input_kept g.D.Disk.reads_as g.D.Disk.may_leave g.D.Disk.moment g.D.Disk.left_since g.D.Disk.faults cell cell_text opening server.live.disk c.loop-round.server c.loop-round.lines so.0
+    (peer_took g.T.Peer c.args.peer.now c.loop-round.peer) g.T.Peer.given g.T.Peer.has_ended g.T.Peer.read_faults
+    c.args.peer.now c.loop-round.peer c.round.new.peer so.1 c.round.ensures.unread c.round.ensures.no_read)
+    c.round.new.peer c.round.new.self c.round.new.lines said.0 round c.in_default-round.ensures.still
     c.in_default-round.ensures.fed in
     let gives = c.in-Ok-eq0.ensures.goes_on in (
       c.fill.new.self,
       so.0 ++ said.0,
       piece_comes g.D.Disk.reads_as g.D.Disk.may_leave g.D.Disk.moment g.D.Disk.left_since g.D.Disk.faults cell cell_text opening
           server.live.disk c.round.new.self c.round.new.lines c.fill.new.self (so.0 ++ said.0)
-          (sink_told g.K.Sink.taken g.K.Sink.was_put g.K.Sink.faults c.args.out.now c.round.new.out) g.S.Source.given g.S.Source.has_ended
-          g.S.Source.faults c.args.input.now c.loop-round.input c.fill.new.source conv c.in-Ok-eq0.field-0
-          gives c.in-Ok-eq0.ensures.cause.kept,
+          (peer_took g.T.Peer c.args.peer.now c.fill.new.peer) g.T.Peer.given g.T.Peer.has_ended g.T.Peer.read_faults
+          c.args.peer.now c.round.new.peer c.fill.new.peer
+          (sink_kept g.D.Disk.reads_as g.D.Disk.may_leave g.D.Disk.moment g.D.Disk.left_since g.D.Disk.faults cell cell_text opening server.live.disk c.round.new.self c.round.new.lines (so.0 ++ said.0)
+          (peer_gave g.T.Peer c.args.peer.now c.round.new.peer) g.T.Peer.taken g.T.Peer.was_put g.T.Peer.faults c.args.peer.now c.round.new.peer c.fill.new.peer conv
+          c.fill.ensures.read.of_put c.fill.ensures.read.same c.fill.ensures.read.no_put)
+          c.in-Ok-eq0.field-0 gives c.in-Ok-eq0.ensures.cause.kept,
       none_is_ahead g.D.Disk.reads_as g.D.Disk.may_leave g.D.Disk.moment g.D.Disk.left_since g.D.Disk.faults cell cell_text opening
           server.live.disk c.round.new.self c.round.new.lines c.fill.new.self (so.0 ++ said.0)
-          (sink_told g.K.Sink.taken g.K.Sink.was_put g.K.Sink.faults c.args.out.now c.round.new.out) g.S.Source.given g.S.Source.has_ended
-          g.S.Source.faults c.args.input.now c.loop-round.input c.fill.new.source conv c.in-Ok-eq0.field-0
+          (peer_took g.T.Peer c.args.peer.now c.fill.new.peer) g.T.Peer.given g.T.Peer.has_ended g.T.Peer.read_faults
+          c.args.peer.now c.round.new.peer c.fill.new.peer
+          (sink_kept g.D.Disk.reads_as g.D.Disk.may_leave g.D.Disk.moment g.D.Disk.left_since g.D.Disk.faults cell cell_text opening server.live.disk c.round.new.self c.round.new.lines (so.0 ++ said.0)
+          (peer_gave g.T.Peer c.args.peer.now c.round.new.peer) g.T.Peer.taken g.T.Peer.was_put g.T.Peer.faults c.args.peer.now c.round.new.peer c.fill.new.peer conv
+          c.fill.ensures.read.of_put c.fill.ensures.read.same c.fill.ensures.read.no_put)
+          c.in-Ok-eq0.field-0
           c.in-Ok-eq0.field-0-test gives,
       c.in-Ok-eq0.ensures.end (ap Ok c.in-Ok-eq0.field-0-test),
     )
 
-pub returns-in-Err-fill : goal.returns-in-Err-fill
-returns-in-Err-fill g c = λ cell_text opening behind.
+pub returns-in-Ok-eq0-clause-lives : goal.returns-in-Ok-eq0-clause-lives
+returns-in-Ok-eq0-clause-lives g c = λ start is.
+    let server = c.args.server.now in
+    let cell = server.live.cell in
+    let so = c.loop-round.invariant.goes_on start.text start.opening is.stands_after in
+    let front = start.opening ++ since cell start.opening (map (ask_of cell) so.0) in
+    let said = c.in_default-round.ensures.round start.text front so.1.text so.0 so.1.stands_after so.1.reads in
+    let round = subst (λ (x : Cell). IsRound g.D.Disk.reads_as g.D.Disk.may_leave g.D.Disk.moment g.D.Disk.left_since g.D.Disk.faults x
+    (peer_took g.T.Peer c.loop-round.peer c.round.new.peer) start.text front so.1.text so.0
+    c.loop-round.server c.round.new.self c.round.new.lines said.0) so.1.cell_is said.1 in
+    let conv = round_goes g.D.Disk.reads_as g.D.Disk.may_leave g.D.Disk.moment g.D.Disk.left_since g.D.Disk.faults cell start.text start.opening
+    server.live.disk c.loop-round.server c.loop-round.lines so.0 (peer_gave g.T.Peer c.args.peer.now c.round.new.peer)
+    g.T.Peer.taken g.T.Peer.was_put g.T.Peer.faults c.args.peer.now c.loop-round.peer
+    (input_kept g.D.Disk.reads_as g.D.Disk.may_leave g.D.Disk.moment g.D.Disk.left_since g.D.Disk.faults cell start.text start.opening server.live.disk c.loop-round.server c.loop-round.lines so.0
+    (peer_took g.T.Peer c.args.peer.now c.loop-round.peer) g.T.Peer.given g.T.Peer.has_ended g.T.Peer.read_faults
+    c.args.peer.now c.loop-round.peer c.round.new.peer so.1 c.round.ensures.unread c.round.ensures.no_read)
+    c.round.new.peer c.round.new.self c.round.new.lines said.0 round c.in_default-round.ensures.still
+    c.in_default-round.ensures.fed in
+    let lived = lives_then g.D.Disk g.T.Peer start server.live.disk c.loop-round.server.live.disk c.round.new.self.live.disk
+    c.args.peer.now c.loop-round.peer c.round.new.peer (c.loop-round.invariant.lives start is) so.1.left.tells
+    (λ clock. c.round.ensures.lives start so.1.text so.0
+    (served_to g.D.Disk g.T.Peer start server c.loop-round.server c.args.peer.now c.loop-round.peer c.loop-round.lines so.0 is so.1 clock)) in
+    lives_then g.D.Disk g.T.Peer start server.live.disk c.round.new.self.live.disk c.round.new.self.live.disk
+    c.args.peer.now c.round.new.peer c.fill.new.peer lived conv.left.tells
+    (λ clock. read_lives g.D.Disk g.T.Peer start c.round.new.self c.round.new.lines conv.text (so.0 ++ said.0) c.round.new.peer
+    c.fill.new.peer
+    (served_to g.D.Disk g.T.Peer start server c.round.new.self c.args.peer.now c.round.new.peer c.round.new.lines (so.0 ++ said.0) is conv
+    clock)
+    (subst (λ (d : _). IsRead g.D.Disk g.T.Peer d c.round.new.peer c.fill.new.peer) c.disk-then-is_spent.ensures c.fill.ensures.read))
+
+pub returns-in-Err-fill-clause-converses : goal.returns-in-Err-fill-clause-converses
+returns-in-Err-fill-clause-converses g c = λ cell_text opening behind.
     let server = c.args.server.now in
     let cell = server.live.cell in
     let so = c.loop-round.invariant.goes_on cell_text opening behind in
     let front = opening ++ since cell opening (map (ask_of cell) so.0) in
-    let input = source_told g.S.Source.given g.S.Source.has_ended g.S.Source.faults c.args.input.now c.loop-round.input in
     let said = c.in_default-round.ensures.round cell_text front so.1.text so.0 so.1.stands_after so.1.reads in
     let round = subst (λ (x : Cell). IsRound g.D.Disk.reads_as g.D.Disk.may_leave g.D.Disk.moment g.D.Disk.left_since g.D.Disk.faults x
-    (sink_told g.K.Sink.taken g.K.Sink.was_put g.K.Sink.faults c.loop-round.out c.round.new.out) cell_text front so.1.text so.0
+    (peer_took g.T.Peer c.loop-round.peer c.round.new.peer) cell_text front so.1.text so.0
     c.loop-round.server c.round.new.self c.round.new.lines said.0) so.1.cell_is said.1 in
     let conv = round_goes g.D.Disk.reads_as g.D.Disk.may_leave g.D.Disk.moment g.D.Disk.left_since g.D.Disk.faults cell cell_text opening
-    server.live.disk c.loop-round.server c.loop-round.lines so.0 input g.K.Sink.taken g.K.Sink.was_put g.K.Sink.faults c.args.out.now
-    c.loop-round.out so.1 c.round.new.out c.round.new.self c.round.new.lines said.0 round c.in_default-round.ensures.still
+    server.live.disk c.loop-round.server c.loop-round.lines so.0 (peer_gave g.T.Peer c.args.peer.now c.round.new.peer)
+    g.T.Peer.taken g.T.Peer.was_put g.T.Peer.faults c.args.peer.now c.loop-round.peer
+    (input_kept g.D.Disk.reads_as g.D.Disk.may_leave g.D.Disk.moment g.D.Disk.left_since g.D.Disk.faults cell cell_text opening server.live.disk c.loop-round.server c.loop-round.lines so.0
+    (peer_took g.T.Peer c.args.peer.now c.loop-round.peer) g.T.Peer.given g.T.Peer.has_ended g.T.Peer.read_faults
+    c.args.peer.now c.loop-round.peer c.round.new.peer so.1 c.round.ensures.unread c.round.ensures.no_read)
+    c.round.new.peer c.round.new.self c.round.new.lines said.0 round c.in_default-round.ensures.still
     c.in_default-round.ensures.fed in
     is_lost g.D.Disk.reads_as g.D.Disk.may_leave g.D.Disk.moment g.D.Disk.left_since g.D.Disk.faults cell cell_text opening
     server.live.disk c.round.new.self c.round.new.lines
-    (so.0 ++ said.0) g.S.Source.given g.S.Source.has_ended g.S.Source.faults c.args.input.now
-    c.loop-round.input c.fill.new.source g.K.Sink.taken g.K.Sink.was_put g.K.Sink.faults c.args.out.now c.round.new.out
-    c.finish_early.new.out conv
-    (c.is_spent.ensures.0 c.if-is_spent.true) c.in-Err-fill.ensures.nothing.0 c.in-Err-fill.ensures.cause.failed c.finish_early.result
-    c.finish_early.ensures
+    (so.0 ++ said.0) g.T.Peer.given g.T.Peer.has_ended g.T.Peer.read_faults c.args.peer.now
+    c.round.new.peer c.finish_beside.new.peer g.T.Peer.taken g.T.Peer.was_put g.T.Peer.faults c.args.peer.now c.fill.new.peer
+    c.finish_beside.new.peer
+    (sink_kept g.D.Disk.reads_as g.D.Disk.may_leave g.D.Disk.moment g.D.Disk.left_since g.D.Disk.faults cell cell_text opening server.live.disk c.round.new.self c.round.new.lines (so.0 ++ said.0)
+    (peer_gave g.T.Peer c.args.peer.now c.round.new.peer) g.T.Peer.taken g.T.Peer.was_put g.T.Peer.faults c.args.peer.now c.round.new.peer c.fill.new.peer conv
+    c.fill.ensures.read.of_put c.fill.ensures.read.same c.fill.ensures.read.no_put)
+    (c.is_spent.ensures.0 c.if-is_spent.true) (c.finish_beside.ensures.beside.unread ∙ c.in-Err-fill.ensures.nothing.0)
+    (subst (Rose (g.T.Peer.read_faults c.round.new.peer)) (sym c.finish_beside.ensures.beside.no_read) c.in-Err-fill.ensures.cause.failed)
+    c.finish_beside.result c.finish_beside.ensures.delivered
+
+pub returns-in-Err-fill-clause-lives : goal.returns-in-Err-fill-clause-lives
+returns-in-Err-fill-clause-lives g c = λ start is.
+    let server = c.args.server.now in
+    let cell = server.live.cell in
+    let so = c.loop-round.invariant.goes_on start.text start.opening is.stands_after in
+    let front = start.opening ++ since cell start.opening (map (ask_of cell) so.0) in
+    let said = c.in_default-round.ensures.round start.text front so.1.text so.0 so.1.stands_after so.1.reads in
+    let round = subst (λ (x : Cell). IsRound g.D.Disk.reads_as g.D.Disk.may_leave g.D.Disk.moment g.D.Disk.left_since g.D.Disk.faults x
+    (peer_took g.T.Peer c.loop-round.peer c.round.new.peer) start.text front so.1.text so.0
+    c.loop-round.server c.round.new.self c.round.new.lines said.0) so.1.cell_is said.1 in
+    let conv = round_goes g.D.Disk.reads_as g.D.Disk.may_leave g.D.Disk.moment g.D.Disk.left_since g.D.Disk.faults cell start.text start.opening
+    server.live.disk c.loop-round.server c.loop-round.lines so.0 (peer_gave g.T.Peer c.args.peer.now c.round.new.peer)
+    g.T.Peer.taken g.T.Peer.was_put g.T.Peer.faults c.args.peer.now c.loop-round.peer
+    (input_kept g.D.Disk.reads_as g.D.Disk.may_leave g.D.Disk.moment g.D.Disk.left_since g.D.Disk.faults cell start.text start.opening server.live.disk c.loop-round.server c.loop-round.lines so.0
+    (peer_took g.T.Peer c.args.peer.now c.loop-round.peer) g.T.Peer.given g.T.Peer.has_ended g.T.Peer.read_faults
+    c.args.peer.now c.loop-round.peer c.round.new.peer so.1 c.round.ensures.unread c.round.ensures.no_read)
+    c.round.new.peer c.round.new.self c.round.new.lines said.0 round c.in_default-round.ensures.still
+    c.in_default-round.ensures.fed in
+    let lived = lives_then g.D.Disk g.T.Peer start server.live.disk c.loop-round.server.live.disk c.round.new.self.live.disk
+    c.args.peer.now c.loop-round.peer c.round.new.peer (c.loop-round.invariant.lives start is) so.1.left.tells
+    (λ clock. c.round.ensures.lives start so.1.text so.0
+    (served_to g.D.Disk g.T.Peer start server c.loop-round.server c.args.peer.now c.loop-round.peer c.loop-round.lines so.0 is so.1 clock)) in
+    lives_then g.D.Disk g.T.Peer start server.live.disk c.round.new.self.live.disk c.round.new.self.live.disk
+    c.args.peer.now c.round.new.peer c.finish_beside.new.peer lived conv.left.tells
+    (λ clock. lost_lives g.D.Disk g.T.Peer start c.round.new.self c.round.new.lines conv.text (so.0 ++ said.0) c.round.new.peer
+    c.fill.new.peer
+    (served_to g.D.Disk g.T.Peer start server c.round.new.self c.args.peer.now c.round.new.peer c.round.new.lines (so.0 ++ said.0) is conv
+    clock)
+    c.finish_beside.new.peer (early_line NotRead ∷ []) (inr (inl refl))
+    (subst (λ (d : _). IsRead g.D.Disk g.T.Peer d c.round.new.peer c.fill.new.peer) c.disk-then-is_spent.ensures c.fill.ensures.read)
+    c.in-Err-fill.ensures.nothing.0
+    (subst (λ (d : _). IsBeside g.D.Disk g.T.Peer d c.fill.new.peer c.finish_beside.new.peer (early_line NotRead ∷ [])) c.disk-in-Err-fill.ensures
+    c.finish_beside.ensures.beside))
 
 pub loop-round-preserved : goal.loop-round-preserved
 loop-round-preserved g c = record {
   ready = c.in_default-round.ensures.ready;
   few = omega (arith, c.loop-round.invariant.few, c.in_default-round.ensures.few);
+  handed =
+      let handed = c.in_default-round.ensures.handed c.loop-round.invariant.handed in
+      elim c.if-is_spent.branch [
+        | then-is_spent+in-Ok w ↦
+            subst (λ (t : _). g.T.Peer.handed_on t ≡ g.T.Peer.taken t) (sym w.peer-is)
+            (w.fill.ensures.read.still ∙ handed ∙ sym w.fill.ensures.read.same)
+        | else-is_spent w ↦ subst (λ (t : _). g.T.Peer.handed_on t ≡ g.T.Peer.taken t) (sym w.peer-is) handed
+      ];
   goes_on = λ cell_text opening behind.
       let server = c.args.server.now in
       let cell = server.live.cell in
       let so = c.loop-round.invariant.goes_on cell_text opening behind in
       let front = opening ++ since cell opening (map (ask_of cell) so.0) in
-      let input = source_told g.S.Source.given g.S.Source.has_ended g.S.Source.faults c.args.input.now c.loop-round.input in
       let said = c.in_default-round.ensures.round cell_text front so.1.text so.0 so.1.stands_after so.1.reads in
       let round = subst (λ (x : Cell). IsRound g.D.Disk.reads_as g.D.Disk.may_leave g.D.Disk.moment g.D.Disk.left_since g.D.Disk.faults x
-      (sink_told g.K.Sink.taken g.K.Sink.was_put g.K.Sink.faults c.loop-round.out c.round.new.out) cell_text front so.1.text so.0
+      (peer_took g.T.Peer c.loop-round.peer c.round.new.peer) cell_text front so.1.text so.0
       c.loop-round.server c.round.new.self c.round.new.lines said.0) so.1.cell_is said.1 in
-      let conv = round_goes g.D.Disk.reads_as g.D.Disk.may_leave g.D.Disk.moment g.D.Disk.left_since g.D.Disk.faults cell cell_text
-      opening server.live.disk c.loop-round.server c.loop-round.lines so.0 input g.K.Sink.taken g.K.Sink.was_put g.K.Sink.faults
-      c.args.out.now
-      c.loop-round.out so.1 c.round.new.out c.round.new.self c.round.new.lines said.0 round c.in_default-round.ensures.still
+      let conv = round_goes g.D.Disk.reads_as g.D.Disk.may_leave g.D.Disk.moment g.D.Disk.left_since g.D.Disk.faults cell cell_text opening
+      server.live.disk c.loop-round.server c.loop-round.lines so.0 (peer_gave g.T.Peer c.args.peer.now c.round.new.peer)
+      g.T.Peer.taken g.T.Peer.was_put g.T.Peer.faults c.args.peer.now c.loop-round.peer
+      (input_kept g.D.Disk.reads_as g.D.Disk.may_leave g.D.Disk.moment g.D.Disk.left_since g.D.Disk.faults cell cell_text opening server.live.disk c.loop-round.server c.loop-round.lines so.0
+      (peer_took g.T.Peer c.args.peer.now c.loop-round.peer) g.T.Peer.given g.T.Peer.has_ended g.T.Peer.read_faults
+      c.args.peer.now c.loop-round.peer c.round.new.peer so.1 c.round.ensures.unread c.round.ensures.no_read)
+      c.round.new.peer c.round.new.self c.round.new.lines said.0 round c.in_default-round.ensures.still
       c.in_default-round.ensures.fed in (
         so.0 ++ said.0,
         elim c.if-is_spent.branch [
           | then-is_spent+in-Ok w ↦
-              subst (λ (ls : LinesState). IsConversing g.D.Disk.reads_as g.D.Disk.may_leave g.D.Disk.moment g.D.Disk.left_since
-              g.D.Disk.faults (source_told g.S.Source.given g.S.Source.has_ended g.S.Source.faults c.args.input.now c.if-is_spent.input)
-              (sink_told g.K.Sink.taken g.K.Sink.was_put g.K.Sink.faults c.args.out.now c.round.new.out) cell cell_text opening
+              subst (λ (ls : LinesState). IsConversing g.D.Disk.reads_as g.D.Disk.may_leave g.D.Disk.moment g.D.Disk.left_since g.D.Disk.faults (peer_gave g.T.Peer c.args.peer.now c.if-is_spent.peer) (peer_took g.T.Peer c.args.peer.now c.if-is_spent.peer) cell cell_text opening
               server.live.disk c.round.new.self ls (so.0 ++ said.0))
               (sym w.lines-is)
-              (subst (λ (s : _). IsConversing g.D.Disk.reads_as g.D.Disk.may_leave g.D.Disk.moment g.D.Disk.left_since g.D.Disk.faults
-              (source_told g.S.Source.given g.S.Source.has_ended g.S.Source.faults c.args.input.now s)
-              (sink_told g.K.Sink.taken g.K.Sink.was_put g.K.Sink.faults c.args.out.now c.round.new.out) cell cell_text opening
-              server.live.disk c.round.new.self w.fill.new.self
-              (so.0 ++ said.0)) (sym w.input-is)
+              (subst (λ (t : _). IsConversing g.D.Disk.reads_as g.D.Disk.may_leave g.D.Disk.moment g.D.Disk.left_since g.D.Disk.faults (peer_gave g.T.Peer c.args.peer.now t) (peer_took g.T.Peer c.args.peer.now t) cell cell_text opening
+              server.live.disk c.round.new.self w.fill.new.self (so.0 ++ said.0)) (sym w.peer-is)
               (piece_comes g.D.Disk.reads_as g.D.Disk.may_leave g.D.Disk.moment g.D.Disk.left_since g.D.Disk.faults cell cell_text opening
               server.live.disk c.round.new.self c.round.new.lines w.fill.new.self (so.0 ++ said.0)
-              (sink_told g.K.Sink.taken g.K.Sink.was_put g.K.Sink.faults c.args.out.now c.round.new.out) g.S.Source.given
-              g.S.Source.has_ended g.S.Source.faults c.args.input.now c.loop-round.input w.fill.new.source conv w.in-Ok.field-0
-              w.in-Ok.ensures.goes_on w.in-Ok.ensures.cause.kept))
+              (peer_took g.T.Peer c.args.peer.now w.fill.new.peer) g.T.Peer.given g.T.Peer.has_ended g.T.Peer.read_faults
+              c.args.peer.now c.round.new.peer w.fill.new.peer
+              (sink_kept g.D.Disk.reads_as g.D.Disk.may_leave g.D.Disk.moment g.D.Disk.left_since g.D.Disk.faults cell cell_text opening server.live.disk c.round.new.self c.round.new.lines (so.0 ++ said.0)
+              (peer_gave g.T.Peer c.args.peer.now c.round.new.peer) g.T.Peer.taken g.T.Peer.was_put g.T.Peer.faults c.args.peer.now c.round.new.peer w.fill.new.peer conv
+              w.fill.ensures.read.of_put w.fill.ensures.read.same w.fill.ensures.read.no_put)
+              w.in-Ok.field-0 w.in-Ok.ensures.goes_on w.in-Ok.ensures.cause.kept))
           | else-is_spent w ↦
-              subst (λ (ls : LinesState). IsConversing g.D.Disk.reads_as g.D.Disk.may_leave g.D.Disk.moment g.D.Disk.left_since
-              g.D.Disk.faults (source_told g.S.Source.given g.S.Source.has_ended g.S.Source.faults c.args.input.now c.if-is_spent.input)
-              (sink_told g.K.Sink.taken g.K.Sink.was_put g.K.Sink.faults c.args.out.now c.round.new.out) cell cell_text opening
+              subst (λ (ls : LinesState). IsConversing g.D.Disk.reads_as g.D.Disk.may_leave g.D.Disk.moment g.D.Disk.left_since g.D.Disk.faults (peer_gave g.T.Peer c.args.peer.now c.if-is_spent.peer) (peer_took g.T.Peer c.args.peer.now c.if-is_spent.peer) cell cell_text opening
               server.live.disk c.round.new.self ls (so.0 ++ said.0))
               (sym w.lines-is)
-              (subst (λ (s : _). IsConversing g.D.Disk.reads_as g.D.Disk.may_leave g.D.Disk.moment g.D.Disk.left_since g.D.Disk.faults
-              (source_told g.S.Source.given g.S.Source.has_ended g.S.Source.faults c.args.input.now s)
-              (sink_told g.K.Sink.taken g.K.Sink.was_put g.K.Sink.faults c.args.out.now c.round.new.out) cell cell_text opening
-              server.live.disk c.round.new.self c.round.new.lines
-              (so.0 ++ said.0)) (sym w.input-is) conv)
+              (subst (λ (t : _). IsConversing g.D.Disk.reads_as g.D.Disk.may_leave g.D.Disk.moment g.D.Disk.left_since g.D.Disk.faults (peer_gave g.T.Peer c.args.peer.now t) (peer_took g.T.Peer c.args.peer.now t) cell cell_text opening
+              server.live.disk c.round.new.self c.round.new.lines (so.0 ++ said.0)) (sym w.peer-is) conv)
         ],
       );
+  lives = λ start is.
+      let server = c.args.server.now in
+      let cell = server.live.cell in
+      let so = c.loop-round.invariant.goes_on start.text start.opening is.stands_after in
+      let front = start.opening ++ since cell start.opening (map (ask_of cell) so.0) in
+      let said = c.in_default-round.ensures.round start.text front so.1.text so.0 so.1.stands_after so.1.reads in
+      let round = subst (λ (x : Cell). IsRound g.D.Disk.reads_as g.D.Disk.may_leave g.D.Disk.moment g.D.Disk.left_since g.D.Disk.faults x
+      (peer_took g.T.Peer c.loop-round.peer c.round.new.peer) start.text front so.1.text so.0
+      c.loop-round.server c.round.new.self c.round.new.lines said.0) so.1.cell_is said.1 in
+      let conv = round_goes g.D.Disk.reads_as g.D.Disk.may_leave g.D.Disk.moment g.D.Disk.left_since g.D.Disk.faults cell start.text start.opening
+      server.live.disk c.loop-round.server c.loop-round.lines so.0 (peer_gave g.T.Peer c.args.peer.now c.round.new.peer)
+      g.T.Peer.taken g.T.Peer.was_put g.T.Peer.faults c.args.peer.now c.loop-round.peer
+      (input_kept g.D.Disk.reads_as g.D.Disk.may_leave g.D.Disk.moment g.D.Disk.left_since g.D.Disk.faults cell start.text start.opening server.live.disk c.loop-round.server c.loop-round.lines so.0
+      (peer_took g.T.Peer c.args.peer.now c.loop-round.peer) g.T.Peer.given g.T.Peer.has_ended g.T.Peer.read_faults
+      c.args.peer.now c.loop-round.peer c.round.new.peer so.1 c.round.ensures.unread c.round.ensures.no_read)
+      c.round.new.peer c.round.new.self c.round.new.lines said.0 round c.in_default-round.ensures.still
+      c.in_default-round.ensures.fed in
+      let lived = lives_then g.D.Disk g.T.Peer start server.live.disk c.loop-round.server.live.disk c.round.new.self.live.disk
+      c.args.peer.now c.loop-round.peer c.round.new.peer (c.loop-round.invariant.lives start is) so.1.left.tells
+      (λ clock. c.round.ensures.lives start so.1.text so.0
+      (served_to g.D.Disk g.T.Peer start server c.loop-round.server c.args.peer.now c.loop-round.peer c.loop-round.lines so.0 is so.1 clock)) in
+      elim c.if-is_spent.branch [
+        | then-is_spent+in-Ok w ↦
+            subst (λ (t : _). LivesTo g.D.Disk g.T.Peer start server.live.disk c.args.peer.now c.round.new.self.live.disk t) (sym w.peer-is)
+            (lives_then g.D.Disk g.T.Peer start server.live.disk c.round.new.self.live.disk c.round.new.self.live.disk
+            c.args.peer.now c.round.new.peer w.fill.new.peer lived conv.left.tells
+            (λ clock. read_lives g.D.Disk g.T.Peer start c.round.new.self c.round.new.lines conv.text (so.0 ++ said.0) c.round.new.peer
+            w.fill.new.peer
+            (served_to g.D.Disk g.T.Peer start server c.round.new.self c.args.peer.now c.round.new.peer c.round.new.lines (so.0 ++ said.0) is conv
+            clock)
+            (subst (λ (d : _). IsRead g.D.Disk g.T.Peer d c.round.new.peer w.fill.new.peer) w.disk-then-is_spent.ensures w.fill.ensures.read)))
+        | else-is_spent w ↦
+            subst (λ (t : _). LivesTo g.D.Disk g.T.Peer start server.live.disk c.args.peer.now c.round.new.self.live.disk t) (sym w.peer-is)
+            lived
+      ];
 }
