@@ -18,20 +18,21 @@ joined : {K : Type 0} (sink : SinkMeaning K) (a b c : Printer K) (first then : L
     → Printed sink a c (first ++ then)
 joined sink a b c first then (Whole was is all same) (Whole was2 is2 all2 same2) =
     Whole was is2 (took_more sink.taken sink.was_put sink.faults a.out.now b.out.now c.out.now first then all all2) (same2 ∙ same)
-joined sink a b c first then (Whole was is all same) (Cut was2 is2 some rose) =
+joined sink a b c first then (Whole was is all same) (Cut was2 is2 some later rose) =
     Cut was is2 (failed_after sink.taken sink.was_put sink.faults a.out.now b.out.now c.out.now first then all some)
-    (subst (λ (n : ℕ). Rose n (sink.faults c.out.now)) same rose)
-joined {K} sink a b c first then (Cut was is some rose) (Silent was2 is2 same) =
+    (subst (λ (n : ℕ). n ≤ sink.faults c.out.now) same later) (subst (λ (n : ℕ). Rose n (sink.faults c.out.now)) same rose)
+joined {K} sink a b c first then (Cut was is some later rose) (Silent was2 is2 same) =
     Cut was is2
     (subst (λ (k : K). TookSome (sink_seen sink a.out.now k) (first ++ then)) (sym same)
     (failed_before sink.taken sink.was_put sink.faults a.out.now b.out.now first then some))
+    (subst (λ (k : K). sink.faults a.out.now ≤ sink.faults k) (sym same) later)
     (subst (λ (k : K). Rose (sink.faults a.out.now) (sink.faults k)) (sym same) rose)
 joined sink a b c first then (Silent was is same) (Silent was2 is2 same2) = Silent was is2 (same2 ∙ same)
 joined sink a b c first then (Whole was is all same) (Silent was2 is2 same2) = absurd (let no : true ≡ false = sym was2 ∙ is in cc)
-joined sink a b c first then (Cut was is some rose) (Whole was2 is2 all same) = absurd (let no : true ≡ false = sym is ∙ was2 in cc)
-joined sink a b c first then (Cut was is some rose) (Cut was2 is2 some2 rose2) = absurd (let no : true ≡ false = sym is ∙ was2 in cc)
+joined sink a b c first then (Cut was is some later rose) (Whole was2 is2 all same) = absurd (let no : true ≡ false = sym is ∙ was2 in cc)
+joined sink a b c first then (Cut was is some later rose) (Cut was2 is2 some2 later2 rose2) = absurd (let no : true ≡ false = sym is ∙ was2 in cc)
 joined sink a b c first then (Silent was is same) (Whole was2 is2 all same2) = absurd (let no : true ≡ false = sym is ∙ was2 in cc)
-joined sink a b c first then (Silent was is same) (Cut was2 is2 some rose) = absurd (let no : true ≡ false = sym is ∙ was2 in cc)
+joined sink a b c first then (Silent was is same) (Cut was2 is2 some later rose) = absurd (let no : true ≡ false = sym is ∙ was2 in cc)
 
 -- nothing is printed
 pub prints_none : {K : Type 0} (sink : SinkMeaning K) (a : Printer K) → Prints sink a a []

@@ -1,5 +1,5 @@
 -- What a printer does with lines: all were taken, or the sink failed at one of them, or it had failed before and was given none.
-use Rattle.std.specs.Prelude.{◌≡◌, true, false, ℕ, List}
+use Rattle.std.specs.Prelude.{◌≡◌, ◌≤◌, true, false, ℕ, List}
 use Rattle.outside_io.specs.Causes.{Rose}
 use Rattle.outside_io.specs.Meanings.{SinkMeaning, sink_seen}
 use Rattle.outside_io.specs.Puts.{TookAll, TookSome}
@@ -13,7 +13,8 @@ pub data Printed {K : Type 0} (sink : SinkMeaning K) (old new : Printer K) (line
   Whole : old.failed ≡ false → new.failed ≡ false → TookAll (sink_seen sink old.out.now new.out.now) lines
       → sink.faults new.out.now ≡ sink.faults old.out.now → Printed sink old new lines
   Cut : old.failed ≡ false → new.failed ≡ true → TookSome (sink_seen sink old.out.now new.out.now) lines
-      → Rose (sink.faults old.out.now) (sink.faults new.out.now) → Printed sink old new lines
+      → sink.faults old.out.now ≤ sink.faults new.out.now → Rose (sink.faults old.out.now) (sink.faults new.out.now)
+      → Printed sink old new lines
   Silent : old.failed ≡ true → new.failed ≡ true → new.out.now ≡ old.out.now → Printed sink old new lines
 
 -- the printer still has its sink, and these lines were printed

@@ -12,7 +12,7 @@ returns-in-Err g c =
       printed = Cut c.if-self.false refl
           (failed_at sink.taken sink.was_put sink.faults c.args.self.now.out.now c.put.new.self c.args.piece.now c.in-Err.ensures.one_put
           c.in-Err.ensures.part)
-          c.in-Err.ensures.cause.failed;
+          c.in-Err.ensures.cause.later c.in-Err.ensures.cause.failed;
     }
 
 pub returns-in-Ok : goal.returns-in-Ok
