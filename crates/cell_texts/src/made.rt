@@ -1,4 +1,4 @@
-//! How far a command with a journal has come, and the disk of the journal.
+//! How far a command has come, and the disk that was handed in.
 use cell_walks::EarlyEnd;
 
 /// What is to be answered, or the early end in its place, and the disk that was handed in.
