@@ -1,12 +1,11 @@
 -- `check CELL RECORD`: whether a record is right, or the first line that isn't, and why.
-use Rattle.std.specs.Prelude.{◌≡◌, ℕ, List, [], ◌∷◌, Result, Ok, Err}
+use Rattle.std.specs.Prelude.{◌≡◌, ℕ, List, [], ◌∷◌}
 use Rattle.record_text.specs.declared.blocks.Block.{Block}
 use Rattle.shift_checker.specs.Judging.{judge}
 use Rattle.shift_checker.specs.declared.verdict.Verdict.{Verdict}
 use Rattle.shift_checker.specs.declared.verdict.Verdict.TheVariants.{Yes, No}
-use Rattle.cell_walks.specs.Outcomes.{Outcome, early, printed}
+use Rattle.cell_walks.specs.Outcomes.{Outcome, printed}
 use Rattle.cell_walks.specs.Walks.{Walk, Tests, Answers}
-use Rattle.cell_walks.specs.declared.early_end.EarlyEnd.{EarlyEnd}
 use Rattle.cell_walks.specs.declared.status.Status.{Status}
 use Rattle.cell_walks.specs.declared.status.Status.TheVariants.{Done, Denied}
 use Rattle.cell_texts.specs.Tests.{KnownCell, cell_file, record_file}
@@ -25,12 +24,9 @@ verdict_outcome verdict = printed (verdict_status verdict) (verdict_text verdict
 abbrev pub judged : KnownCell → List Block → Walk
 judged held blocks = Answers λ input outcome. outcome ≡ verdict_outcome (judge held.cell blocks)
 
-abbrev pub check : List ℕ → List ℕ → Walk
-check cell record_name =
-    Tests (cell_file cell) λ held.
-    Tests (record_file held.cell record_name) (judged held)
+-- its walk from the cell on
+abbrev pub check_record_file : List ℕ → KnownCell → Walk
+check_record_file name held = Tests (record_file held.cell name) (judged held)
 
--- the verdict, or the early end
-abbrev pub checked_outcome : Result Verdict EarlyEnd → Outcome
-checked_outcome (Ok verdict) = verdict_outcome verdict
-checked_outcome (Err end) = early end
+abbrev pub check : List ℕ → List ℕ → Walk
+check cell record_name = Tests (cell_file cell) (check_record_file record_name)

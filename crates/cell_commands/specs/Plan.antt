@@ -1,18 +1,16 @@
 -- `plan CELL JOURNAL`: the plan that empties the cell after the grants of the journal.
-use Rattle.std.specs.Prelude.{◌≡◌, ℕ, List, [], length, Result, Ok, Err}
+use Rattle.std.specs.Prelude.{◌≡◌, ℕ, List, [], length}
 use Rattle.std.specs.List.{concat}
 use Rattle.cell_base.specs.declared.cells.Cell.{Cell}
 use Rattle.cell_base.specs.declared.shifts.Grant.{Grant}
 use Rattle.cell_base.specs.Histories.{replay}
 use Rattle.cell_base.specs.Plans.{Drains, plan_of}
 use Rattle.record_text.specs.Records.{text_of_record}
-use Rattle.cell_walks.specs.Outcomes.{Outcome, done, early}
+use Rattle.cell_walks.specs.Outcomes.{Outcome, done}
 use Rattle.cell_walks.specs.Walks.{Walk, Tests, Opens, Answers}
-use Rattle.cell_walks.specs.declared.early_end.EarlyEnd.{EarlyEnd}
-use Rattle.cell_texts.specs.Blocks.{block_of, planned_block}
+use Rattle.cell_texts.specs.Blocks.{planned_block}
 use Rattle.cell_texts.specs.Tests.{KnownCell, cell_file}
 use Rattle.journal_texts.specs.Tests.{to_read}
-use Rattle.journal_texts.specs.declared.readers.AfterGrants.{AfterGrants}
 
 -- The record of no shift after these grants is printed: the plan of the state that they leave, which drains that state.
 pub record IsPlanned (cell : Cell) (grants : List Grant) (outcome : Outcome) : Type 0 where
@@ -25,12 +23,9 @@ pub record IsPlanned (cell : Cell) (grants : List Grant) (outcome : Outcome) : T
 abbrev pub planned : KnownCell → List Grant → Walk
 planned held grants = Answers λ input outcome. IsPlanned held.cell grants outcome
 
-abbrev pub plan : List ℕ → Walk
-plan cell =
-    Tests (cell_file cell) λ held.
-    Opens (to_read held) (planned held)
+-- its walk from the cell on
+abbrev pub plan_journal : KnownCell → Walk
+plan_journal held = Opens (to_read held) (planned held)
 
--- the plan of the state after the grants, or the early end
-abbrev pub plan_outcome : Result AfterGrants EarlyEnd → Outcome
-plan_outcome (Ok after) = done (block_of after.core 0 after.grants [])
-plan_outcome (Err end) = early end
+abbrev pub plan : List ℕ → Walk
+plan cell = Tests (cell_file cell) plan_journal

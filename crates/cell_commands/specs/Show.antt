@@ -1,10 +1,9 @@
 -- `show CELL`: the resources of a cell, each with the stages of its neighborhood.
-use Rattle.std.specs.Prelude.{◌≡◌, ℕ, List, Result, Ok, Err}
+use Rattle.std.specs.Prelude.{◌≡◌, ℕ, List}
 use Rattle.std.specs.List.{concat}
 use Rattle.refusal_reason.specs.Shown.{show_lines}
-use Rattle.cell_walks.specs.Outcomes.{Outcome, done, early}
+use Rattle.cell_walks.specs.Outcomes.{done}
 use Rattle.cell_walks.specs.Walks.{Walk, Tests, Answers}
-use Rattle.cell_walks.specs.declared.early_end.EarlyEnd.{EarlyEnd}
 use Rattle.cell_texts.specs.Tests.{KnownCell, cell_file}
 use Rattle.cell_commands.specs.declared.show.Shown.{Shown}
 
@@ -18,8 +17,3 @@ show cell = Tests (cell_file cell) shown
 -- its text is that of the lines of its cell
 abbrev pub IsShown : Shown → Type 0
 IsShown shown = shown.text ≡ concat (show_lines shown.core.cell)
-
--- the lines of a cell, or the early end
-abbrev pub shown_outcome : Result Shown EarlyEnd → Outcome
-shown_outcome (Ok shown) = done (show_lines shown.core.cell)
-shown_outcome (Err end) = early end

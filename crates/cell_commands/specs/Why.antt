@@ -1,5 +1,5 @@
 -- `why CELL JOURNAL STEP`: what a step would be told after the grants of the journal, and which jobs stand in its way.
-use Rattle.std.specs.Prelude.{◌≡◌, ℕ, List, [], ◌∷◌, map, Result, Ok, Err}
+use Rattle.std.specs.Prelude.{◌≡◌, ℕ, List, [], ◌∷◌, map}
 use Rattle.admission_core.specs.CoreState.{CoreState}
 use Rattle.cell_base.specs.declared.cells.Cell.{Cell}
 use Rattle.cell_base.specs.declared.requests.JobId.{JobId}
@@ -15,9 +15,8 @@ use Rattle.record_text.specs.Lines.{line_of, told_words}
 use Rattle.refusal_reason.specs.Reasons.{reason}
 use Rattle.cell_walks.specs.Allowed.{IsOpenedAs}
 use Rattle.cell_walks.specs.DiskTold.{DiskTold}
-use Rattle.cell_walks.specs.Outcomes.{Outcome, done, early}
+use Rattle.cell_walks.specs.Outcomes.{done}
 use Rattle.cell_walks.specs.Walks.{Journal, Walk, Tests, Opens, Answers}
-use Rattle.cell_walks.specs.declared.early_end.EarlyEnd.{EarlyEnd}
 use Rattle.cell_texts.specs.Blocks.{Lines}
 use Rattle.cell_texts.specs.Tests.{KnownCell, cell_file, step}
 use Rattle.journal_texts.specs.Tests.{to_read}
@@ -46,11 +45,14 @@ why_lines cell parts request =
 abbrev pub explained : KnownCell → Request → List Grant → Walk
 explained held request grants = Answers λ input outcome. outcome ≡ done (why_lines held.cell (replay held.cell grants) request)
 
-abbrev pub why : List ℕ → List ℕ → Walk
-why cell word =
-    Tests (cell_file cell) λ held.
+-- its walk from the cell on
+abbrev pub why_step : List ℕ → KnownCell → Walk
+why_step word held =
     Tests (step held.cell word) λ request.
     Opens (to_read held) (explained held request)
+
+abbrev pub why : List ℕ → List ℕ → Walk
+why cell word = Tests (cell_file cell) (why_step word)
 
 -- the answer of a core to a request
 pub record IsAnswerOf (core : CoreState) (request : Request) (answer : Answer) : Type 0 where
@@ -63,8 +65,3 @@ pub record IsAnswerAfter (disk : DiskTold) (journal : Journal) (request : Reques
   pub grants : List Grant
   pub opened : IsOpenedAs disk journal grants
   pub is : IsAnswerOf (record { cell = journal.cell; parts = replay journal.cell grants }) request answer
-
--- the answer, or the early end
-abbrev pub why_outcome : Result Answer EarlyEnd → Outcome
-why_outcome (Ok answer) = done (answer_lines answer.core.cell answer.reply answer.jobs)
-why_outcome (Err end) = early end

@@ -1,32 +1,59 @@
 //! `check CELL RECORD`: whether a record is right, or the first line that isn't, and why.
 ghost use Rattle.std.specs.Prelude.{◌≡◌};
-ghost use Rattle.cell_walks.specs.Clauses.{Ends, IsAllowed, IsDelivered, IsTaken, disk_told, files_told, no_disk, observed, sink_told};
-ghost use Rattle.cell_commands.specs.Check.{check, checked_outcome, verdict_status};
+ghost use Rattle.cell_walks.specs.Clauses.{IsTaken};
+ghost use Rattle.printer.specs.Printing.{Prints};
+ghost use Rattle.cell_commands.specs.Check.{verdict_outcome, verdict_status};
 
 use crate::verdicts::{check_record, verdict_line};
-use cell_texts::{CommandEnd, read_cell};
-use cell_walks::{EarlyEnd, Status, finish, finish_early};
+use cell_driver::Command;
+use cell_texts::{CellFile, Made};
+use cell_walks::Status;
 use outside_io::{Disk, Files, Sink};
+use printer::Printer;
 use shift_checker::Verdict;
 use std::alloc::Global;
 
-/// Runs `check CELL RECORD`.
-pub fn run_check<F: Files, K: Sink, D: Disk>(
-    alloc: Global,
-    files: &mut F,
-    out: &mut K,
-    cell: &str,
-    record_file: &str,
-    disk: D,
-) -> CommandEnd<D>
-    ensures ends { let files = files_told F.holds F.is_sound F.faults files.old files.new in
-        let disk = disk_told D.reads_as D.may_leave D.moment D.left_since D.faults disk result.disk in
-        Ends (observed files disk) (sink_told K.taken K.was_put K.faults out.old out.new) (check cell.now record_file.now) result.status }
-    ensures same { result.disk ≡ disk }
-{
-    let made = verdict_of_files(alloc, files, cell, record_file);
-    let status = print_made(out, made);
-    CommandEnd { status, disk }
+/// The command, with the name of the record.
+#[derive(Drop)]
+pub struct Check<'a> {
+    pub record_file: &'a str,
+}
+
+impl<'a> Command for Check<'a> {
+    ghost use Rattle.std.specs.Prelude.{⊤};
+    ghost use Rattle.cell_commands.specs.Check.{check_record_file};
+
+    type Answer = Verdict;
+
+    ghost onward = { λ check. check_record_file check.record_file.now };
+
+    ghost outcome = { verdict_outcome };
+
+    ghost is_whole = { λ _. ⊤ };
+
+    ghost has_no_journal = { λ _. ⊤ };
+
+    fn answer<F: Files, D: Disk>(
+        &self,
+        alloc: Global,
+        held: CellFile,
+        files: &mut F,
+        disk: D,
+    ) -> Made<Verdict, D> {
+        Made {
+            made: check_record(alloc, files, &held.cell, self.record_file),
+            disk,
+        }
+    }
+
+    fn print<K: Sink>(verdict: Verdict, out: &mut Printer<K>) -> Status
+        ensures printed { Prints K.Sink out.old out.new (verdict_outcome verdict).pieces }
+        ensures status { result ≡ (verdict_outcome verdict).status }
+        ensures taken { IsTaken result }
+    {
+        out.line(&verdict_line(&verdict));
+        verdict_status(&verdict)
+    }
 }
 
 // The status of a verdict.
@@ -37,31 +64,5 @@ fn verdict_status(verdict: &Verdict) -> Status
     match verdict {
         Verdict::Yes => Status::Done,
         Verdict::No { .. } => Status::Denied,
-    }
-}
-
-// The verdict that is to be printed, or the early end in its place.
-fn verdict_of_files<F: Files>(
-    alloc: Global,
-    files: &mut F,
-    cell: &str,
-    record_file: &str,
-) -> Result<Verdict, EarlyEnd>
-    ensures { let files = files_told F.holds F.is_sound F.faults files.old files.new in
-        IsAllowed (observed files no_disk) (check cell.now record_file.now) (checked_outcome result) }
-{
-    match read_cell(alloc, files, cell) {
-        Ok(held) => check_record(alloc, files, &held.cell, record_file),
-        Err(end) => Err(end),
-    }
-}
-
-// Prints the verdict, or the early end, and answers the status.
-fn print_made<K: Sink>(out: &mut K, made: Result<Verdict, EarlyEnd>) -> Status
-    ensures { IsDelivered (sink_told K.taken K.was_put K.faults out.old out.new) (checked_outcome made) result }
-{
-    match made {
-        Ok(verdict) => finish(out, verdict_status(&verdict), &verdict_line(&verdict)),
-        Err(end) => finish_early(out, end),
     }
 }

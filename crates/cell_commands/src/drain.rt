@@ -1,80 +1,63 @@
 //! `drain CELL JOURNAL`: the steps of the plan after the grants of the journal, asked one by one, each grant written to it.
-ghost use Rattle.std.specs.Prelude.{◌≡◌, ◌≤◌, length, IfOk};
-ghost use Rattle.cell_walks.specs.Clauses.{Ends, IsAllowed, disk_told, files_told, observed, sink_told};
-ghost use Rattle.cell_texts.specs.Clauses.{CellFits, MAX_CELL_BYTES, known};
-ghost use Rattle.journal_texts.specs.Clauses.{EntriesFit, IsFresh, recorded_or_early, recorded_outcome};
-ghost use Rattle.cell_commands.specs.Draining.{AreDue, IsAdmitted, IsDrainOf, IsDrained, IsDrainedIn};
-ghost use Rattle.cell_commands.specs.Draining.{KeepsHistory, StandsForAdded, drain, first_parts};
+ghost use Rattle.std.specs.Prelude.{◌≡◌};
+ghost use Rattle.cell_walks.specs.Clauses.{disk_seen};
+ghost use Rattle.journal_texts.specs.Clauses.{EntriesFit, IsFresh, recorded_outcome};
+ghost use Rattle.cell_commands.specs.Draining.{AreDue, IsAdmitted, IsDrained, IsDrainedIn, KeepsHistory, StandsForAdded, first_parts};
 ghost use Rattle.cell_commands.specs.declared.drain.TheConstants.{MAX_PLAN};
 
-use cell_texts::{CellFile, CommandEnd, read_cell};
+use cell_driver::Command;
+use cell_texts::{CellFile, Made};
+use cell_walks::Status;
 use durable_cell::{Durable, MAX_ROOM, Recalled};
-use journal_texts::{Closed, Made, Recorded, open_journal_with, print_recorded, record_of};
+use journal_texts::{Closed, Recorded, open_journal_with, print_record, record_of};
 use outside_io::{Disk, Files, Sink};
+use printer::Printer;
 use shift_recovery::Unkept;
 use std::alloc::Global;
 
 /// The most steps of a plan: 128 for each of the 4,096 units of a cell.
 const MAX_PLAN: u64 = 524_288;
 
-/// Runs `drain CELL JOURNAL`. All steps are asked before the first line is printed.
-pub fn run_drain<F: Files, K: Sink, D: Disk>(
-    alloc: Global,
-    files: &mut F,
-    out: &mut K,
-    cell: &str,
-    disk: D,
-) -> CommandEnd<D>
-    ensures { let files = files_told F.holds F.is_sound F.faults files.old files.new in
-        let disk = disk_told D.reads_as D.may_leave D.moment D.left_since D.faults disk result.disk in
-        Ends (observed files disk) (sink_told K.taken K.was_put K.faults out.old out.new) (drain cell.now) result.status }
-{
-    let Made { made, disk } = drain_of_files(alloc, files, cell, disk);
-    let status = print_recorded(out, made);
-    CommandEnd { status, disk }
-}
+/// The command.
+pub struct Drain;
 
-// The record of the drain, or the early end in its place.
-fn drain_of_files<F: Files, D: Disk>(
-    alloc: Global,
-    files: &mut F,
-    cell: &str,
-    disk: D,
-) -> Made<Recorded, D>
-    ensures allowed { let files = files_told F.holds F.is_sound F.faults files.old files.new in
-        let disk = disk_told D.reads_as D.may_leave D.moment D.left_since D.faults disk result.disk in
-        IsAllowed (observed files disk) (drain cell.now) (recorded_or_early result.made) }
-    ensures fits { IfOk result.made EntriesFit }
-{
-    match read_cell(alloc, files, cell) {
-        Ok(held) => drain_journal(alloc, held, disk),
-        Err(end) => Made {
-            made: Err(end),
-            disk,
-        },
-    }
-}
+impl Command for Drain {
+    ghost use Rattle.cell_commands.specs.Drain.{drain_journal};
 
-// The same of a cell that was read.
-fn drain_journal<D: Disk>(alloc: Global, held: CellFile, disk: D) -> Made<Recorded, D>
-    requires fits { CellFits held.cell }
-    requires short { length held.text.items ≤ MAX_CELL_BYTES }
-    ensures drained { IsDrainOf (disk_told D.reads_as D.may_leave D.moment D.left_since D.faults disk result.disk) (known held)
-        (recorded_or_early result.made) }
-    ensures fits { IfOk result.made EntriesFit }
-{
-    match open_journal_with(alloc, held, disk, MAX_ROOM, MAX_PLAN, Unkept) {
-        Ok(opened) => {
-            let Closed { recorded, disk } = drain_all(opened.durable);
-            Made {
-                made: Ok(recorded),
-                disk,
+    type Answer = Recorded;
+
+    ghost onward = { λ _. drain_journal };
+
+    ghost outcome = { recorded_outcome };
+
+    ghost is_whole = { EntriesFit };
+
+    ghost has_no_journal = { λ _. ⊥ };
+
+    fn answer<F: Files, D: Disk>(
+        &self,
+        alloc: Global,
+        held: CellFile,
+        _files: &mut F,
+        disk: D,
+    ) -> Made<Recorded, D> {
+        match open_journal_with(alloc, held, disk, MAX_ROOM, MAX_PLAN, Unkept) {
+            Ok(opened) => {
+                let Closed { recorded, disk } = drain_all(opened.durable);
+                Made {
+                    made: Ok(recorded),
+                    disk,
+                }
             }
+            Err(unopened) => Made {
+                made: Err(unopened.end),
+                disk: unopened.disk,
+            },
         }
-        Err(unopened) => Made {
-            made: Err(unopened.end),
-            disk: unopened.disk,
-        },
+    }
+
+    fn print<K: Sink>(recorded: Recorded, out: &mut Printer<K>) -> Status {
+        print_record(out, recorded)
     }
 }
 
@@ -84,7 +67,7 @@ fn drain_all<D: Disk>(mut durable: Durable<D, Recalled>) -> Closed<D>
     requires limit { durable.limit ≡ MAX_PLAN }
     ensures drained { IsDrained durable.cell durable.opening (recorded_outcome result.recorded) }
     ensures stands { let outcome = recorded_outcome result.recorded in
-        StandsForAdded (disk_told D.reads_as D.may_leave D.moment D.left_since D.faults durable.entry result.disk)
+        StandsForAdded (disk_seen D.Disk durable.entry result.disk)
         durable.text durable.opening outcome.added outcome.unsure }
     ensures fits { EntriesFit result.recorded }
     ensures due { AreDue durable.cell durable.opening }

@@ -1,4 +1,4 @@
-//! The commands that need no session, one module each: its walk stands in `specs/`, and its function here goes that walk.
+//! The commands that need no session, one module each: its walk stands in `specs/`, and `cell_driver::drive` goes it.
 //!
 //! ```text
 //! let CommandEnd { status, disk } = run_plan(alloc, &mut files, &mut out, "cell.toml", disk);
@@ -8,12 +8,9 @@
 mod check;
 mod drain;
 mod plan;
+mod running;
 mod show;
 mod verdicts;
 mod why;
 
-pub use check::run_check;
-pub use drain::run_drain;
-pub use plan::run_plan;
-pub use show::run_show;
-pub use why::run_why;
+pub use running::{run_check, run_drain, run_plan, run_show, run_why};

@@ -1,59 +1,44 @@
 //! `plan CELL JOURNAL`: the plan that empties the cell after the grants of the journal.
-ghost use Rattle.cell_walks.specs.Clauses.{Ends, IsAllowed, IsDelivered, disk_told, files_told, observed, sink_told};
-ghost use Rattle.cell_commands.specs.Plan.{plan, plan_outcome};
-
-use cell_texts::{CommandEnd, print_block, read_cell};
-use cell_walks::{EarlyEnd, Status, finish_early};
-use journal_texts::{AfterGrants, Made, read_journal};
+use cell_driver::Command;
+use cell_texts::records::print_block;
+use cell_texts::{CellFile, Made};
+use cell_walks::Status;
+use journal_texts::{AfterGrants, read_journal};
 use outside_io::{Disk, Files, Sink};
+use printer::Printer;
 use std::alloc::Global;
 
-/// Runs `plan CELL JOURNAL`.
-pub fn run_plan<F: Files, K: Sink, D: Disk>(
-    alloc: Global,
-    files: &mut F,
-    out: &mut K,
-    cell: &str,
-    disk: D,
-) -> CommandEnd<D>
-    ensures { let files = files_told F.holds F.is_sound F.faults files.old files.new in
-        let disk = disk_told D.reads_as D.may_leave D.moment D.left_since D.faults disk result.disk in
-        Ends (observed files disk) (sink_told K.taken K.was_put K.faults out.old out.new) (plan cell.now) result.status }
-{
-    let Made { made, disk } = plan_of_files(alloc, files, cell, disk);
-    let status = print_made(out, made);
-    CommandEnd { status, disk }
-}
+/// The command.
+pub struct Plan;
 
-// The state whose plan is to be printed, or the early end in its place.
-fn plan_of_files<F: Files, D: Disk>(
-    alloc: Global,
-    files: &mut F,
-    cell: &str,
-    disk: D,
-) -> Made<AfterGrants, D>
-    ensures { let files = files_told F.holds F.is_sound F.faults files.old files.new in
-        let disk = disk_told D.reads_as D.may_leave D.moment D.left_since D.faults disk result.disk in
-        IsAllowed (observed files disk) (plan cell.now) (plan_outcome result.made) }
-{
-    match read_cell(alloc, files, cell) {
-        Ok(held) => read_journal(alloc, held, disk),
-        Err(end) => Made {
-            made: Err(end),
-            disk,
-        },
+impl Command for Plan {
+    ghost use Rattle.std.specs.Prelude.{[], ⊤};
+    ghost use Rattle.cell_walks.specs.Outcomes.{done};
+    ghost use Rattle.cell_texts.specs.Blocks.{block_of};
+    ghost use Rattle.cell_commands.specs.Plan.{plan_journal};
+
+    type Answer = AfterGrants;
+
+    ghost onward = { λ _. plan_journal };
+
+    ghost outcome = { λ after. done (block_of after.core 0 after.grants []) };
+
+    ghost is_whole = { λ _. ⊤ };
+
+    ghost has_no_journal = { λ _. ⊥ };
+
+    fn answer<F: Files, D: Disk>(
+        &self,
+        alloc: Global,
+        held: CellFile,
+        _files: &mut F,
+        disk: D,
+    ) -> Made<AfterGrants, D> {
+        read_journal(alloc, held, disk)
     }
-}
 
-// Prints the plan, or the early end, and answers the status.
-fn print_made<K: Sink>(out: &mut K, made: Result<AfterGrants, EarlyEnd>) -> Status
-    ensures { IsDelivered (sink_told K.taken K.was_put K.faults out.old out.new) (plan_outcome made) result }
-{
-    match made {
-        Ok(after) => match print_block(out, after.core, 0, after.grants, &[]) {
-            Ok(()) => Status::Done,
-            Err(_) => Status::SinkFault,
-        },
-        Err(end) => finish_early(out, end),
+    fn print<K: Sink>(after: AfterGrants, out: &mut Printer<K>) -> Status {
+        print_block(out, after.core, 0, after.grants, &[]);
+        Status::Done
     }
 }

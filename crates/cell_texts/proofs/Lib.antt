@@ -5,4 +5,5 @@ pub mod Delivered
 pub mod Disks
 pub mod Fitted
 pub mod Fitting
+pub mod Taken
 pub mod Wording

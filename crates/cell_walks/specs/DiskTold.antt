@@ -1,6 +1,7 @@
 -- What a disk tells of one call of the program.
 use Rattle.std.specs.Prelude.{◌≡◌, ◌⊎◌, ℕ, List, [], Option, None, IfSome, IsSome, IsSomeAnd}
 use Rattle.outside_io.specs.Disk.{SameOutcomes}
+use Rattle.outside_io.specs.Meanings.{DiskMeaning}
 use Rattle.cell_base.specs.declared.shifts.Grant.{Grant}
 use Rattle.move_journal.specs.Blanks.{IsBlank}
 use Rattle.move_journal.specs.Journals.{StandsFor}
@@ -28,6 +29,10 @@ disk_told reads_as may_leave moment left_since faults old new = record {
   faults = faults old;
   faults_after = faults new;
 }
+
+-- the same, by these meanings as one
+abbrev pub disk_seen : {D : Type 0} → DiskMeaning D → D → D → DiskTold
+disk_seen disk old new = disk_told disk.reads_as disk.may_leave disk.moment disk.left_since disk.faults old new
 
 -- the disk of a function that has none
 abbrev pub no_disk : DiskTold

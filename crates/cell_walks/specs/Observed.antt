@@ -1,6 +1,7 @@
 -- What is observed of the outside in one call of the program.
 use Rattle.std.specs.Prelude.{ℕ, List, [], Option, Some, IfSome, IsSomeAnd, ⊤}
 use Rattle.outside_io.specs.Files.{Names, IsThere}
+use Rattle.outside_io.specs.Meanings.{FilesMeaning}
 use Rattle.outside_io.specs.Source.{SourceTold}
 use Rattle.cell_walks.specs.DiskTold.{DiskTold}
 
@@ -15,6 +16,10 @@ pub record FilesTold : Type 1 where
 abbrev pub files_told : {F : Type 0} → (F → Option Names) → (F → Type 0) → (F → ℕ) → F → F → FilesTold
 files_told holds is_sound faults old new =
     record { names = holds old; is_sound = is_sound old; faults = faults old; faults_after = faults new }
+
+-- the same, by these meanings as one
+abbrev pub files_seen : {F : Type 0} → FilesMeaning F → F → F → FilesTold
+files_seen files old new = files_told files.holds files.is_sound files.faults old new
 
 pub record Observed : Type 1 where
   pub files : FilesTold

@@ -1,5 +1,5 @@
 -- What a command comes to: its status, what it puts, and what it adds to its journal.
-use Rattle.std.specs.Prelude.{◌≡◌, ℕ, List, [], ◌∷◌}
+use Rattle.std.specs.Prelude.{◌≡◌, ℕ, List, [], ◌∷◌, Result, Ok, Err}
 use Rattle.outside_io.specs.Causes.{Rose}
 use Rattle.outside_io.specs.Puts.{SinkTold, TookAll, TookSome}
 use Rattle.cell_base.specs.declared.shifts.Grant.{Grant}
@@ -25,6 +25,11 @@ done lines = printed Done lines
 -- an early end
 abbrev pub early : EarlyEnd → Outcome
 early end = printed (early_status end) (early_line end ∷ [])
+
+-- what an answer comes to, or the early end in its place
+abbrev pub or_early : {A : Type 0} → (A → Outcome) → Result A EarlyEnd → Outcome
+or_early outcome (Ok answer) = outcome answer
+or_early outcome (Err end) = early end
 
 -- The sink took each piece whole, by one put; or it failed at one of them, after the earlier ones.
 pub data IsDelivered (sink : SinkTold) (outcome : Outcome) (status : Status) : Type 0 where

@@ -1,5 +1,5 @@
 -- What was asked of a durable cell since it was opened: what is printed of it, and what is added.
-use Rattle.std.specs.Prelude.{◌≡◌, ℕ, true, false, List, [], None, Result, Ok, Err}
+use Rattle.std.specs.Prelude.{◌≡◌, ℕ, true, false, List, [], None, Result}
 use Rattle.std.specs.List.{All}
 use Rattle.std.specs.Option.{option_to_list}
 use Rattle.cell_base.specs.declared.shifts.Entry.{Entry}
@@ -9,7 +9,7 @@ use Rattle.cell_base.specs.Scripts.{holds_halt}
 use Rattle.durable_cell.specs.Asked.{unsure_grant}
 use Rattle.durable_cell.specs.DurableState.{DurableState}
 use Rattle.record_text.specs.Fitting.{EntryFits}
-use Rattle.cell_walks.specs.Outcomes.{Outcome, early}
+use Rattle.cell_walks.specs.Outcomes.{Outcome, or_early}
 use Rattle.cell_walks.specs.declared.early_end.EarlyEnd.{EarlyEnd}
 use Rattle.cell_walks.specs.declared.status.Status.TheVariants.{Done, DeviceFault}
 use Rattle.cell_texts.specs.Blocks.{block_of, history_lines}
@@ -63,5 +63,4 @@ recorded_outcome (Halted asked) = record {
 
 -- the same, or the early end
 abbrev pub recorded_or_early : Result Recorded EarlyEnd → Outcome
-recorded_or_early (Ok recorded) = recorded_outcome recorded
-recorded_or_early (Err end) = early end
+recorded_or_early made = or_early recorded_outcome made

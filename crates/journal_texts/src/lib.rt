@@ -6,20 +6,19 @@
 //! ```text
 //! let Made { made, disk } = read_journal(alloc, held, disk);
 //! match made {
-//!     Ok(AfterGrants { core, .. }) => print_left(&mut out, core),
+//!     Ok(AfterGrants { core, .. }) => print_left(&mut Printer::new(&mut out), core),
 //!     Err(end) => finish_early(&mut out, end),
 //! }
 //! ```
 #![tactic(auto)]
 
-mod made;
 mod opening;
 mod readers;
 mod recorded;
 mod refusals;
 
-pub use made::Made;
+pub use cell_texts::Made;
 pub use opening::{Unopened, open_journal, open_journal_with};
 pub use readers::{AfterGrants, Found, find_grants, read_journal};
-pub use recorded::{Asked, Closed, Recorded, give_back, print_recorded, record_of};
+pub use recorded::{Asked, Closed, Recorded, give_back, print_record, print_recorded, record_of};
 pub use refusals::{at_journal_fault, at_other_shift};

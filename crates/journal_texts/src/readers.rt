@@ -4,11 +4,10 @@ ghost use Rattle.cell_walks.specs.Clauses.{IsNotOpened, IsOnlyRead, disk_told};
 ghost use Rattle.cell_texts.specs.Clauses.{CellFits, MAX_CELL_BYTES, known};
 ghost use Rattle.journal_texts.specs.Clauses.{GrantsFit, IsAfterGrants, IsFound, IsReplayed, to_read};
 
-use crate::made::Made;
 use crate::refusals::at_journal_fault;
 use admission_core::Core;
 use cell_base::{Grant, List};
-use cell_texts::CellFile;
+use cell_texts::{CellFile, Made};
 use cell_walks::EarlyEnd;
 use durable_cell::{MAX_ROOM, Resumed, resume};
 use outside_io::Disk;

@@ -3,18 +3,19 @@ ghost use Rattle.std.specs.Prelude.{◌≡◌, [], Err, IfOk};
 ghost use Rattle.cell_base.specs.Scripts.{holds_halt};
 ghost use Rattle.shift_recovery.specs.Replayed.{AreDue};
 ghost use Rattle.cell_walks.specs.Allowed.{StandsForAdded};
-ghost use Rattle.cell_walks.specs.Clauses.{IsDelivered, disk_told, sink_told};
+ghost use Rattle.cell_walks.specs.Clauses.{IsDelivered, IsTaken, disk_told, sink_seen};
+ghost use Rattle.printer.specs.Printing.{Prints};
 ghost use Rattle.journal_texts.specs.Clauses.{EntriesFit, IsAskedUnder, IsFresh, IsHaltedIn, IsRecordedOrHalted};
 ghost use Rattle.journal_texts.specs.Clauses.{IsUnhaltedIn, recorded_or_early, recorded_outcome};
-ghost use Rattle.journal_texts.specs.declared.recorded.Recorded.TheVariants.{Whole, Halted};
 
-use crate::made::Made;
 use admission_core::Core;
 use cell_base::{Entry, List, Told};
-use cell_texts::{print_block, print_history};
+use cell_texts::Made;
+use cell_texts::records::{print_block, print_history};
 use cell_walks::{EarlyEnd, Status, finish_early};
 use durable_cell::{Durable, Finished, Recall};
 use outside_io::{Disk, Sink};
+use printer::Printer;
 
 /// What was asked: the core after it, the number that it was asked under, how many grants there were before it, and what was decided.
 #[derive(Drop)]
@@ -105,53 +106,54 @@ fn has_halted(history: &[Entry]) -> bool
         .any(|entry| matches!(entry.told, Told::Halted))
 }
 
-/// Prints a record, or the early end, and answers the status.
+/// Prints a record: the history, and where no writing failed the plan after it. It answers the status.
+pub fn print_record<K: Sink>(out: &mut Printer<K>, recorded: Recorded) -> Status
+    requires { EntriesFit recorded }
+    ensures printed { Prints K.Sink out.old out.new (recorded_outcome recorded).pieces }
+    ensures status { result ≡ (recorded_outcome recorded).status }
+    ensures taken { IsTaken result }
+{
+    match recorded {
+        Recorded::Whole(asked) => {
+            let Asked {
+                core,
+                number,
+                after,
+                history,
+            } = asked;
+            print_block(out, core, number, after, history.as_slice());
+            Status::Done
+        }
+        Recorded::Halted(asked) => {
+            let Asked {
+                core,
+                number,
+                after,
+                history,
+            } = asked;
+            print_history(out, core.cell(), number, after, history.as_slice());
+            Status::DeviceFault
+        }
+    }
+}
+
+/// Prints a record, or the early end in its place, and answers the status.
 pub fn print_recorded<K: Sink>(out: &mut K, made: Result<Recorded, EarlyEnd>) -> Status
     requires { IfOk made EntriesFit }
-    ensures { IsDelivered (sink_told K.taken K.was_put K.faults out.old out.new) (recorded_or_early made) result }
+    ensures { IsDelivered (sink_seen K.Sink out.old out.new) (recorded_or_early made) result }
 {
     match made {
-        Ok(recorded) => print_record(out, recorded),
+        Ok(recorded) => print_whole(out, recorded),
         Err(end) => finish_early(out, end),
     }
 }
 
-// Prints a record.
-fn print_record<K: Sink>(out: &mut K, recorded: Recorded) -> Status
+// Prints a record, and answers its status, or the sink's fault.
+fn print_whole<K: Sink>(out: &mut K, recorded: Recorded) -> Status
     requires { EntriesFit recorded }
-    ensures { IsDelivered (sink_told K.taken K.was_put K.faults out.old out.new) (recorded_outcome recorded) result }
+    ensures { IsDelivered (sink_seen K.Sink out.old out.new) (recorded_outcome recorded) result }
 {
-    match recorded {
-        Recorded::Whole(asked) => print_whole(out, asked),
-        Recorded::Halted(asked) => print_halted(out, &asked),
-    }
-}
-
-// Prints the history and the plan after it.
-fn print_whole<K: Sink>(out: &mut K, asked: Asked) -> Status
-    requires { EntriesFit (Whole asked) }
-    ensures { IsDelivered (sink_told K.taken K.was_put K.faults out.old out.new) (recorded_outcome (Whole asked)) result }
-{
-    let Asked {
-        core,
-        number,
-        after,
-        history,
-    } = asked;
-    match print_block(out, core, number, after, history.as_slice()) {
-        Ok(()) => Status::Done,
-        Err(_) => Status::SinkFault,
-    }
-}
-
-// Prints the history that ends in a halt.
-fn print_halted<K: Sink>(out: &mut K, asked: &Asked) -> Status
-    requires { EntriesFit (Halted asked.now) }
-    ensures { IsDelivered (sink_told K.taken K.was_put K.faults out.old out.new) (recorded_outcome (Halted asked.now)) result }
-{
-    let history = asked.history.as_slice();
-    match print_history(out, asked.core.cell(), asked.number, asked.after, history) {
-        Ok(()) => Status::DeviceFault,
-        Err(_) => Status::SinkFault,
-    }
+    let mut printer = Printer::new(out);
+    let status = print_record(&mut printer, recorded);
+    printer.status(status)
 }

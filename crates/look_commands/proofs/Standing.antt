@@ -1,58 +1,63 @@
--- How the outcomes of `parts` come about, and how the lines of a resource and of resources follow one another.
+-- How the outcomes of `parts` come about, and the parts that stand on a resource, as far as they were looked at.
 use Rattle.std.specs.Prelude.{IfErr, IfOk}
-use Rattle.std.specs.List.{flat_map, range_with_len}
-use Rattle.std.proofs.Common.{◌≡◌, ◌∙◌, ℕ, zero, suc, ◌+◌, ◌<◌, ◌≤◌, ◌-◌, ◌==◌, true, false, Option, List, [], ◌∷◌, ◌++◌}
-use Rattle.std.proofs.Common.{length, map, drop, get_or, Result, Ok, Err, ap, sym, refl, arith, append_assoc, append-nil}
+use Rattle.std.proofs.Common.{◌≡◌, ◌∙◌, ℕ, ◌+◌, ◌<◌, ◌==◌, true, false, List, [], ◌∷◌, ◌++◌, length, map, take, get_or, ap}
+use Rattle.std.proofs.Common.{Result, Ok, Err, refl}
 use Rattle.std.proofs.lemmas.Bool.{cond-false, cond-true}
-use Rattle.outside_io.specs.Puts.{sink_told, TookAll, TookSome}
+use Rattle.std.proofs.lemmas.List.{append-nil, take_more}
+use Rattle.std.proofs.lemmas.List.Elements.{filter-append}
 use Rattle.admission_core.specs.CoreState.{CoreState}
-use Rattle.policy_laws.proofs.Growing.{join_next}
 use Rattle.cell_base.specs.declared.cells.Cell.{Cell}
 use Rattle.cell_base.specs.declared.requests.Part.{Part}
 use Rattle.cell_base.specs.Neighborhoods.{count}
 use Rattle.cell_base.specs.Plans.{resource_of_part}
 use Rattle.record_text.specs.Lines.{line_of}
-use Rattle.cell_walks.specs.Allowed.{IsAllowed, IsEndedAt, IsNotOpened, JournalOpened, Passed, Unasked}
-use Rattle.cell_walks.specs.DiskTold.{IsOnlyRead, IsUntouched}
-use Rattle.cell_walks.specs.Observed.{Observed, ShowsFile}
-use Rattle.cell_walks.specs.Outcomes.{done, early}
-use Rattle.cell_walks.specs.Walks.{Opens}
+use Rattle.cell_walks.specs.Allowed.{IsNotOpened, JournalOpened, NotOpened, OpeningStarved}
+use Rattle.cell_walks.specs.DiskTold.{DiskTold, IsOnlyRead}
+use Rattle.cell_walks.specs.Observed.{FilesTold}
+use Rattle.cell_walks.specs.Outcomes.{Outcome, done}
 use Rattle.cell_walks.specs.declared.early_end.EarlyEnd.{EarlyEnd}
-use Rattle.cell_walks.proofs.Steps.{ended_at, ended_at_opening}
-use Rattle.cell_texts.specs.Tests.{KnownCell, cell_file, cell_reads}
+use Rattle.cell_walks.specs.declared.early_end.EarlyEnd.TheVariants.{WantOfMemory}
+use Rattle.cell_texts.specs.Tests.{KnownCell}
+use Rattle.cell_driver.specs.Driving.{Allowed, IsMade}
+use Rattle.journal_texts.specs.JournalReads.{IsAfterGrants}
 use Rattle.journal_texts.specs.Tests.{to_read}
-use Rattle.cell_texts.proofs.Delivered.{failed_first, failed_then, rest_at, took_both}
-use Rattle.look_commands.specs.Parts.{IsStandingAfter, located, part_line, parts, parts_lines}
-use Rattle.look_commands.specs.Parts.{parts_on, parts_outcome, resource_lines, resource_words}
+use Rattle.journal_texts.specs.declared.readers.AfterGrants.{AfterGrants}
+use Rattle.look_commands.specs.Parts.{locate_parts, part_line, parts_lines, parts_on, resource_lines, resource_words}
 use Rattle.look_commands.specs.declared.parts.Standing.{Standing}
 
-module _ (seen : Observed) (name : List ℕ) where
-  -- the cell was not read
-  pub parts_unread : (end : EarlyEnd) → IsEndedAt seen.files (cell_file name) end → IsUntouched seen.disk
-      → IsAllowed seen (parts name) (early end)
-  parts_unread end ended still = ended_at seen Unasked (cell_file name) (λ held. Opens (to_read held) (located held)) end ended still
+-- ---- the outcomes
 
-  -- it was; and the journal was read, or the command ends there
-  pub parts_made : (held : KnownCell) → ShowsFile seen.files name (λ bytes. cell_reads bytes (Ok held)) → IsOnlyRead seen.disk
-      → (made : Result Standing EarlyEnd) → IfOk made (IsStandingAfter seen.disk (to_read held))
-      → IfErr made (IsNotOpened seen.disk (to_read held)) → IsAllowed seen (parts name) (parts_outcome made)
-  parts_made held shows only (Ok standing) is ended =
-      Passed held shows
-      (JournalOpened is.grants is.opened (ap (λ (core : CoreState). done (parts_lines core.cell core.parts)) is.core, only))
-  parts_made held shows only (Err end) is ended =
-      Passed held shows (ended_at_opening seen Unasked (to_read held) (located held) end ended)
+abbrev standing_outcome : Standing → Outcome
+standing_outcome standing = done (parts_lines standing.core.cell standing.core.parts)
 
--- ---- a resource
+module _ (files : FilesTold) (disk : DiskTold) (held : KnownCell) where
+  -- the journal was read, and the parts were listed or memory was wanting
+  pub parts_made : (after : AfterGrants) → IsOnlyRead disk → IsAfterGrants disk (to_read held) after → (made : Result Standing EarlyEnd)
+      → IfOk made (λ standing. standing.core ≡ after.core) → IfErr made (λ end. end ≡ WantOfMemory)
+      → IsMade files disk (locate_parts held) standing_outcome made
+  parts_made after only is (Ok standing) same starved =
+      Allowed (JournalOpened is.grants is.opened (ap (λ (core : CoreState). done (parts_lines core.cell core.parts)) (same ∙ is.core), only))
+  parts_made after only is (Err end) same starved = Allowed (NotOpened end (OpeningStarved starved only) refl)
 
--- of the parts from an index on, the one there is the next that stands on the resource, or it stands elsewhere
+  -- the journal was not opened
+  pub parts_unread : (end : EarlyEnd) → IsNotOpened disk (to_read held) end → IsMade files disk (locate_parts held) standing_outcome (Err end)
+  parts_unread end ended = Allowed (NotOpened end ended refl)
+
+-- ---- the parts on a resource
+
 module _ (cell : Cell) (parts : List Part) (r i : ℕ) (d : Part) (within : i < length parts) where
+  next : parts_on cell (take (i + 1) parts) r ≡ parts_on cell (take i parts) r ++ parts_on cell (get_or parts i d ∷ []) r
+  next = ap (λ (ps : List Part). parts_on cell ps r) (take_more parts i d within)
+      ∙ filter-append (λ (part : Part). resource_of_part cell part == r) (take i parts) (get_or parts i d ∷ [])
+
   pub stands_next : (resource_of_part cell (get_or parts i d) == r) ≡ true
-      → parts_on cell (drop i parts) r ≡ get_or parts i d ∷ parts_on cell (drop (i + 1) parts) r
-  stands_next here = ap (λ (ps : List Part). parts_on cell ps r) (rest_at parts i d within) ∙ cond-true _ _ _ here
+      → parts_on cell (take (i + 1) parts) r ≡ parts_on cell (take i parts) r ++ get_or parts i d ∷ []
+  stands_next here = next ∙ ap (λ (ps : List Part). parts_on cell (take i parts) r ++ ps) (cond-true _ _ _ here)
 
   pub stands_elsewhere : (resource_of_part cell (get_or parts i d) == r) ≡ false
-      → parts_on cell (drop i parts) r ≡ parts_on cell (drop (i + 1) parts) r
-  stands_elsewhere there = ap (λ (ps : List Part). parts_on cell ps r) (rest_at parts i d within) ∙ cond-false _ _ _ there
+      → parts_on cell (take (i + 1) parts) r ≡ parts_on cell (take i parts) r
+  stands_elsewhere there =
+      next ∙ ap (λ (ps : List Part). parts_on cell (take i parts) r ++ ps) (cond-false _ _ _ there) ∙ append-nil (parts_on cell (take i parts) r)
 
 -- its line, made of what was counted
 pub line_made : (cell one other : Cell) (parts listed : List Part) (r held counted : ℕ) (line : List ℕ)
@@ -66,48 +71,3 @@ line_made cell one other parts listed r held counted line is same held_is alike 
     ∙ ap (λ (n : ℕ). line_of (resource_words cell r n counted))
     (held_is ∙ ap (λ (on : Cell). length (parts_on on listed r)) alike ∙ ap (λ (ps : List Part). length (parts_on cell ps r)) all)
     ∙ ap (λ (n : ℕ). line_of (resource_words cell r (length (parts_on cell parts r)) n)) counted_is)
-
--- ---- lists that are joined
-
--- the lists at the first numbers, and what those after them join to
-module _ {X : Type 0} (f : ℕ → List X) (n : ℕ) where
-  record Behind (m : ℕ) : Type 0 where
-    more : List X
-    joined : flat_map f (range_with_len 0 n) ++ more ≡ flat_map f (range_with_len 0 m)
-
-  behind : (k m : ℕ) → m ≡ n + k → Behind m
-  behind zero m is = record {
-    more = [];
-    joined = append-nil (flat_map f (range_with_len 0 n))
-        ∙ ap (λ (i : ℕ). flat_map f (range_with_len 0 i)) (omega (arith, is));
-  }
-  behind (suc k) m is =
-      let before = behind k (n + k) refl in
-      let next : n + k + 1 ≡ m = omega (arith, is) in
-      record {
-        more = before.more ++ f (n + k);
-        joined = sym (append_assoc (flat_map f (range_with_len 0 n)) before.more (f (n + k)))
-            ∙ ap (λ (xs : List X). xs ++ f (n + k)) before.joined ∙ sym (join_next f (n + k))
-            ∙ ap (λ (i : ℕ). flat_map f (range_with_len 0 i)) next;
-      }
-
-module _ {K : Type 0} (taken : K → Option (List ℕ)) (was_put : K → List ℕ → K → Type 0) (faults : K → ℕ)
-    (lines : ℕ → List (List ℕ)) (r : ℕ) (a b c : K)
-    (whole : TookAll (sink_told taken was_put faults a b) (flat_map lines (range_with_len 0 r))) where
-  -- the lines at one number more are taken
-  pub took_next : TookAll (sink_told taken was_put faults b c) (lines r)
-      → TookAll (sink_told taken was_put faults a c) (flat_map lines (range_with_len 0 (r + 1)))
-  took_next more =
-      took_both taken was_put faults (flat_map lines (range_with_len 0 r)) (lines r) (flat_map lines (range_with_len 0 (r + 1)))
-      (sym (join_next lines r)) a b c whole more
-
-  -- one of them is not
-  pub failed_next : (m : ℕ) → r + 1 ≤ m → TookSome (sink_told taken was_put faults b c) (lines r)
-      → TookSome (sink_told taken was_put faults a c) (flat_map lines (range_with_len 0 m))
-  failed_next m within part =
-      let rest = behind lines (r + 1) (m - (r + 1)) m (omega (arith, within)) in
-      failed_first taken was_put faults (flat_map lines (range_with_len 0 (r + 1))) rest.more
-      (flat_map lines (range_with_len 0 m)) rest.joined
-      a c
-      (failed_then taken was_put faults (flat_map lines (range_with_len 0 r)) (lines r) (flat_map lines (range_with_len 0 (r + 1)))
-      (sym (join_next lines r)) a b c whole part)

@@ -1,5 +1,5 @@
 -- `grants CELL JOURNAL`: the grants of the journal as one record of shift 0, with the plan that empties the cell after them.
-use Rattle.std.specs.Prelude.{◌≡◌, ℕ, ◌<◌, ◌^◌, List, [], ◌∷◌, length, map, Result, Ok, Err}
+use Rattle.std.specs.Prelude.{◌≡◌, ℕ, ◌<◌, ◌^◌, List, [], ◌∷◌, length, map}
 use Rattle.std.specs.List.{concat}
 use Rattle.cell_base.specs.declared.cells.Cell.{Cell}
 use Rattle.cell_base.specs.declared.requests.Reply.TheVariants.{Granted}
@@ -13,9 +13,8 @@ use Rattle.record_text.specs.declared.blocks.Block.{Block}
 use Rattle.step_text.specs.Steps.{job_number}
 use Rattle.shift_checker.specs.Judging.{judge}
 use Rattle.shift_checker.specs.declared.verdict.Verdict.TheVariants.{Yes}
-use Rattle.cell_walks.specs.Outcomes.{Outcome, done, early}
+use Rattle.cell_walks.specs.Outcomes.{Outcome, done}
 use Rattle.cell_walks.specs.Walks.{Walk, Tests, Opens, Answers}
-use Rattle.cell_walks.specs.declared.early_end.EarlyEnd.{EarlyEnd}
 use Rattle.cell_texts.specs.Blocks.{Lines, block_of as lines_of_block, entry_line, planned_block}
 use Rattle.cell_texts.specs.Tests.{KnownCell, cell_file}
 use Rattle.journal_texts.specs.Tests.{to_read}
@@ -54,10 +53,12 @@ pub record IsListed (cell : Cell) (grants : List Grant) (outcome : Outcome) : Ty
 abbrev pub listed : KnownCell → List Grant → Walk
 listed held opening = Answers λ input outcome. IsListed held.cell opening outcome
 
+-- its walk from the cell on
+abbrev pub list_grants : KnownCell → Walk
+list_grants held = Opens (to_read held) (listed held)
+
 abbrev pub grants : List ℕ → Walk
-grants cell =
-    Tests (cell_file cell) λ held.
-    Opens (to_read held) (listed held)
+grants cell = Tests (cell_file cell) list_grants
 
 -- ---- what is found in a journal
 
@@ -68,8 +69,3 @@ grant_line cell grant = entry_line cell (entry_of grant)
 -- the lines of the record of what was found
 abbrev pub found_lines : Found → Lines
 found_lines found = lines_of_block found.core 0 0 (history_of found.grants)
-
--- the record of what was found, or the early end
-abbrev pub grants_outcome : Result Found EarlyEnd → Outcome
-grants_outcome (Ok found) = done (found_lines found)
-grants_outcome (Err end) = early end

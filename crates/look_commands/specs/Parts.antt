@@ -1,5 +1,5 @@
 -- `parts CELL JOURNAL`: where the parts stand after the grants of the journal, and how many each neighborhood counts.
-use Rattle.std.specs.Prelude.{codes, ◌≡◌, ℕ, ◌==◌, List, [], ◌∷◌, ◌++◌, length, map, Result, Ok, Err}
+use Rattle.std.specs.Prelude.{codes, ◌≡◌, ℕ, ◌==◌, List, [], ◌∷◌, ◌++◌, length, map}
 use Rattle.std.specs.Fmt.{decimal}
 use Rattle.std.specs.List.{filter, flat_map}
 use Rattle.cell_base.specs.declared.cells.Cell.{Cell}
@@ -12,15 +12,11 @@ use Rattle.cell_base.specs.Plans.{resource_of_part}
 use Rattle.cell_base.specs.Stages.{capacity_of, resource_numbers}
 use Rattle.step_text.specs.Steps.{done_word}
 use Rattle.record_text.specs.Lines.{line_of}
-use Rattle.cell_walks.specs.Allowed.{IsOpenedAs}
-use Rattle.cell_walks.specs.DiskTold.{DiskTold}
-use Rattle.cell_walks.specs.Outcomes.{Outcome, done, early}
-use Rattle.cell_walks.specs.Walks.{Journal, Walk, Tests, Opens, Answers}
-use Rattle.cell_walks.specs.declared.early_end.EarlyEnd.{EarlyEnd}
+use Rattle.cell_walks.specs.Outcomes.{done}
+use Rattle.cell_walks.specs.Walks.{Walk, Tests, Opens, Answers}
 use Rattle.cell_texts.specs.Blocks.{Lines}
 use Rattle.cell_texts.specs.Tests.{KnownCell, cell_file}
 use Rattle.journal_texts.specs.Tests.{to_read}
-use Rattle.look_commands.specs.declared.parts.Standing.{Standing}
 
 -- ---- the lines of a state
 
@@ -60,19 +56,9 @@ parts_lines cell parts = flat_map (resource_lines cell parts) (resource_numbers 
 abbrev pub located : KnownCell → List Grant → Walk
 located held grants = Answers λ input outcome. outcome ≡ done (parts_lines held.cell (replay held.cell grants))
 
+-- its walk from the cell on
+abbrev pub locate_parts : KnownCell → Walk
+locate_parts held = Opens (to_read held) (located held)
+
 abbrev pub parts : List ℕ → Walk
-parts cell =
-    Tests (cell_file cell) λ held.
-    Opens (to_read held) (located held)
-
--- the lines of the parts that stand in a core, or the early end
-abbrev pub parts_outcome : Result Standing EarlyEnd → Outcome
-parts_outcome (Ok standing) = done (parts_lines standing.core.cell standing.core.parts)
-parts_outcome (Err end) = early end
-
--- the core after the grants of a journal that was opened, and its parts
-pub record IsStandingAfter (disk : DiskTold) (journal : Journal) (standing : Standing) : Type 0 where
-  pub grants : List Grant
-  pub opened : IsOpenedAs disk journal grants
-  pub core : standing.core ≡ record { cell = journal.cell; parts = replay journal.cell grants }
-  pub parts : standing.parts ≡ standing.core.parts
+parts cell = Tests (cell_file cell) locate_parts

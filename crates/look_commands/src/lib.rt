@@ -1,6 +1,6 @@
 //! The commands that look into a journal: `grants` lists it as a record, and `parts` tells where the parts stand after it.
 //!
-//! Each is a walk in `specs/`, and a function that goes it. `laws` says that `check` finds right what `grants` prints.
+//! Each is a walk in `specs/`, which `cell_driver::drive` goes. `laws` says that `check` finds right what `grants` prints.
 //!
 //! ```text
 //! let CommandEnd { status, disk } = run_grants(alloc, &mut files, &mut out, "cell.toml", disk);
@@ -12,6 +12,6 @@ pub mod laws;
 mod listing;
 mod locating;
 mod parts;
+mod running;
 
-pub use grants::run_grants;
-pub use parts::run_parts;
+pub use running::{run_grants, run_parts};

@@ -1,64 +1,48 @@
-//! The record of a journal's grants on its way to the sink, each line one `put`.
-ghost use Rattle.std.specs.Prelude.{◌≡◌, map, OnOk, OnErr};
+//! The record of a journal's grants printed. It takes no memory.
+ghost use Rattle.std.specs.Prelude.{◌≡◌, map};
 ghost use Rattle.std.specs.List.{All};
-ghost use Rattle.cell_walks.specs.Clauses.{HasCause, TookAll, TookSome, sink_told};
 ghost use Rattle.journal_texts.specs.Clauses.{GrantsFit};
 ghost use Rattle.cell_texts.specs.Clauses.{RequestFits};
 ghost use Rattle.cell_texts.specs.Blocks.{history_lines};
+ghost use Rattle.printer.specs.Printing.{Prints};
 ghost use Rattle.look_commands.specs.Grants.{found_lines, grant_line, history_of};
 
 use cell_base::{Cell, Entry, Grant, Reply, Told};
-use cell_texts::{print_left, print_line};
+use cell_texts::records::print_left;
 use journal_texts::Found;
-use outside_io::{Failed, Sink};
+use outside_io::Sink;
+use printer::Printer;
 use record_text::{Line, head_line, write_entry};
 
-/// Puts the record of what was found, up to the first line that the sink doesn't take. It takes no memory.
-pub fn print_found<K: Sink>(out: &mut K, found: Found) -> Result<(), Failed>
+/// Prints the record of what was found.
+pub fn print_found<K: Sink>(out: &mut Printer<K>, found: Found)
     requires { GrantsFit found }
-    ensures whole { OnOk result (TookAll (sink_told K.taken K.was_put K.faults out.old out.new) (found_lines found)) }
-    ensures part { OnErr result (TookSome (sink_told K.taken K.was_put K.faults out.old out.new) (found_lines found)) }
-    ensures cause { HasCause (K.faults out.old) (K.faults out.new) result }
+    ensures { Prints K.Sink out.old out.new (found_lines found) }
 {
     let Found { core, grants } = found;
-    if let Err(failed) = print_history(out, core.cell(), grants.as_slice()) {
-        return Err(failed);
-    }
-    print_left(out, core)
+    print_history(out, core.cell(), grants.as_slice());
+    print_left(out, core);
 }
 
-// Puts the head of the record, and the line of each grant.
-fn print_history<K: Sink>(out: &mut K, cell: &Cell, grants: &[Grant]) -> Result<(), Failed>
+// Prints the head of the record, and the line of each grant.
+fn print_history<K: Sink>(out: &mut Printer<K>, cell: &Cell, grants: &[Grant])
     requires { All (λ grant. RequestFits cell.now grant.request) grants.now }
-    ensures whole { OnOk result
-        (TookAll (sink_told K.taken K.was_put K.faults out.old out.new) (history_lines cell.now 0 0 (history_of grants.now))) }
-    ensures part { OnErr result
-        (TookSome (sink_told K.taken K.was_put K.faults out.old out.new) (history_lines cell.now 0 0 (history_of grants.now))) }
-    ensures cause { HasCause (K.faults out.old) (K.faults out.new) result }
+    ensures { Prints K.Sink out.old out.new (history_lines cell.now 0 0 (history_of grants.now)) }
 {
-    if let Err(failed) = print_line(out, &head_line(0, 0)) {
-        return Err(failed);
-    }
-    print_grants(out, cell, grants)
+    out.line(&head_line(0, 0));
+    print_grants(out, cell, grants);
 }
 
-// Puts the line of each grant.
-fn print_grants<K: Sink>(out: &mut K, cell: &Cell, grants: &[Grant]) -> Result<(), Failed>
+// Prints the line of each grant.
+fn print_grants<K: Sink>(out: &mut Printer<K>, cell: &Cell, grants: &[Grant])
     requires { All (λ grant. RequestFits cell.now grant.request) grants.now }
-    ensures whole { OnOk result
-        (TookAll (sink_told K.taken K.was_put K.faults out.old out.new) (map (grant_line cell.now) grants.now)) }
-    ensures part { OnErr result
-        (TookSome (sink_told K.taken K.was_put K.faults out.old out.new) (map (grant_line cell.now) grants.now)) }
-    ensures cause { HasCause (K.faults out.old) (K.faults out.new) result }
+    ensures { Prints K.Sink out.old out.new (map (grant_line cell.now) grants.now) }
 {
     let mut line = Line::new();
     for grant in grants {
         write_grant(&mut line, cell, grant);
-        if let Err(failed) = print_line(out, &line) {
-            return Err(failed);
-        }
+        out.line(&line);
     }
-    Ok(())
 }
 
 // Makes the line of a grant in the place of what stood on a line.

@@ -1,50 +1,37 @@
-//! The parts of a state on their way to the sink, resource by resource, each line one `put`.
-ghost use Rattle.std.specs.Prelude.{◌≡◌, ◌+◌, ◌<◌, ◌≤◌, ◌==◌, ◌++◌, length, map, All, OnOk, OnErr};
+//! The parts of a state printed, resource by resource. It takes no memory.
+ghost use Rattle.std.specs.Prelude.{◌≡◌, ◌+◌, ◌<◌, ◌≤◌, ◌==◌, ◌++◌, length, map, All};
 ghost use Rattle.cell_base.specs.Neighborhoods.{count};
 ghost use Rattle.cell_base.specs.Stages.{IsStage, stage_of};
 ghost use Rattle.cell_texts.specs.Clauses.{CellFits};
-ghost use Rattle.cell_walks.specs.Clauses.{HasCause, TookAll, TookSome, sink_told};
+ghost use Rattle.printer.specs.Printing.{Prints};
 ghost use Rattle.look_commands.specs.Clauses.{done_word, line_of, resource_of_part, spaced};
 ghost use Rattle.look_commands.specs.Parts.{part_line, parts_lines, parts_on, resource_lines, resource_words, share_words};
 
 use admission_core::Core;
 use cell_base::{Cell, Part, ResId};
-use cell_texts::print_line;
-use outside_io::{Failed, Sink};
+use outside_io::Sink;
+use printer::Printer;
 use record_text::{Line, add_resource, add_type};
 
-/// Puts each resource of a core with its parts, which are these, up to the first line that the sink doesn't take. It takes no memory.
-pub fn print_parts<K: Sink>(out: &mut K, core: &Core, parts: &[Part]) -> Result<(), Failed>
+/// Prints each resource of a core with its parts, which are these.
+pub fn print_parts<K: Sink>(out: &mut Printer<K>, core: &Core, parts: &[Part])
     requires { parts.now ≡ core.now.parts }
-    ensures whole { OnOk result
-        (TookAll (sink_told K.taken K.was_put K.faults out.old out.new) (parts_lines core.now.cell core.now.parts)) }
-    ensures part { OnErr result
-        (TookSome (sink_told K.taken K.was_put K.faults out.old out.new) (parts_lines core.now.cell core.now.parts)) }
-    ensures cause { HasCause (K.faults out.old) (K.faults out.new) result }
+    ensures { Prints K.Sink out.old out.new (parts_lines core.now.cell core.now.parts) }
 {
     for r in 0..core.cell().resources.len() {
-        if let Err(failed) = print_resource(out, core, parts, ResId(r as u16)) {
-            return Err(failed);
-        }
+        print_resource(out, core, parts, ResId(r as u16));
     }
-    Ok(())
 }
 
-// Puts a resource, and the parts that stand on it.
-fn print_resource<K: Sink>(out: &mut K, core: &Core, parts: &[Part], r: ResId) -> Result<(), Failed>
+// Prints a resource, and the parts that stand on it.
+fn print_resource<K: Sink>(out: &mut Printer<K>, core: &Core, parts: &[Part], r: ResId)
     requires listed { parts.now ≡ core.now.parts }
     requires resource { r.0 < length core.now.cell.resources }
-    ensures whole { OnOk result
-        (TookAll (sink_told K.taken K.was_put K.faults out.old out.new) (resource_lines core.now.cell core.now.parts r.0)) }
-    ensures part { OnErr result
-        (TookSome (sink_told K.taken K.was_put K.faults out.old out.new) (resource_lines core.now.cell core.now.parts r.0)) }
-    ensures cause { HasCause (K.faults out.old) (K.faults out.new) result }
+    ensures { Prints K.Sink out.old out.new (resource_lines core.now.cell core.now.parts r.0) }
 {
     let held = held_on(core.cell(), parts, r);
-    if let Err(failed) = print_line(out, &resource_line(core.cell(), r, held, core.count(r))) {
-        return Err(failed);
-    }
-    print_parts_on(out, core.cell(), parts, r)
+    out.line(&resource_line(core.cell(), r, held, core.count(r)));
+    print_parts_on(out, core.cell(), parts, r);
 }
 
 // How many of these parts stand on a resource.
@@ -61,24 +48,17 @@ fn held_on(cell: &Cell, parts: &[Part], r: ResId) -> u64
     held
 }
 
-// Puts the line of each of these parts that stands on a resource.
-fn print_parts_on<K: Sink>(out: &mut K, cell: &Cell, parts: &[Part], r: ResId) -> Result<(), Failed>
+// Prints the line of each of these parts that stands on a resource.
+fn print_parts_on<K: Sink>(out: &mut Printer<K>, cell: &Cell, parts: &[Part], r: ResId)
     requires fits { CellFits cell.now }
     requires standing { All (λ part. IsStage cell.now (stage_of part)) parts.now }
-    ensures whole { OnOk result
-        (TookAll (sink_told K.taken K.was_put K.faults out.old out.new) (map (part_line cell.now) (parts_on cell.now parts.now r.0))) }
-    ensures part { OnErr result
-        (TookSome (sink_told K.taken K.was_put K.faults out.old out.new) (map (part_line cell.now) (parts_on cell.now parts.now r.0))) }
-    ensures cause { HasCause (K.faults out.old) (K.faults out.new) result }
+    ensures { Prints K.Sink out.old out.new (map (part_line cell.now) (parts_on cell.now parts.now r.0)) }
 {
     for part in parts {
         if stands_on(cell, *part, r) {
-            if let Err(failed) = print_line(out, &part_line(cell, *part)) {
-                return Err(failed);
-            }
+            out.line(&part_line(cell, *part));
         }
     }
-    Ok(())
 }
 
 // Whether a part stands on a resource.

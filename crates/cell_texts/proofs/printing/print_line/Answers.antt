@@ -1,22 +1,10 @@
--- The line is one piece, given by one put.
-use Rattle.std.proofs.Common.{List, ℕ, [], ◌∷◌, subst}
-use Rattle.std.proofs.lemmas.Result.{on_err_weaker, on_ok_weaker}
-use Rattle.outside_io.specs.Puts.{TookAll, TookSome, sink_told}
-use Rattle.outside_io.specs.PutLaws.{took_one, failed_at}
+-- The sink failed, so its count rose.
+use Rattle.std.proofs.Common.{[], ◌∷◌, ◌∙◌, rules, sym}
+use Rattle.cell_texts.proofs.Taken.{has_risen}
 use Rattle.cell_texts.proofs.printing.print_line.Goals as goal
 
-pub returns-clause-whole : goal.returns-clause-whole
-returns-clause-whole g c =
-    let told = sink_told g.K.Sink.taken g.K.Sink.was_put g.K.Sink.faults c.args.out.now c.put.new.self in
-    on_ok_weaker _
-    (λ whole. subst (λ (line : List ℕ). TookAll told (line ∷ [])) c.bytes.ensures.value
-    (took_one g.K.Sink.taken g.K.Sink.was_put g.K.Sink.faults c.args.out.now c.put.new.self c.bytes.result.now c.put.ensures.one_put whole))
-    c.put.ensures.whole
-
-pub returns-clause-part : goal.returns-clause-part
-returns-clause-part g c =
-    let told = sink_told g.K.Sink.taken g.K.Sink.was_put g.K.Sink.faults c.args.out.now c.put.new.self in
-    on_err_weaker _
-    (λ part. subst (λ (line : List ℕ). TookSome told (line ∷ [])) c.bytes.ensures.value
-    (failed_at g.K.Sink.taken g.K.Sink.was_put g.K.Sink.faults c.args.out.now c.put.new.self c.bytes.result.now c.put.ensures.one_put part))
-    c.put.ensures.part
+pub returns-then-has_failed-clause-cause : goal.returns-then-has_failed-clause-cause
+returns-then-has_failed-clause-cause g c =
+    let risen = has_risen g.K.Sink c.new-printer.result c.line.new.self (c.args.line.now ∷ []) c.new-printer.ensures.none
+    (sym c.has_failed.ensures ∙ c.if-has_failed.true) c.line.ensures.printed (record {}) in
+    search rules

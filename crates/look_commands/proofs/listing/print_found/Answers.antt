@@ -1,45 +1,18 @@
--- The sink failed in the history or after it, or took the whole block.
-use Rattle.std.proofs.Common.{◌∙◌, List, length, ap, subst}
-use Rattle.std.proofs.lemmas.Result.{on_err_weaker, on_ok_weaker}
-use Rattle.outside_io.specs.Puts.{TookAll, TookSome, sink_told}
+-- The history, and then what is left.
+use Rattle.std.proofs.Common.{◌∙◌, List, ap}
 use Rattle.cell_base.specs.declared.cells.Cell.{Cell}
 use Rattle.cell_base.specs.declared.shifts.Grant.{Grant}
-use Rattle.cell_base.specs.Plans.{plan_of}
-use Rattle.cell_texts.specs.Blocks.{history_lines}
-use Rattle.cell_texts.proofs.Delivered.{part_of_history, part_of_left, whole_block}
+use Rattle.cell_texts.specs.Blocks.{history_lines, planned_block}
+use Rattle.printer.proofs.Sequences.{prints_as, prints_more}
 use Rattle.look_commands.specs.Grants.{history_of}
 use Rattle.look_commands.proofs.listing.print_found.Goals as goal
 
-pub returns-in-Err-clause-part : goal.returns-in-Err-clause-part
-returns-in-Err-clause-part g c =
-    let told = sink_told g.K.Sink.taken g.K.Sink.was_put g.K.Sink.faults c.args.out.now c.print_history.new.out in
-    let core = c.args.found.core in
-    let same = ap (λ (cell : Cell). history_lines cell 0 0 (history_of c.as_slice.result.now)) c.cell.ensures.cell
-    ∙ ap (λ (grants : List Grant). history_lines core.cell 0 0 (history_of grants)) c.as_slice.ensures in
-    part_of_history g.K.Sink.taken g.K.Sink.was_put g.K.Sink.faults core.cell 0 0 (history_of c.args.found.grants)
-    (length core.parts) (plan_of core.cell core.parts) c.args.out.now c.print_history.new.out
-    (subst (TookSome told) same c.in-Err.ensures.part)
-
-pub returns-clause-part : goal.returns-clause-part
-returns-clause-part g c =
-    let told = sink_told g.K.Sink.taken g.K.Sink.was_put g.K.Sink.faults c.args.out.now c.print_history.new.out in
-    let core = c.args.found.core in
-    let same = ap (λ (cell : Cell). history_lines cell 0 0 (history_of c.as_slice.result.now)) c.cell.ensures.cell
-    ∙ ap (λ (grants : List Grant). history_lines core.cell 0 0 (history_of grants)) c.as_slice.ensures in
-    on_err_weaker _
-    (part_of_left g.K.Sink.taken g.K.Sink.was_put g.K.Sink.faults core.cell 0 0 (history_of c.args.found.grants)
-    (length core.parts) (plan_of core.cell core.parts) c.args.out.now c.print_history.new.out c.print_left.new.out
-    (subst (TookAll told) same c.in_default.ensures.whole))
-    c.print_left.ensures.part
-
-pub returns-clause-whole : goal.returns-clause-whole
-returns-clause-whole g c =
-    let told = sink_told g.K.Sink.taken g.K.Sink.was_put g.K.Sink.faults c.args.out.now c.print_history.new.out in
-    let core = c.args.found.core in
-    let same = ap (λ (cell : Cell). history_lines cell 0 0 (history_of c.as_slice.result.now)) c.cell.ensures.cell
-    ∙ ap (λ (grants : List Grant). history_lines core.cell 0 0 (history_of grants)) c.as_slice.ensures in
-    on_ok_weaker _
-    (whole_block g.K.Sink.taken g.K.Sink.was_put g.K.Sink.faults core.cell 0 0 (history_of c.args.found.grants)
-    (length core.parts) (plan_of core.cell core.parts) c.args.out.now c.print_history.new.out c.print_left.new.out
-    (subst (TookAll told) same c.in_default.ensures.whole))
-    c.print_left.ensures.whole
+pub returns : goal.returns
+unfolding planned_block
+returns g c =
+    prints_more
+    (prints_as
+    (ap (λ (cell : Cell). history_lines cell 0 0 (history_of c.as_slice.result.now)) c.cell.ensures.cell
+    ∙ ap (λ (grants : List Grant). history_lines c.args.found.core.cell 0 0 (history_of grants)) c.as_slice.ensures)
+    c.print_history.ensures)
+    c.print_left.ensures

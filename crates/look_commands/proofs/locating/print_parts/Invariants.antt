@@ -1,13 +1,8 @@
--- The lines of the resources so far were taken, and no call has failed.
-use Rattle.std.proofs.Common.{◌≡◌}
+-- The lines of the resources so far are printed.
 use Rattle.std.specs.List.{flat_map, range_with_len}
-use Rattle.outside_io.specs.Puts.{TookAll, sink_told}
+use Rattle.printer.specs.Printing.{Prints}
 use Rattle.look_commands.specs.Parts.{resource_lines}
 use Rattle.look_commands.proofs.locating.print_parts.Given as goal
 
 abbrev pub invariant-loop-r : goal.invariant-loop-r
-invariant-loop-r g l = record {
-  printed : TookAll (sink_told g.K.Sink.taken g.K.Sink.was_put g.K.Sink.faults l.initial.out l.out)
-      (flat_map (resource_lines l.core.cell l.core.parts) (range_with_len 0 l.r));
-  still : g.K.Sink.faults l.out ≡ g.K.Sink.faults l.initial.out;
-}
+invariant-loop-r g l = Prints g.K.Sink l.initial.out l.out (flat_map (resource_lines l.core.cell l.core.parts) (range_with_len 0 l.r))

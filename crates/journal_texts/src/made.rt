@@ -1,9 +1,0 @@
-//! How far a command with a journal has come, and the disk of the journal.
-use cell_walks::EarlyEnd;
-
-/// What is to be answered, or the early end in its place, and the disk that was handed in.
-#[derive(Drop)]
-pub struct Made<T, D> {
-    pub made: Result<T, EarlyEnd>,
-    pub disk: D,
-}
