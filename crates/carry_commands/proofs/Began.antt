@@ -1,7 +1,6 @@
 -- How the outcomes of `begin` come about.
 use Rattle.std.specs.Prelude.{IfSome}
 use Rattle.std.proofs.Common.{◌≡◌, ℕ, List, Option, Result, Ok, Err, refl, ap, subst}
-use Rattle.outside_io.specs.Files.{Names}
 use Rattle.cell_base.specs.declared.requests.Request.{Request}
 use Rattle.cell_base.specs.declared.shifts.Grant.{Grant}
 use Rattle.durable_cell.specs.DurableState.{DurableState}
@@ -9,20 +8,20 @@ use Rattle.durable_cell.specs.Openings.{fresh}
 use Rattle.shift_recovery.specs.Replayed.{AreDue, opened_as}
 use Rattle.durable_cell.specs.declared.replays.TheConstants.{MAX_ROOM}
 use Rattle.record_text.specs.StartFiles.{start_reads}
-use Rattle.cell_walks.specs.Allowed.{AllowsFrom, ByMemory, ByRefusal, IsAllowed, IsEndedAt, JournalOpened}
+use Rattle.cell_walks.specs.Allowed.{AllowsFrom, ByMemory, ByRefusal, IsEndedAt, JournalOpened}
 use Rattle.cell_walks.specs.Allowed.{NotOpened, Opened, Passed, Stopped, Unasked}
 use Rattle.cell_walks.specs.DiskTold.{DiskTold, IsUntouched, disk_told}
-use Rattle.cell_walks.specs.Observed.{File, Observed, HoldsOfBytes, files_told, observed}
-use Rattle.cell_walks.specs.Outcomes.{Outcome, early}
+use Rattle.cell_walks.specs.Observed.{FilesTold, Observed, ShowsFile, observed}
+use Rattle.cell_walks.specs.Outcomes.{or_early}
 use Rattle.cell_walks.specs.Walks.{Opens, Tests, Walk}
 use Rattle.cell_walks.specs.declared.early_end.EarlyEnd.{EarlyEnd}
-use Rattle.cell_walks.proofs.TwoTests.{both_passed, first_ended, second_ended}
 use Rattle.cell_walks.proofs.Steps.{ended_at}
-use Rattle.journal_texts.specs.Recorded.{recorded_or_early}
-use Rattle.cell_texts.specs.Tests.{KnownCell, cell_file, cell_reads}
+use Rattle.journal_texts.specs.Recorded.{recorded_outcome}
+use Rattle.cell_texts.specs.Tests.{KnownCell}
+use Rattle.cell_driver.specs.Driving.{Allowed, IsMade}
 use Rattle.journal_texts.specs.Tests.{to_add}
 use Rattle.journal_texts.specs.declared.recorded.Recorded.{Recorded}
-use Rattle.carry_commands.specs.Begin.{begin, goes_on}
+use Rattle.carry_commands.specs.Begin.{begin_start, goes_on}
 use Rattle.carry_commands.specs.Beginning.{EndsBeforeJournal, HasBegun, IsBegunOnJournal, IsGrantedStart, StartRefused, StartStarved}
 use Rattle.carry_commands.specs.Refusals.{other_start, start_refused}
 use Rattle.carry_commands.specs.Starts.{begun, grants_start, start_file}
@@ -46,64 +45,44 @@ begun_opened {D} reads_as may_leave moment left_since faults held requests disk 
 
 module _ (seen : Observed) (held : KnownCell) (requests : List Request) where
   from_grants : (opening : List Grant) (made : Result Recorded EarlyEnd) → HasBegun seen.disk held.cell held.text requests opening made
-      → AllowsFrom seen (recorded_or_early made) (Opened held.text opening) (goes_on held requests opening)
+      → AllowsFrom seen (or_early recorded_outcome made) (Opened held.text opening) (goes_on held requests opening)
   from_grants opening (Ok recorded) has = Passed tt has.0 (has.1, has.2)
   from_grants opening (Err end) (other, stands) =
       Stopped end (ByRefusal other.0 other.1 (other_start other.0) refl other.2) (refl, stands)
 
   from_journal : (made : Result Recorded EarlyEnd) → IsBegunOnJournal seen.disk held requests made
-      → AllowsFrom seen (recorded_or_early made) Unasked (Opens (to_add held MAX_ROOM) (goes_on held requests))
-  from_journal made (NotOpened end ended is) = NotOpened end ended (ap recorded_or_early is)
+      → AllowsFrom seen (or_early recorded_outcome made) Unasked (Opens (to_add held MAX_ROOM) (goes_on held requests))
+  from_journal made (NotOpened end ended is) = NotOpened end ended (ap (or_early recorded_outcome) is)
   from_journal made (JournalOpened opening opened has) = JournalOpened opening opened (from_grants opening made has)
 
   at_start : (end : EarlyEnd) → EndsBeforeJournal held.cell requests end → IsEndedAt seen.files (grants_start held.cell requests) end
   at_start end (StartRefused fault is ends) = ByRefusal fault is (start_refused held.cell fault) refl ends
   at_start end (StartStarved is) = ByMemory is
 
--- what comes after the start file, and after the cell
+-- what comes after the start file
 abbrev tried : KnownCell → List Request → Walk
 tried held requests = Tests (grants_start held.cell requests) λ granted. Opens (to_add held MAX_ROOM) (goes_on held requests)
 
-module _ {F : Type 0} (holds : F → Option Names) (is_sound : F → Type 0) (faults : F → ℕ) (disk : DiskTold) (cell start : List ℕ) where
-  -- the cell was not read
-  pub begin_unread : (old new : F) (end : EarlyEnd) → IsUntouched disk
-      → IsEndedAt (files_told holds is_sound faults old new) (cell_file cell) end
-      → IsAllowed (observed (files_told holds is_sound faults old new) disk) (begin cell start) (early end)
-  begin_unread =
-      first_ended holds is_sound faults disk (cell_file cell) (λ held. start_file held.cell start) tried
+module _ (files : FilesTold) (disk : DiskTold) (held : KnownCell) (start : List ℕ) where
+  -- the start was not read
+  pub begin_without_start : (end : EarlyEnd) → IsUntouched disk → IsEndedAt files (start_file held.cell start) end
+      → IsMade files disk (begin_start start held) recorded_outcome (Err end)
+  begin_without_start end still ended =
+      Allowed (ended_at (observed files disk) Unasked (start_file held.cell start) (tried held) end ended still)
 
-  module _ (old mid new : F) (held : KnownCell)
-      (shows : HoldsOfBytes (files_told holds is_sound faults old mid) (File cell) (λ bytes. cell_reads bytes (Ok held)))
-      (same : holds mid ≡ holds old) where
-    abbrev seen : Observed
-    seen = observed (files_told holds is_sound faults old new) disk
+  module _ (requests : List Request) (read : ShowsFile files start (λ bytes. start_reads held.cell bytes (Ok requests))) where
+    -- a request of it is not granted
+    pub begin_refused : (end : EarlyEnd) → IsUntouched disk → EndsBeforeJournal held.cell requests end
+        → IsMade files disk (begin_start start held) recorded_outcome (Err end)
+    begin_refused end still ended =
+        Allowed
+        (Passed requests read
+        (ended_at (observed files disk) Unasked (grants_start held.cell requests)
+        (λ granted. Opens (to_add held MAX_ROOM) (goes_on held requests)) end
+        (at_start (observed files disk) held requests end ended) still))
 
-    -- the start was not
-    pub begin_without_start : (end : EarlyEnd) → IsUntouched disk → faults mid ≡ faults old → (is_sound old → is_sound mid)
-        → IsEndedAt (files_told holds is_sound faults mid new) (start_file held.cell start) end
-        → IsAllowed seen (begin cell start) (early end)
-    begin_without_start =
-        second_ended holds is_sound faults disk (cell_file cell) (λ known. start_file known.cell start) tried old mid new held shows same
-
-    module _ (requests : List Request)
-        (start_shows : HoldsOfBytes (files_told holds is_sound faults mid new) (File start)
-        (λ bytes. start_reads held.cell bytes (Ok requests)))
-      where
-        went_on : (outcome : Outcome) → AllowsFrom seen outcome Unasked (tried held requests) → IsAllowed seen (begin cell start) outcome
-        went_on outcome =
-            both_passed holds is_sound faults disk (cell_file cell) (λ known. start_file known.cell start) tried old mid new held shows same
-            requests outcome start_shows
-
-        -- a request of it is not granted
-        pub begin_refused : (end : EarlyEnd) → IsUntouched disk → EndsBeforeJournal held.cell requests end
-            → IsAllowed seen (begin cell start) (early end)
-        begin_refused end still ended =
-            went_on (early end)
-            (ended_at seen Unasked (grants_start held.cell requests) (λ granted. Opens (to_add held MAX_ROOM) (goes_on held requests)) end
-            (at_start seen held requests end ended) still)
-
-        -- each is; and the journal was begun, or the command ended there
-        pub begin_on_disk : (made : Result Recorded EarlyEnd) → IsGrantedStart held.cell requests → IsBegunOnJournal disk held requests made
-            → IsAllowed seen (begin cell start) (recorded_or_early made)
-        begin_on_disk made granted has =
-            went_on (recorded_or_early made) (Passed tt granted (from_journal seen held requests made has))
+    -- each is; and the journal was begun, or the command ended there
+    pub begin_on_disk : (made : Result Recorded EarlyEnd) → IsGrantedStart held.cell requests → IsBegunOnJournal disk held requests made
+        → IsMade files disk (begin_start start held) recorded_outcome made
+    begin_on_disk made granted has =
+        Allowed (Passed requests read (Passed tt granted (from_journal (observed files disk) held requests made has)))

@@ -1,9 +1,8 @@
 -- How the outcomes of `carry` come about.
 use Rattle.std.specs.Prelude.{IfErr, IfOk}
 use Rattle.std.specs.List.{concat}
-use Rattle.std.proofs.Common.{◌≡◌, ℕ, List, [], ◌∷◌, ◌++◌, map, Option, Some, Result, Ok, Err, refl, sym, ap, ◌∙◌, subst}
+use Rattle.std.proofs.Common.{◌≡◌, ℕ, List, [], ◌∷◌, ◌++◌, map, Some, Result, Ok, Err, refl, sym, ap, ◌∙◌, subst}
 use Rattle.admission_core.specs.CoreState.{CoreState}
-use Rattle.outside_io.specs.Files.{Names}
 use Rattle.cell_base.specs.declared.cells.Cell.{Cell}
 use Rattle.cell_base.specs.declared.requests.Request.{Request}
 use Rattle.cell_base.specs.declared.shifts.Grant.{Grant}
@@ -12,23 +11,24 @@ use Rattle.cell_base.specs.Histories.{replay}
 use Rattle.cell_base.specs.Policy.{HaveDistinctJobs}
 use Rattle.record_text.specs.StartFiles.{IsStartOf, place_line, start_text}
 use Rattle.record_text.proofs.StartLengths.{is_start}
-use Rattle.cell_walks.specs.Allowed.{AllowsFrom, ByMemory, ByRefusal, IsAllowed, IsEndedAt}
+use Rattle.cell_walks.specs.Allowed.{AllowsFrom, ByMemory, ByRefusal, IsEndedAt}
 use Rattle.cell_walks.specs.Allowed.{JournalOpened, NotOpened, Passed, Stopped, Unasked}
 use Rattle.cell_walks.specs.DiskTold.{DiskTold, IsOnlyRead, IsUntouched}
-use Rattle.cell_walks.specs.Observed.{File, Observed, HoldsOfBytes, files_told, observed}
-use Rattle.cell_walks.specs.Outcomes.{Outcome, done, early}
-use Rattle.cell_walks.specs.Walks.{Journal, Opens, Walk, end_with}
+use Rattle.cell_walks.specs.Observed.{FilesTold, Observed, ShowsFile, observed}
+use Rattle.cell_walks.specs.Outcomes.{Outcome, done, or_early}
+use Rattle.cell_walks.specs.Walks.{Journal, Opens, end_with}
 use Rattle.cell_walks.specs.declared.early_end.Subject.TheVariants.{Command}
 use Rattle.cell_base.specs.declared.requests.Part.{Part}
 use Rattle.carry_commands.specs.Carried.{carried}
 use Rattle.carry_commands.specs.declared.refusals.CarryFault.{CarryFault}
 use Rattle.cell_walks.specs.declared.early_end.EarlyEnd.{EarlyEnd}
-use Rattle.cell_walks.proofs.TwoTests.{both_passed, first_ended, second_ended}
+use Rattle.cell_walks.proofs.Steps.{ended_at}
 use Rattle.journal_texts.specs.JournalReads.{IsAfterGrants}
 use Rattle.cell_texts.specs.Tests.{KnownCell, cell_file, cell_reads}
 use Rattle.journal_texts.specs.Tests.{to_read}
 use Rattle.journal_texts.specs.declared.readers.AfterGrants.{AfterGrants}
-use Rattle.carry_commands.specs.Carry.{IsCarried, carried_over, carries, carry}
+use Rattle.cell_driver.specs.Driving.{Allowed, IsMade}
+use Rattle.carry_commands.specs.Carry.{IsCarried, carried_over, carries, carry_to}
 use Rattle.carry_commands.specs.Carrying.{CarryRefused, CarryStarved, EndsAfter, EndsAtCarry, HasCarried}
 use Rattle.carry_commands.specs.Carrying.{HasCarriedAfter, NotCarried, Unopened, carry_outcome}
 use Rattle.carry_commands.specs.Refusals.{carry_refused}
@@ -59,9 +59,9 @@ lines_text cell [] = refl
 lines_text cell (request ∷ requests) = ap (λ (text : List ℕ). place_line cell request ++ text) (lines_text cell requests)
 
 is_carried : (old : CoreState) (new : Cell) → CellFits new → (made : Carried) → HasCarried old new made
-    → IsCarried old.cell new old.parts made.requests (carry_outcome (Ok made))
+    → IsCarried old.cell new old.parts made.requests (carry_outcome made)
 is_carried old new fits made has =
-    let lines : carry_outcome (Ok made) ≡ done (map (place_line new) made.requests) =
+    let lines : carry_outcome made ≡ done (map (place_line new) made.requests) =
     ap (λ (cell : Cell). done (map (place_line cell) made.requests)) has.cell in
     record {
       is = lines;
@@ -87,7 +87,7 @@ module _ (seen : Observed) (held new : KnownCell) where
 
   from_journal : CellFits new.cell → IsOnlyRead seen.disk → (made : Result Carried EarlyEnd)
       → IfOk made (HasCarriedAfter seen.disk (to_read held) new.cell) → IfErr made (EndsAfter seen.disk (to_read held) new.cell)
-      → AllowsFrom seen (carry_outcome made) Unasked (Opens (to_read held) (carried_over held new))
+      → AllowsFrom seen (or_early carry_outcome made) Unasked (Opens (to_read held) (carried_over held new))
   from_journal fits only (Ok made) has ended =
       let old : CoreState = record { cell = held.cell; parts = replay held.cell has.grants } in
       JournalOpened has.grants has.opened (Passed made.requests (has.has.carried.is, tt) (is_carried old new.cell fits made has.has, only))
@@ -95,36 +95,17 @@ module _ (seen : Observed) (held new : KnownCell) where
   from_journal fits only (Err end) has (NotCarried grants opened ends) =
       JournalOpened grants opened (Stopped end (at_carry grants end ends) (refl, only))
 
--- what comes after both cells
-abbrev read_on : KnownCell → KnownCell → Walk
-read_on held new = Opens (to_read held) (carried_over held new)
+module _ (files : FilesTold) (disk : DiskTold) (held : KnownCell) (other : List ℕ) where
+  -- the second cell was not read
+  pub carry_without_other : (end : EarlyEnd) → IsUntouched disk → IsEndedAt files (cell_file other) end
+      → IsMade files disk (carry_to other held) carry_outcome (Err end)
+  carry_without_other end still ended =
+      Allowed
+      (ended_at (observed files disk) Unasked (cell_file other) (λ new. Opens (to_read held) (carried_over held new)) end ended still)
 
-module _ {F : Type 0} (holds : F → Option Names) (is_sound : F → Type 0) (faults : F → ℕ) (disk : DiskTold) (cell other : List ℕ) where
-  -- the first cell was not read
-  pub carry_unread : (old new : F) (end : EarlyEnd) → IsUntouched disk
-      → IsEndedAt (files_told holds is_sound faults old new) (cell_file cell) end
-      → IsAllowed (observed (files_told holds is_sound faults old new) disk) (carry cell other) (early end)
-  carry_unread = first_ended holds is_sound faults disk (cell_file cell) (λ held. cell_file other) read_on
-
-  module _ (old mid new : F) (held : KnownCell)
-      (shows : HoldsOfBytes (files_told holds is_sound faults old mid) (File cell) (λ bytes. cell_reads bytes (Ok held)))
-      (same : holds mid ≡ holds old) where
-    abbrev seen : Observed
-    seen = observed (files_told holds is_sound faults old new) disk
-
-    -- the second was not
-    pub carry_without_other : (end : EarlyEnd) → IsUntouched disk → faults mid ≡ faults old → (is_sound old → is_sound mid)
-        → IsEndedAt (files_told holds is_sound faults mid new) (cell_file other) end
-        → IsAllowed seen (carry cell other) (early end)
-    carry_without_other =
-        second_ended holds is_sound faults disk (cell_file cell) (λ known. cell_file other) read_on old mid new held shows same
-
-    -- both were; and the parts were carried, or the command ended there
-    pub carry_made : (second : KnownCell)
-        → HoldsOfBytes (files_told holds is_sound faults mid new) (File other) (λ bytes. cell_reads bytes (Ok second))
-        → CellFits second.cell
-        → IsOnlyRead disk → (made : Result Carried EarlyEnd) → IfOk made (HasCarriedAfter disk (to_read held) second.cell)
-        → IfErr made (EndsAfter disk (to_read held) second.cell) → IsAllowed seen (carry cell other) (carry_outcome made)
-    carry_made second read fits only made has ended =
-        both_passed holds is_sound faults disk (cell_file cell) (λ known. cell_file other) read_on old mid new held shows same second
-        (carry_outcome made) read (from_journal seen held second fits only made has ended)
+  -- it was; and the parts were carried, or the command ended there
+  pub carry_made : (second : KnownCell) → ShowsFile files other (λ bytes. cell_reads bytes (Ok second)) → CellFits second.cell
+      → IsOnlyRead disk → (made : Result Carried EarlyEnd) → IfOk made (HasCarriedAfter disk (to_read held) second.cell)
+      → IfErr made (EndsAfter disk (to_read held) second.cell) → IsMade files disk (carry_to other held) carry_outcome made
+  carry_made second read fits only made has ended =
+      Allowed (Passed second read (from_journal (observed files disk) held second fits only made has ended))

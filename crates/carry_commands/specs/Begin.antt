@@ -25,9 +25,12 @@ goes_on held requests opening =
     Tests (begun requests opening) λ first.
     Answers λ input outcome. IsBegun held.cell requests opening outcome
 
-abbrev pub begin : List ℕ → List ℕ → Walk
-begin cell start =
-    Tests (cell_file cell) λ held.
+-- its walk from the cell on
+abbrev pub begin_start : List ℕ → KnownCell → Walk
+begin_start start held =
     Tests (start_file held.cell start) λ requests.
     Tests (grants_start held.cell requests) λ granted.
     Opens (to_add held MAX_ROOM) (goes_on held requests)
+
+abbrev pub begin : List ℕ → List ℕ → Walk
+begin cell start = Tests (cell_file cell) (begin_start start)

@@ -53,8 +53,11 @@ carried_over held new grants =
     Tests (carries held.cell new.cell (replay held.cell grants)) λ requests.
     Answers λ input outcome. IsCarried held.cell new.cell (replay held.cell grants) requests outcome
 
-abbrev pub carry : List ℕ → List ℕ → Walk
-carry cell other =
-    Tests (cell_file cell) λ held.
+-- its walk from the first cell on
+abbrev pub carry_to : List ℕ → KnownCell → Walk
+carry_to other held =
     Tests (cell_file other) λ new.
     Opens (to_read held) (carried_over held new)
+
+abbrev pub carry : List ℕ → List ℕ → Walk
+carry cell other = Tests (cell_file cell) (carry_to other)

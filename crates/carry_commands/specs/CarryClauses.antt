@@ -7,6 +7,5 @@ pub use Rattle.cell_base.specs.Stages.{IsStage, resource_at, stage, stage_of}
 pub use Rattle.record_text.specs.StartFiles.{IsPlacing, place_line}
 pub use Rattle.carry_commands.specs.Carried.{carried, carried_part, is_alike, placed, placed_as, type_alike}
 pub use Rattle.carry_commands.specs.CarriedState.{IsHindrance}
-pub use Rattle.carry_commands.specs.Carry.{carry}
 pub use Rattle.carry_commands.specs.Carrying.{AreCarried, EndsAfter, EndsAtCarry, HasCarried, HasCarriedAfter, carry_outcome}
 pub use Rattle.carry_commands.specs.Refusals.{UncarriedFits}

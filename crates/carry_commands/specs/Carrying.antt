@@ -1,5 +1,5 @@
 -- How a `carry` comes about: the parts of a core that were carried, or where the command ended.
-use Rattle.std.specs.Prelude.{◌≡◌, ◌≤◌, List, length, map, Result, Ok, Err}
+use Rattle.std.specs.Prelude.{◌≡◌, ◌≤◌, List, length, map, Ok, Err}
 use Rattle.std.specs.List.{All}
 use Rattle.admission_core.specs.CoreState.{CoreState}
 use Rattle.cell_base.specs.declared.cells.Cell.{Cell}
@@ -11,7 +11,7 @@ use Rattle.record_text.specs.StartFiles.{IsPlacing, place_line}
 use Rattle.record_text.specs.declared.start.TheConstants.{MAX_START_LINES}
 use Rattle.cell_walks.specs.Allowed.{IsNotOpened, IsOpenedAs}
 use Rattle.cell_walks.specs.DiskTold.{DiskTold}
-use Rattle.cell_walks.specs.Outcomes.{Outcome, done, early}
+use Rattle.cell_walks.specs.Outcomes.{Outcome, done}
 use Rattle.cell_walks.specs.Walks.{Journal, refusal_of}
 use Rattle.cell_walks.specs.declared.early_end.EarlyEnd.{EarlyEnd}
 use Rattle.cell_walks.specs.declared.early_end.EarlyEnd.TheVariants.{WantOfMemory, Refused}
@@ -51,7 +51,6 @@ pub data EndsAfter (disk : DiskTold) (journal : Journal) (new : Cell) (end : Ear
   NotCarried : (grants : List Grant) → IsOpenedAs disk journal grants → EndsAtCarry journal.cell new (replay journal.cell grants) end
       → EndsAfter disk journal new end
 
--- the line of each request, or the early end
-abbrev pub carry_outcome : Result Carried EarlyEnd → Outcome
-carry_outcome (Ok made) = done (map (place_line made.core.cell) made.requests)
-carry_outcome (Err end) = early end
+-- the line of each request
+abbrev pub carry_outcome : Carried → Outcome
+carry_outcome made = done (map (place_line made.core.cell) made.requests)

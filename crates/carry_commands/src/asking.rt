@@ -8,8 +8,9 @@ ghost use Rattle.carry_commands.specs.BeginClauses.{IsPlacing, KeepsHistory, MAX
 
 use crate::refusals::at_other_start;
 use cell_base::Request;
+use cell_texts::Made;
 use durable_cell::{Durable, Recalled};
-use journal_texts::{Closed, Made, Recorded, give_back, record_of};
+use journal_texts::{Closed, Recorded, give_back, record_of};
 use outside_io::Disk;
 
 /// Asks the requests that the journal does not hold yet; or gives the disk back with the early end, where the journal holds other grants,

@@ -1,55 +1,53 @@
 //! `begin CELL START JOURNAL`: the requests of a start that the journal does not hold yet, asked one by one, each grant written to it.
-ghost use Rattle.std.specs.Prelude.{◌≤◌, length, IfOk};
+ghost use Rattle.std.specs.Prelude.{◌≡◌, ◌≤◌, length, IfOk};
 ghost use Rattle.std.specs.List.{All};
-ghost use Rattle.cell_walks.specs.Clauses.{Ends, IsAllowed, disk_told, files_told, observed, sink_told};
+ghost use Rattle.cell_walks.specs.Clauses.{IsTaken, disk_seen};
+ghost use Rattle.printer.specs.Printing.{Prints};
 ghost use Rattle.cell_texts.specs.Clauses.{CellFits, MAX_CELL_BYTES, known};
-ghost use Rattle.journal_texts.specs.Clauses.{EntriesFit, recorded_or_early};
-ghost use Rattle.carry_commands.specs.BeginClauses.{IsBegunOnJournal, IsGrantedStart, IsPlacing, MAX_START_LINES, begin};
+ghost use Rattle.journal_texts.specs.Clauses.{EntriesFit, recorded_outcome};
+ghost use Rattle.carry_commands.specs.BeginClauses.{IsBegunOnJournal, IsGrantedStart, IsPlacing, MAX_START_LINES};
 
 use crate::asking::begin_opened;
 use crate::compared::Compared;
 use crate::starts::{check_start, read_start_file};
 use cell_base::Request;
-use cell_texts::{CellFile, CommandEnd, read_cell};
+use cell_driver::Command;
+use cell_texts::{CellFile, Made};
+use cell_walks::Status;
 use durable_cell::{Heard, MAX_ROOM};
-use journal_texts::{Made, Recorded, open_journal_with, print_recorded};
+use journal_texts::{Recorded, open_journal_with, print_record};
 use outside_io::{Disk, Files, Sink};
+use printer::Printer;
 use record_text::MAX_START_LINES;
 use std::alloc::Global;
 
-/// Runs `begin CELL START JOURNAL`. All requests are asked before the first line is printed.
-pub fn run_begin<F: Files, K: Sink, D: Disk>(
-    alloc: Global,
-    files: &mut F,
-    out: &mut K,
-    cell: &str,
-    start: &str,
-    disk: D,
-) -> CommandEnd<D>
-    ensures { let files = files_told F.holds F.is_sound F.faults files.old files.new in
-        let disk = disk_told D.reads_as D.may_leave D.moment D.left_since D.faults disk result.disk in
-        Ends (observed files disk) (sink_told K.taken K.was_put K.faults out.old out.new) (begin cell.now start.now) result.status }
-{
-    let Made { made, disk } = begin_of_files(alloc, files, cell, start, disk);
-    let status = print_recorded(out, made);
-    CommandEnd { status, disk }
+/// The command, with the name of the start file. All requests are asked before the first line is printed.
+#[derive(Drop)]
+pub struct Begin<'a> {
+    pub start: &'a str,
 }
 
-// The record of the start, or the early end in its place.
-fn begin_of_files<F: Files, D: Disk>(
-    alloc: Global,
-    files: &mut F,
-    cell: &str,
-    start: &str,
-    disk: D,
-) -> Made<Recorded, D>
-    ensures allowed { let files = files_told F.holds F.is_sound F.faults files.old files.new in
-        let disk = disk_told D.reads_as D.may_leave D.moment D.left_since D.faults disk result.disk in
-        IsAllowed (observed files disk) (begin cell.now start.now) (recorded_or_early result.made) }
-    ensures fits { IfOk result.made EntriesFit }
-{
-    match read_cell(alloc, files, cell) {
-        Ok(held) => match read_start_file(alloc, files, &held.cell, start) {
+impl<'a> Command for Begin<'a> {
+    ghost use Rattle.carry_commands.specs.Begin.{begin_start};
+
+    type Answer = Recorded;
+
+    ghost onward = { λ begin. begin_start begin.start.now };
+
+    ghost outcome = { recorded_outcome };
+
+    ghost is_whole = { EntriesFit };
+
+    ghost has_no_journal = { λ _. ⊥ };
+
+    fn answer<F: Files, D: Disk>(
+        &self,
+        alloc: Global,
+        held: CellFile,
+        files: &mut F,
+        disk: D,
+    ) -> Made<Recorded, D> {
+        match read_start_file(alloc, files, &held.cell, self.start) {
             Ok(requests) => match check_start(alloc, &held.cell, requests.as_slice()) {
                 Ok(()) => begin_journal(alloc, held, requests.as_slice(), disk),
                 Err(end) => Made {
@@ -61,15 +59,20 @@ fn begin_of_files<F: Files, D: Disk>(
                 made: Err(end),
                 disk,
             },
-        },
-        Err(end) => Made {
-            made: Err(end),
-            disk,
-        },
+        }
+    }
+
+    fn print<K: Sink>(recorded: Recorded, out: &mut Printer<K>) -> Status
+        requires { EntriesFit recorded }
+        ensures printed { Prints K.Sink out.old out.new (recorded_outcome recorded).pieces }
+        ensures status { result ≡ (recorded_outcome recorded).status }
+        ensures taken { IsTaken result }
+    {
+        print_record(out, recorded)
     }
 }
 
-// The same of a cell and a start that were read, each request of which is granted in its turn.
+// The record of a start that was read, each request of which is granted in its turn; or the early end in its place.
 fn begin_journal<D: Disk>(
     alloc: Global,
     held: CellFile,
@@ -81,7 +84,7 @@ fn begin_journal<D: Disk>(
     requires placing { All (IsPlacing held.cell) requests.now }
     requires few { length requests.now ≤ MAX_START_LINES }
     requires granted { IsGrantedStart held.cell requests.now }
-    ensures begun { IsBegunOnJournal (disk_told D.reads_as D.may_leave D.moment D.left_since D.faults disk result.disk) (known held)
+    ensures begun { IsBegunOnJournal (disk_seen D.Disk disk result.disk) (known held)
         requests.now result.made }
     ensures fits { IfOk result.made EntriesFit }
 {

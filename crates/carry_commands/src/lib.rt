@@ -1,5 +1,5 @@
 //! A standing cell moved to a new cell file: `carry` prints the parts of a journal as a start file of the new cell, and `begin` makes a
-//! journal of a start file. The walk of each stands in `specs/`, and its function here goes that walk.
+//! journal of a start file. The walk of each stands in `specs/`, and `cell_driver::drive` goes it.
 //!
 //! ```text
 //! let CommandEnd { status, disk } = run_carry(alloc, &mut files, &mut out, "cell.toml", "new-cell.toml", disk);
@@ -15,8 +15,10 @@ mod compared;
 pub mod laws;
 mod placing;
 mod refusals;
+mod running;
 mod starts;
 
-pub use begin::run_begin;
-pub use carry::run_carry;
+pub use begin::Begin;
+pub use carry::Carry;
 pub use refusals::{CarryFault, StartFault, Uncarried};
+pub use running::{run_begin, run_carry};

@@ -8,6 +8,5 @@ pub use Rattle.record_text.specs.Lines.{line_of}
 pub use Rattle.banker_check.specs.HybridPlans.{plan_h_of}
 pub use Rattle.hybrid_rounds.specs.Histories.{taken}
 pub use Rattle.cell_texts.specs.Blocks.{left_lines, plan_lines, step_line}
-pub use Rattle.hybrid_command.specs.Hybrid.{hybrid}
-pub use Rattle.hybrid_command.specs.HybridRuns.{IsHybridRun, hybrid_outcome, lines_of_run}
+pub use Rattle.hybrid_command.specs.HybridRuns.{IsHybridRun, lines_of_run}
 pub use Rattle.hybrid_command.specs.Lines.{HistoryFits, block_of, blocked_words, entry_line, history_lines, left_in_hybrid}

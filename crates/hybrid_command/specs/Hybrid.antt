@@ -9,7 +9,7 @@ use Rattle.hybrid_rounds.specs.Histories.{after_h}
 use Rattle.hybrid_rounds.specs.Rounds.{IsHybridRoundRobin}
 use Rattle.cell_walks.specs.Outcomes.{Outcome, done}
 use Rattle.cell_walks.specs.Walks.{Walk, Tests, Answers}
-use Rattle.cell_texts.specs.Tests.{cell_file, shift_file}
+use Rattle.cell_texts.specs.Tests.{KnownCell, cell_file, shift_file}
 use Rattle.hybrid_command.specs.Lines.{hybrid_block}
 
 -- The record of a shift that runs on the empty cell: the history of its sessions in rounds, each told by the hybrid, and the plan of the
@@ -26,8 +26,11 @@ pub record IsHybridRecord (cell : Cell) (shift : Shift) (lines : List (List ℕ)
 abbrev pub IsHybridShift : Cell → Shift → Outcome → Type 0
 IsHybridShift cell shift outcome = (lines : List (List ℕ)) × IsHybridRecord cell shift lines × (outcome ≡ done lines)
 
-abbrev pub hybrid : List ℕ → List ℕ → Walk
-hybrid cell shift =
-    Tests (cell_file cell) λ held.
+-- its walk from the cell on
+abbrev pub play_hybrid : List ℕ → KnownCell → Walk
+play_hybrid shift held =
     Tests (shift_file held.cell shift) λ s.
     Answers λ input outcome. IsHybridShift held.cell s outcome
+
+abbrev pub hybrid : List ℕ → List ℕ → Walk
+hybrid cell shift = Tests (cell_file cell) (play_hybrid shift)

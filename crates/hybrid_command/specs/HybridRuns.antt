@@ -1,12 +1,10 @@
 -- A shift that ran under the hybrid policy, and what is printed of it.
-use Rattle.std.specs.Prelude.{◌≡◌, ℕ, List, [], Result, Ok, Err}
+use Rattle.std.specs.Prelude.{◌≡◌, ℕ, List, []}
 use Rattle.cell_base.specs.declared.cells.Cell.{Cell}
 use Rattle.cell_base.specs.declared.shifts.Shift.{Shift}
 use Rattle.banker_check.specs.Hybrid.{IsHybrid}
 use Rattle.hybrid_rounds.specs.Histories.{after_h}
 use Rattle.hybrid_rounds.specs.Rounds.{IsHybridRoundRobin}
-use Rattle.cell_walks.specs.Outcomes.{Outcome, done, early}
-use Rattle.cell_walks.specs.declared.early_end.EarlyEnd.{EarlyEnd}
 use Rattle.hybrid_command.specs.declared.command.HybridRun.{HybridRun}
 use Rattle.hybrid_command.specs.Lines.{block_of}
 
@@ -21,8 +19,3 @@ pub record IsHybridRun (cell : Cell) (shift : Shift) (run : HybridRun) : Type 0 
   pub rounds : IsHybridRoundRobin cell [] shift run.history.items
   pub left : run.hybrid.parts ≡ after_h cell [] run.history.items
   pub kept : IsHybrid cell (after_h cell [] run.history.items)
-
--- its record is printed, or the early end
-abbrev pub hybrid_outcome : Result HybridRun EarlyEnd → Outcome
-hybrid_outcome (Ok run) = done (lines_of_run run)
-hybrid_outcome (Err end) = early end

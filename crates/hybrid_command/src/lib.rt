@@ -1,8 +1,7 @@
 //! The command `hybrid`: a shift in rounds, as `solo` runs it, under the hybrid policy.
 //!
 //! A load or a move is granted where the policy admits the next state, or where the parts could run to their ends in some order. A refusal
-//! in the place of a saturation has the reason `blocked`. The command is a walk in `specs/Hybrid`, and a function that goes it: its clause
-//! `Ends` says that what was put is an outcome that the walk allows.
+//! in the place of a saturation has the reason `blocked`. The command is a walk in `specs/Hybrid`, which `cell_driver::drive` goes.
 //!
 //! ```text
 //! let CommandEnd { status, disk } = run_hybrid(alloc, &mut files, &mut out, "cell.toml", "shift.toml", disk);
@@ -13,5 +12,7 @@ mod command;
 mod lines;
 mod planning;
 mod printing;
+mod running;
 
-pub use command::{HybridRun, run_hybrid};
+pub use command::{HybridRun, HybridShift};
+pub use running::run_hybrid;

@@ -12,7 +12,7 @@ use Rattle.cell_walks.specs.Outcomes.{done}
 use Rattle.cell_walks.specs.Walks.{Answers, Walk}
 use Rattle.cell_texts.specs.Tests.{KnownCell}
 use Rattle.queue_command.specs.Lines.{BoardFits, board_lines}
-use Rattle.queue_command.specs.Queue.{IsQueued, queue}
+use Rattle.queue_command.specs.Queue.{IsQueued}
 use Rattle.queue_command.specs.QueueRuns.{IsQueueRun}
 use Rattle.queue_command.proofs.Fitting.{run_drains, run_fits}
 

@@ -9,7 +9,7 @@ use Rattle.wait_board.specs.BoardState.{IsWaiting}
 use Rattle.board_rounds.specs.Rounds.{NobodyAsks, queue_run}
 use Rattle.cell_walks.specs.Outcomes.{Outcome, done}
 use Rattle.cell_walks.specs.Walks.{Walk, Tests, Answers}
-use Rattle.cell_texts.specs.Tests.{cell_file, shift_file}
+use Rattle.cell_texts.specs.Tests.{KnownCell, cell_file, shift_file}
 use Rattle.queue_command.specs.Lines.{board_lines}
 
 -- At the end of the rounds each session has ended or waits, each that waits does so for a full neighborhood, and the plan of the parts that
@@ -24,8 +24,11 @@ pub record IsQueued (cell : Cell) (shift : Shift) (outcome : Outcome) : Type 0 w
   pub printed : outcome ≡ done (board_lines cell (queue_run cell [] shift))
   pub rest : IsAtRest cell shift (queue_run cell [] shift)
 
-abbrev pub queue : List ℕ → List ℕ → Walk
-queue cell shift =
-    Tests (cell_file cell) λ held.
+-- its walk from the cell on
+abbrev pub play_queue : List ℕ → KnownCell → Walk
+play_queue shift held =
     Tests (shift_file held.cell shift) λ s.
     Answers λ input outcome. IsQueued held.cell s outcome
+
+abbrev pub queue : List ℕ → List ℕ → Walk
+queue cell shift = Tests (cell_file cell) (play_queue shift)

@@ -1,10 +1,12 @@
 //! The command `queue`: the sessions of a shift ask a board in rounds, so that a saturated request waits until a grant makes room.
 //!
-//! It is a walk in `specs/`, and a function that goes it: its clause `Ends` says that what was put is an outcome that the walk allows.
+//! It is a walk in `specs/`, which `cell_driver::drive` goes.
 #![tactic(auto)]
 
 mod lines;
 mod printing;
 mod queue;
+mod running;
 
-pub use queue::run_queue;
+pub use queue::Queue;
+pub use running::run_queue;

@@ -9,23 +9,27 @@ use Rattle.cell_base.specs.declared.shifts.Grant.{Grant}
 use Rattle.cell_base.specs.Fits.{RequestFits}
 use Rattle.entry_codec.specs.Records.{HasRecord}
 use Rattle.step_text.specs.Words.{number_of}
-use Rattle.cell_walks.specs.Allowed.{AllowsFrom, ByRefusal, IsAllowed, IsEndedAt, IsOpenedAs}
-use Rattle.cell_walks.specs.Allowed.{JournalOpened, NotOpened, Passed, Stopped, Unasked}
+use Rattle.cell_walks.specs.Allowed.{ByRefusal, IsAllowed, IsOpenedAs, JournalOpened, NotOpened, Passed, Stopped}
 use Rattle.cell_walks.specs.DiskTold.{DiskTold, IsOnlyRead, IsUntouched}
-use Rattle.cell_walks.specs.Observed.{Observed, ShowsFile}
-use Rattle.cell_walks.specs.Outcomes.{Outcome, early}
-use Rattle.cell_walks.specs.Walks.{Journal, Opens, refusal_of}
+use Rattle.cell_walks.specs.Observed.{FilesTold, Observed}
+use Rattle.cell_walks.specs.Outcomes.{Outcome, done, early}
+use Rattle.cell_walks.specs.Walks.{Journal, refusal_of}
 use Rattle.cell_walks.specs.declared.early_end.EarlyEnd.{EarlyEnd}
 use Rattle.cell_walks.specs.declared.early_end.EarlyEnd.TheVariants.{Refused}
-use Rattle.cell_walks.proofs.Steps.{ended_at}
 use Rattle.cell_texts.specs.Numbers.{number}
-use Rattle.cell_texts.specs.Tests.{KnownCell, cell_file, cell_reads}
+use Rattle.cell_texts.specs.Tests.{KnownCell}
+use Rattle.cell_driver.specs.Driving.{Allowed, IsMade, on_cell}
 use Rattle.journal_texts.specs.Tests.{to_read}
+use Rattle.standby_link.specs.Fed.{fed}
 use Rattle.standby_link.specs.Frames.{Feeding}
 use Rattle.standby_link.proofs.FeedIsFed.{fit_has_record}
 use Rattle.standby_commands.specs.Feed.{EndsFeeding, HasFed, HasTooFew, IsFeeding, TooFew, Unopened}
-use Rattle.standby_commands.specs.Feed.{fed_from, feed, feed_of, feed_outcome, within}
+use Rattle.standby_commands.specs.Feed.{feed, feed_journal, within}
 use Rattle.standby_commands.specs.Lines.{feed_refused}
+use Rattle.standby_commands.specs.declared.feed.Feeding.{Feeding as FeedingFrom}
+
+abbrev feeding_outcome : FeedingFrom → Outcome
+feeding_outcome feeding = done (fed feeding.first feeding.feeder.grants)
 
 -- there are enough grants
 pub enough : (first : ℕ) (grants : List Grant) → first ≤ length grants → within first grants ≡ Ok tt
@@ -87,26 +91,20 @@ module _ (seen : Observed) (usage cell from : List ℕ) where
 
   -- it is one
   pub feed_numbered : (first : ℕ) (outcome : Outcome) → number_of 0 (2 ^ 64 - 1) from ≡ Some first
-      → IsAllowed seen (feed_of cell first) outcome → IsAllowed seen (feed usage cell from) outcome
+      → IsAllowed seen (on_cell cell (feed_journal first)) outcome → IsAllowed seen (feed usage cell from) outcome
   feed_numbered first outcome is allowed = Passed first (ap (λ (o : Option ℕ). ok_or o tt) is) allowed
 
-module _ (seen : Observed) (cell : List ℕ) (first : ℕ) where
-  -- the cell was not read
-  pub feed_unread : (end : EarlyEnd) → IsEndedAt seen.files (cell_file cell) end → IsUntouched seen.disk
-      → IsAllowed seen (feed_of cell first) (early end)
-  feed_unread end ended still = ended_at seen Unasked (cell_file cell) (λ held. Opens (to_read held) (fed_from first)) end ended still
+module _ (files : FilesTold) (disk : DiskTold) (held : KnownCell) (first : ℕ) (only : IsOnlyRead disk) where
+  -- the journal was read and has enough grants
+  pub feed_made : (feeder : Feeding) → IsFeeding disk (to_read held) first feeder
+      → IsMade files disk (feed_journal first held) feeding_outcome (Ok (record { feeder = feeder; first = first }))
+  feed_made feeder has = Allowed (JournalOpened feeder.grants has.opened (Passed tt has.enough (refl, only)))
 
-  from_journal : (held : KnownCell) → IsOnlyRead seen.disk → (made : Result Feeding EarlyEnd)
-      → IfOk made (IsFeeding seen.disk (to_read held) first) → IfErr made (EndsFeeding seen.disk (to_read held) first)
-      → AllowsFrom seen (feed_outcome first made) Unasked (Opens (to_read held) (fed_from first))
-  from_journal held only (Ok feeder) has ended = JournalOpened feeder.grants has.opened (Passed tt has.enough (refl, only))
-  from_journal held only (Err end) has (Unopened unopened) = NotOpened end unopened refl
-  from_journal held only (Err end) has (TooFew grants opened few ends) =
-      JournalOpened grants opened
-      (Stopped end (ByRefusal (length grants) few (feed_refused (length grants)) refl ends) (refl, only))
-
-  -- it was; and the journal was read and has enough grants, or the command ends there
-  pub feed_made : (held : KnownCell) → ShowsFile seen.files cell (λ bytes. cell_reads bytes (Ok held)) → IsOnlyRead seen.disk
-      → (made : Result Feeding EarlyEnd) → IfOk made (IsFeeding seen.disk (to_read held) first)
-      → IfErr made (EndsFeeding seen.disk (to_read held) first) → IsAllowed seen (feed_of cell first) (feed_outcome first made)
-  feed_made held shows only made has ended = Passed held shows (from_journal held only made has ended)
+  -- or the command ends there
+  pub feed_ended : (end : EarlyEnd) → EndsFeeding disk (to_read held) first end
+      → IsMade files disk (feed_journal first held) feeding_outcome (Err end)
+  feed_ended end (Unopened unopened) = Allowed (NotOpened end unopened refl)
+  feed_ended end (TooFew grants opened few ends) =
+      Allowed
+      (JournalOpened grants opened
+      (Stopped end (ByRefusal (length grants) few (feed_refused (length grants)) refl ends) (refl, only)))

@@ -47,7 +47,7 @@ module _ {D : Type 0} (old new : FollowerState D) (opening : List Grant) (first_
     (core_is : run.core ≡ record { cell = new.durable.cell; parts = parts new.durable })
     (state : parts new.durable ≡ replay new.durable.cell (kept new)) where
   abbrev outcome : Outcome
-  outcome = follow_outcome (Ok run) new.durable.added (option_to_list new.durable.unsure)
+  outcome = follow_outcome run new.durable.added (option_to_list new.durable.unsure)
 
   module _ (frames : List (List ℕ)) (has : HasFollowed old frames new run.acks.items) where
     cell_is : run.core.cell ≡ old.durable.cell
@@ -192,7 +192,7 @@ module _ {D : Type 0} (reads_as : D → Option (List ℕ)) (may_leave : D → Li
       let unsure = option_to_list new.durable.unsure in (
         new.durable.added,
         unsure,
-        subst (λ (cell : Cell). EndsFollowing cell durable.opening frames (follow_outcome (Ok run) new.durable.added unsure))
+        subst (λ (cell : Cell). EndsFollowing cell durable.opening frames (follow_outcome run new.durable.added unsure))
             (ap (λ (d : DurableState D). d.cell) opened)
             (follows old new durable.opening first_is opening_is run core_of state frames run.stop refl has),
         subst (λ (p : D × List ℕ × List Grant). StandsForAdded (disk_told reads_as may_leave moment left_since faults p.0 disk) p.1 p.2

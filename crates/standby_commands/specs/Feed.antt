@@ -4,14 +4,14 @@ use Rattle.cell_base.specs.declared.shifts.Grant.{Grant}
 use Rattle.cell_walks.specs.Allowed.{IsNotOpened, IsOpenedAs}
 use Rattle.cell_walks.specs.DiskTold.{DiskTold}
 use Rattle.cell_walks.specs.Observed.{Known}
-use Rattle.cell_walks.specs.Outcomes.{Outcome, done, early}
+use Rattle.cell_walks.specs.Outcomes.{done}
 use Rattle.cell_walks.specs.Walks.{Answers, Journal, Opens, Test, Tests, Walk, refusal_of}
 use Rattle.cell_walks.specs.declared.early_end.EarlyEnd.{EarlyEnd}
 use Rattle.cell_walks.specs.declared.early_end.EarlyEnd.TheVariants.{Refused}
 use Rattle.cell_walks.specs.declared.early_end.Subject.TheVariants.{Command}
 use Rattle.cell_texts.specs.Numbers.{number}
 use Rattle.cell_texts.specs.OneWay.{once, reads_by}
-use Rattle.cell_texts.specs.Tests.{cell_file}
+use Rattle.cell_texts.specs.Tests.{KnownCell, cell_file}
 use Rattle.journal_texts.specs.Tests.{to_read}
 use Rattle.standby_link.specs.Fed.{fed}
 use Rattle.standby_link.specs.Frames.{Feeding}
@@ -39,15 +39,15 @@ fed_from first grants =
     Tests (reaches first grants) λ enough.
     Answers λ input outcome. outcome ≡ done (fed first grants)
 
--- the same from an index on
-abbrev pub feed_of : List ℕ → ℕ → Walk
-feed_of cell first =
-    Tests (cell_file cell) λ held.
-    Opens (to_read held) (fed_from first)
+-- its walk from the cell on, for an index
+abbrev pub feed_journal : ℕ → KnownCell → Walk
+feed_journal first held = Opens (to_read held) (fed_from first)
 
 -- the index is a word, and for a word that is none the commands are printed
 abbrev pub feed : List ℕ → List ℕ → List ℕ → Walk
-feed usage cell from = Tests (number usage from) (feed_of cell)
+feed usage cell from =
+    Tests (number usage from) λ first.
+    Tests (cell_file cell) (feed_journal first)
 
 -- ---- how a `feed` comes about
 
@@ -71,8 +71,3 @@ pub data EndsFeeding (disk : DiskTold) (journal : Journal) (first : ℕ) (end : 
   Unopened : IsNotOpened disk journal end → EndsFeeding disk journal first end
   TooFew : (grants : List Grant) → IsOpenedAs disk journal grants → within first grants ≡ Err (length grants)
       → end ≡ Refused (refusal_of (reaches first grants) (feed_refused (length grants))) → EndsFeeding disk journal first end
-
--- the frames, or the early end
-abbrev pub feed_outcome : ℕ → Result Feeding EarlyEnd → Outcome
-feed_outcome first (Ok feeder) = done (fed first feeder.grants)
-feed_outcome first (Err end) = early end

@@ -101,8 +101,11 @@ stands_by held frames opening =
     Tests memory λ had.
     Answers λ input outcome. EndsFollowing held.cell opening frames outcome
 
-abbrev pub follow : List ℕ → List ℕ → Walk
-follow cell frames =
-    Tests (cell_file cell) λ held.
+-- its walk from the cell on
+abbrev pub follow_frames : List ℕ → KnownCell → Walk
+follow_frames frames held =
     Tests (frames_file frames) λ list.
     Opens (to_add held MAX_ROOM) (stands_by held list)
+
+abbrev pub follow : List ℕ → List ℕ → Walk
+follow cell frames = Tests (cell_file cell) (follow_frames frames)

@@ -6,11 +6,9 @@ use Rattle.admission_core.specs.CoreState.{CoreState}
 use Rattle.durable_cell.specs.DurableState.{DurableState}
 use Rattle.durable_cell.specs.declared.replays.TheConstants.{MAX_ROOM}
 use Rattle.record_text.specs.Lines.{left_words, line_of}
-use Rattle.cell_walks.specs.Allowed.{AtOpening, IsAllowed, StandsForAdded}
+use Rattle.cell_walks.specs.Allowed.{AtOpening, StandsForAdded}
 use Rattle.cell_walks.specs.DiskTold.{DiskTold}
-use Rattle.cell_walks.specs.Observed.{Observed}
-use Rattle.cell_walks.specs.Outcomes.{Outcome, early, printed}
-use Rattle.cell_walks.specs.Walks.{Walk}
+use Rattle.cell_walks.specs.Outcomes.{Outcome, printed}
 use Rattle.cell_walks.specs.declared.early_end.EarlyEnd.{EarlyEnd}
 use Rattle.cell_walks.specs.declared.early_end.EarlyEnd.TheVariants.{WantOfMemory}
 use Rattle.cell_walks.specs.declared.status.Status.TheVariants.{CommandRefused, DeviceFault, Done}
@@ -89,26 +87,21 @@ ended_by core (Some stop) = stop_outcome core.cell stop.index stop.why
 abbrev pub end_outcome : Followed → Outcome
 end_outcome followed = ended_by followed.core followed.stop
 
--- the answers and what is told after them, and what was added; or the early end
-abbrev pub follow_outcome : Result Followed EarlyEnd → List Grant → List Grant → Outcome
-follow_outcome (Ok followed) added unsure = record {
+-- the answers and what is told after them, and what was added
+abbrev pub follow_outcome : Followed → List Grant → List Grant → Outcome
+follow_outcome followed added unsure = record {
   status = (end_outcome followed).status;
   pieces = map ack_line followed.acks.items ++ (end_outcome followed).pieces;
   added = added;
   unsure = unsure;
 }
-follow_outcome (Err end) added unsure = early end
 
 -- ---- the journal
-
--- the walk allows this, with some grants that were added
-abbrev pub IsFollowAllowed : Observed → Walk → Result Followed EarlyEnd → Type 0
-IsFollowAllowed seen walk made = (added : List Grant) × (unsure : List Grant) × IsAllowed seen walk (follow_outcome made added unsure)
 
 -- the frames were taken after the grants of the journal as far as the walk says; or there was no memory, and nothing was added
 abbrev pub HasFollowedOn : DiskTold → Cell → List ℕ → List Grant → List (List ℕ) → Result Followed EarlyEnd → Type 0
 HasFollowedOn disk cell text opening frames (Ok followed) =
-    (added : List Grant) × (unsure : List Grant) × EndsFollowing cell opening frames (follow_outcome (Ok followed) added unsure)
+    (added : List Grant) × (unsure : List Grant) × EndsFollowing cell opening frames (follow_outcome followed added unsure)
     × StandsForAdded disk text opening added unsure
 HasFollowedOn disk cell text opening frames (Err end) = (end ≡ WantOfMemory) × StandsForAdded disk text opening [] []
 

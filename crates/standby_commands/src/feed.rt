@@ -1,16 +1,19 @@
 //! `feed CELL JOURNAL FROM`: the grants of the journal from an index on, as frames.
 ghost use Rattle.std.specs.Prelude.{◌≤◌, length, IfOk, IfErr};
-ghost use Rattle.cell_walks.specs.Clauses.{Ends, IsAllowed, IsDelivered, IsOnlyRead, disk_told, files_told, observed, sink_told};
+ghost use Rattle.cell_walks.specs.Clauses.{Ends, IsOnlyRead, disk_seen, files_seen, observed, sink_seen};
 ghost use Rattle.cell_texts.specs.Clauses.{CellFits, MAX_CELL_BYTES, known};
 ghost use Rattle.journal_texts.specs.Clauses.{GrantsFit, to_read};
-ghost use Rattle.standby_commands.specs.Feed.{EndsFeeding, HasFed, HasTooFew, IsFeeding, feed, feed_of, feed_outcome};
+ghost use Rattle.standby_link.specs.Fed.{fed};
+ghost use Rattle.standby_commands.specs.Feed.{EndsFeeding, HasFed, HasTooFew, IsFeeding, feed};
 
 use crate::printing::print_frames;
 use crate::refusals::feed_refused;
-use cell_texts::{CellFile, CommandEnd, print_usage, read_cell};
-use cell_walks::{EarlyEnd, Status, finish_early};
-use journal_texts::{Found, Made, find_grants};
+use cell_driver::{Command, drive};
+use cell_texts::{CellFile, CommandEnd, Made, print_usage};
+use cell_walks::{EarlyEnd, Status};
+use journal_texts::{Found, find_grants};
 use outside_io::{Disk, Files, Sink};
+use printer::Printer;
 use standby_link::Feeder;
 use std::alloc::Global;
 use step_text::number_of;
@@ -25,16 +28,11 @@ pub fn run_feed<F: Files, K: Sink, D: Disk>(
     usage: &[u8],
     disk: D,
 ) -> CommandEnd<D>
-    ensures { let files = files_told F.holds F.is_sound F.faults files.old files.new in
-        let disk = disk_told D.reads_as D.may_leave D.moment D.left_since D.faults disk result.disk in
-        Ends (observed files disk) (sink_told K.taken K.was_put K.faults out.old out.new) (feed usage.now cell.now from.now) result.status }
+    ensures { Ends (observed (files_seen F.Files files.old files.new) (disk_seen D.Disk disk result.disk))
+        (sink_seen K.Sink out.old out.new) (feed usage.now cell.now from.now) result.status }
 {
     match number_of(0, u64::MAX, from.as_bytes()) {
-        Some(first) => {
-            let Made { made, disk } = feed_of_files(alloc, files, cell, first, disk);
-            let status = print_made(out, first, made);
-            CommandEnd { status, disk }
-        }
+        Some(first) => drive(&Feed { first }, alloc, files, out, cell, disk),
         None => CommandEnd {
             status: print_usage(out, usage),
             disk,
@@ -42,37 +40,69 @@ pub fn run_feed<F: Files, K: Sink, D: Disk>(
     }
 }
 
-// The grants that are to be put from an index on, or the early end in their place.
-fn feed_of_files<F: Files, D: Disk>(
-    alloc: Global,
-    files: &mut F,
-    cell: &str,
+/// The command, from the grant of this index on.
+#[derive(Drop)]
+pub struct Feed {
     first: u64,
-    disk: D,
-) -> Made<Feeder, D>
-    ensures allowed { let files = files_told F.holds F.is_sound F.faults files.old files.new in
-        let disk = disk_told D.reads_as D.may_leave D.moment D.left_since D.faults disk result.disk in
-        IsAllowed (observed files disk) (feed_of cell.now first) (feed_outcome first result.made) }
-    ensures within { IfOk result.made (λ feeder. first ≤ length feeder.grants) }
-{
-    match read_cell(alloc, files, cell) {
-        Ok(held) => feed_of_journal(alloc, held, first, disk),
-        Err(end) => Made {
-            made: Err(end),
-            disk,
-        },
+}
+
+/// What feeds, and the index from which on it does.
+#[derive(Drop)]
+pub struct Feeding {
+    feeder: Feeder,
+    first: u64,
+}
+
+impl Command for Feed {
+    ghost use Rattle.cell_walks.specs.Outcomes.{done};
+    ghost use Rattle.standby_commands.specs.Feed.{feed_journal};
+
+    type Answer = Feeding;
+
+    ghost onward = { λ feed. feed_journal feed.first };
+
+    ghost outcome = { λ feeding. done (fed feeding.first feeding.feeder.grants) };
+
+    ghost is_whole = { λ feeding. feeding.first ≤ length feeding.feeder.grants };
+
+    ghost has_no_journal = { λ _. ⊥ };
+
+    fn answer<F: Files, D: Disk>(
+        &self,
+        alloc: Global,
+        held: CellFile,
+        _files: &mut F,
+        disk: D,
+    ) -> Made<Feeding, D> {
+        let Made { made, disk } = feed_of_journal(alloc, held, self.first, disk);
+        match made {
+            Ok(feeder) => Made {
+                made: Ok(Feeding {
+                    feeder,
+                    first: self.first,
+                }),
+                disk,
+            },
+            Err(end) => Made {
+                made: Err(end),
+                disk,
+            },
+        }
+    }
+
+    fn print<K: Sink>(feeding: Feeding, out: &mut Printer<K>) -> Status {
+        print_frames(out, &feeding.feeder, feeding.first);
+        Status::Done
     }
 }
 
-// The same of a cell that was read. It only reads.
+// A feeder of the grants of a journal, of which there have to be as many as the index says; or the early end in its place. It only reads.
 fn feed_of_journal<D: Disk>(alloc: Global, held: CellFile, first: u64, disk: D) -> Made<Feeder, D>
     requires fits { CellFits held.cell }
     requires short { length held.text.items ≤ MAX_CELL_BYTES }
-    ensures fed { IfOk result.made (IsFeeding
-        (disk_told D.reads_as D.may_leave D.moment D.left_since D.faults disk result.disk) (to_read (known held)) first) }
-    ensures ended { IfErr result.made (EndsFeeding
-        (disk_told D.reads_as D.may_leave D.moment D.left_since D.faults disk result.disk) (to_read (known held)) first) }
-    ensures only_read { IsOnlyRead (disk_told D.reads_as D.may_leave D.moment D.left_since D.faults disk result.disk) }
+    ensures fed { IfOk result.made (IsFeeding (disk_seen D.Disk disk result.disk) (to_read (known held)) first) }
+    ensures ended { IfErr result.made (EndsFeeding (disk_seen D.Disk disk result.disk) (to_read (known held)) first) }
+    ensures only_read { IsOnlyRead (disk_seen D.Disk disk result.disk) }
 {
     let Made { made, disk } = find_grants(alloc, held, disk);
     match made {
@@ -99,18 +129,4 @@ fn feeder_of(found: Found, first: u64) -> Result<Feeder, EarlyEnd>
         return Err(feed_refused(len));
     }
     Ok(Feeder::new(grants))
-}
-
-// Puts the frames, or the line of the early end, and answers the status.
-fn print_made<K: Sink>(out: &mut K, first: u64, made: Result<Feeder, EarlyEnd>) -> Status
-    requires { IfOk made (λ feeder. first ≤ length feeder.grants) }
-    ensures { IsDelivered (sink_told K.taken K.was_put K.faults out.old out.new) (feed_outcome first made) result }
-{
-    match made {
-        Ok(feeder) => match print_frames(out, &feeder, first) {
-            Ok(()) => Status::Done,
-            Err(_) => Status::SinkFault,
-        },
-        Err(end) => finish_early(out, end),
-    }
 }

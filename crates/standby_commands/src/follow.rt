@@ -1,9 +1,9 @@
 //! `follow CELL FRAMES JOURNAL`: frames that a standby takes in turn, the grant of each next one written to its journal.
-ghost use Rattle.std.specs.Prelude.{◌≡◌, ◌≤◌, [], Ok, length, IfOk};
-ghost use Rattle.cell_walks.specs.Clauses.{Ends, IsDelivered, disk_told, files_told, observed, sink_told};
+ghost use Rattle.std.specs.Prelude.{◌≡◌, ◌≤◌, [], length, IfOk};
+ghost use Rattle.cell_walks.specs.Clauses.{IsTaken, disk_seen};
 ghost use Rattle.cell_texts.specs.Clauses.{CellFits, MAX_CELL_BYTES, known};
-ghost use Rattle.standby_commands.specs.Clauses.{AreDue, HasFollowedOn, IsFollowAllowed, IsFollowedOnJournal, IsFresh, StopFits};
-ghost use Rattle.standby_commands.specs.Clauses.{end_outcome, follow, follow_outcome, frames_in};
+ghost use Rattle.printer.specs.Printing.{Prints};
+ghost use Rattle.standby_commands.specs.Clauses.{AreDue, HasFollowedOn, IsFollowedOnJournal, IsFresh, StopFits, end_outcome, follow_outcome, frames_in};
 
 use crate::following::{Stop, take_frames};
 use crate::frames::{FRAME_BYTES, read_frames};
@@ -11,70 +11,72 @@ use crate::printing::print_acks;
 use crate::refusals::follow_refused;
 use admission_core::Core;
 use cell_base::{NoMemory, Shelf};
-use cell_texts::{CellFile, CommandEnd, read_cell};
-use cell_walks::{EarlyEnd, Status, finish, finish_early};
+use cell_driver::Command;
+use cell_texts::{CellFile, Made};
+use cell_walks::{EarlyEnd, Status};
 use durable_cell::{Durable, Finished, MAX_ROOM};
-use journal_texts::{Made, give_back, open_journal};
+use journal_texts::{give_back, open_journal};
 use outside_io::{Disk, Files, Sink};
+use printer::Printer;
 use record_text::left_line;
 use standby_link::{Follower, TakeFault};
 use std::alloc::Global;
 
+/// The command, with the name of the frames. All frames are taken before the first answer is printed.
+#[derive(Drop)]
+pub struct Follow<'a> {
+    pub frames: &'a str,
+}
+
 /// The answers to frames that were taken, the core after their grants, and where it stopped before the last frame.
 #[derive(Drop)]
-pub(crate) struct Followed {
+pub struct Followed {
     pub(crate) core: Core,
     pub(crate) acks: Shelf<u64>,
     pub(crate) stop: Option<Stop>,
 }
 
-/// Runs `follow CELL FRAMES JOURNAL`. All frames are taken before the first answer is printed.
-pub fn run_follow<F: Files, K: Sink, D: Disk>(
-    alloc: Global,
-    files: &mut F,
-    out: &mut K,
-    cell: &str,
-    frames: &str,
-    disk: D,
-) -> CommandEnd<D>
-    ensures { let files = files_told F.holds F.is_sound F.faults files.old files.new in
-        let disk = disk_told D.reads_as D.may_leave D.moment D.left_since D.faults disk result.disk in
-        Ends (observed files disk) (sink_told K.taken K.was_put K.faults out.old out.new) (follow cell.now frames.now) result.status }
-{
-    let Made { made, disk } = followed_of_files(alloc, files, cell, frames, disk);
-    let status = print_made(out, made);
-    CommandEnd { status, disk }
-}
+impl<'a> Command for Follow<'a> {
+    ghost use Rattle.standby_commands.specs.Follow.{follow_frames};
 
-// What came of the frames, or the early end in its place.
-fn followed_of_files<F: Files, D: Disk>(
-    alloc: Global,
-    files: &mut F,
-    cell: &str,
-    frames: &str,
-    disk: D,
-) -> Made<Followed, D>
-    ensures allowed { let files = files_told F.holds F.is_sound F.faults files.old files.new in
-        let disk = disk_told D.reads_as D.may_leave D.moment D.left_since D.faults disk result.disk in
-        IsFollowAllowed (observed files disk) (follow cell.now frames.now) result.made }
-    ensures fits { IfOk result.made StopFits }
-{
-    match read_cell(alloc, files, cell) {
-        Ok(held) => match read_frames(alloc, files, frames) {
+    type Answer = Followed;
+
+    ghost onward = { λ follow. follow_frames follow.frames.now };
+
+    ghost outcome = { λ followed. follow_outcome followed [] [] };
+
+    ghost is_whole = { StopFits };
+
+    ghost has_no_journal = { λ _. ⊥ };
+
+    fn answer<F: Files, D: Disk>(
+        &self,
+        alloc: Global,
+        held: CellFile,
+        files: &mut F,
+        disk: D,
+    ) -> Made<Followed, D> {
+        match read_frames(alloc, files, self.frames) {
             Ok(bytes) => follow_journal(alloc, held, &bytes, disk),
             Err(end) => Made {
                 made: Err(end),
                 disk,
             },
-        },
-        Err(end) => Made {
-            made: Err(end),
-            disk,
-        },
+        }
+    }
+
+    fn print<K: Sink>(followed: Followed, out: &mut Printer<K>) -> Status
+        requires { StopFits followed }
+        ensures printed { Prints K.Sink out.old out.new (follow_outcome followed [] []).pieces }
+        ensures status { result ≡ (follow_outcome followed [] []).status }
+        ensures taken { IsTaken result }
+    {
+        print_acks(out, followed.acks.as_slice());
+        print_end(out, &followed)
     }
 }
 
-// The same of a cell and frames that were read.
+// What came of frames that were read, or the early end in its place.
 fn follow_journal<D: Disk>(
     alloc: Global,
     held: CellFile,
@@ -84,7 +86,7 @@ fn follow_journal<D: Disk>(
     requires fits { CellFits held.cell }
     requires short { length held.text.items ≤ MAX_CELL_BYTES }
     requires few { length (frames_in bytes.now) ≤ MAX_ROOM }
-    ensures followed { IsFollowedOnJournal (disk_told D.reads_as D.may_leave D.moment D.left_since D.faults disk result.disk) (known held)
+    ensures followed { IsFollowedOnJournal (disk_seen D.Disk disk result.disk) (known held)
         (frames_in bytes.now) result.made }
     ensures fits { IfOk result.made StopFits }
 {
@@ -115,7 +117,7 @@ fn follow_opened<D: Disk>(
     requires limit { length (frames_in bytes.now) ≤ durable.limit }
     requires acks { acks.items ≡ [] }
     requires room { length (frames_in bytes.now) ≤ acks.spare }
-    ensures followed { HasFollowedOn (disk_told D.reads_as D.may_leave D.moment D.left_since D.faults durable.entry result.disk)
+    ensures followed { HasFollowedOn (disk_seen D.Disk durable.entry result.disk)
         durable.cell durable.text durable.opening (frames_in bytes.now) result.made }
     ensures due { AreDue durable.cell durable.opening }
     ensures fits { IfOk result.made StopFits }
@@ -146,39 +148,20 @@ fn follow_opened<D: Disk>(
     }
 }
 
-// Prints what came of the frames, or the early end, and answers the status.
-fn print_made<K: Sink>(out: &mut K, made: Result<Followed, EarlyEnd>) -> Status
-    requires { IfOk made StopFits }
-    ensures { IsDelivered (sink_told K.taken K.was_put K.faults out.old out.new) (follow_outcome made [] []) result }
-{
-    match made {
-        Ok(followed) => print_followed(out, &followed),
-        Err(end) => finish_early(out, end),
-    }
-}
-
-// Prints the answers, and what is told after them.
-fn print_followed<K: Sink>(out: &mut K, followed: &Followed) -> Status
+// Prints how many parts are left; or why the next frame is refused; or nothing, where its writing failed. It answers the status.
+fn print_end<K: Sink>(out: &mut Printer<K>, followed: &Followed) -> Status
     requires { StopFits followed.now }
-    ensures { IsDelivered (sink_told K.taken K.was_put K.faults out.old out.new) (follow_outcome (Ok followed.now) [] []) result }
-{
-    match print_acks(out, followed.acks.as_slice()) {
-        Ok(()) => print_end(out, followed),
-        Err(_) => Status::SinkFault,
-    }
-}
-
-// Prints how many parts are left; or why the next frame is refused; or nothing, where its writing failed.
-fn print_end<K: Sink>(out: &mut K, followed: &Followed) -> Status
-    requires { StopFits followed.now }
-    ensures { IsDelivered (sink_told K.taken K.was_put K.faults out.old out.new) (end_outcome followed.now) result }
+    ensures printed { Prints K.Sink out.old out.new (end_outcome followed.now).pieces }
+    ensures status { result ≡ (end_outcome followed.now).status }
+    ensures taken { IsTaken result }
 {
     let Some(stop) = followed.stop else {
-        return finish(out, Status::Done, &left_line(followed.core.parts_left()));
+        out.line(&left_line(followed.core.parts_left()));
+        return Status::Done;
     };
     if let TakeFault::Device = stop.why {
         return Status::DeviceFault;
     }
-    let line = follow_refused(followed.core.cell(), stop.index, &stop.why);
-    finish(out, Status::CommandRefused, &line)
+    out.line(&follow_refused(followed.core.cell(), stop.index, &stop.why));
+    Status::CommandRefused
 }

@@ -1,7 +1,7 @@
 //! The commands of a standby: `feed` puts the grants of a journal as frames, and `follow` takes frames into a journal.
 //!
-//! Each is a walk in `specs/`, and a function that goes it: its clause `Ends` says that what was put, and done to the disk, is an outcome
-//! that the walk allows. `laws` says that frames of one list of grants, lost, repeated or in another order, are all taken.
+//! Each is a walk in `specs/`, which `cell_driver::drive` goes from the cell on. `laws` says that frames of one list of grants, lost,
+//! repeated or in another order, are all taken.
 //!
 //! ```text
 //! let CommandEnd { status, disk } = run_follow(alloc, &mut files, &mut out, "cell.toml", "frames", disk);
@@ -14,6 +14,8 @@ mod following;
 mod frames;
 mod printing;
 mod refusals;
+mod running;
 
 pub use feed::run_feed;
-pub use follow::run_follow;
+pub use follow::Follow;
+pub use running::run_follow;

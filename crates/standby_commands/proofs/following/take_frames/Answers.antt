@@ -1,5 +1,5 @@
 -- One more frame is taken, or the follower stops at it; after the last one all were taken.
-use Rattle.std.proofs.Common.{◌≡◌, ℕ, ◌≤◌, ◌<◌, List, [], ◌∷◌, ◌++◌, length, take, drop, refl}
+use Rattle.std.proofs.Common.{◌≡◌, ℕ, ◌≤◌, ◌<◌, List, [], ◌∷◌, ◌++◌, length, refl}
 use Rattle.std.proofs.Common.{◌∙◌, sym, ap, subst, arith, append_assoc, append-nil, length-drop}
 use Rattle.durable_cell.specs.Asked.{halted_at}
 use Rattle.standby_commands.specs.Following.{HasFollowed}

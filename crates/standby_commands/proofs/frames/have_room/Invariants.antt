@@ -1,5 +1,5 @@
 -- What is said of all frames is said of those of the rest.
-use Rattle.std.proofs.Common.{◌≡◌, ℕ, length}
+use Rattle.std.proofs.Common.{◌≡◌, length}
 use Rattle.standby_commands.specs.FrameFiles.{frames_in, have_room}
 use Rattle.standby_commands.proofs.frames.have_room.Given as goal
 
