@@ -98,8 +98,5 @@ fn a_table_that_was_told_finds_by_resources(rt: HostRuntime) -> Result<(), Fail>
     let found = parts.find_on(ResId(0)).ok_or("a part")?;
     assert_eq!(rt; found.part, part(7, 0));
     assert_eq!(rt; parts.finish_first(ResId(0)), Some(JobId(7)));
-    assert_eq!(rt; parts.finish_first(ResId(0)), None);
-    parts.depart(JobId(7));
-    assert_eq!(rt; parts.find_on(ResId(0)), None);
     Ok(())
 }
