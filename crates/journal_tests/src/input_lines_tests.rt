@@ -1,8 +1,8 @@
 //! The same lines for each way in which a text may come.
-use cell_base::List;
+use cell_base::{List, NoMemory};
 use input_lines::InputLines;
-use outside_io::MemDisk;
-use peers::MemPeer;
+use outside_io::{MemDisk, MemSink, MemSource};
+use peers::Silent;
 use std::alloc::Global;
 use std::test::Fail;
 
@@ -13,17 +13,23 @@ const TEXT: &[u8] =
 const LINES: &[u8] =
     b"1 load 7 A||left|12345678901234567890123456789012345678901234567890123456789012345|\r|";
 
+// A peer of which nothing is told, and so none of what it holds back: what it gives, in such pieces, is all that is asked of it.
+fn peer_of(
+    alloc: Global,
+    text: &[u8],
+    piece: usize,
+    fails: List<u64>,
+) -> Result<Silent<MemSource, MemSink>, NoMemory> {
+    Ok(Silent {
+        source: MemSource::new(alloc, text, piece, fails)?,
+        sink: MemSink::new(alloc, List::new(alloc)),
+    })
+}
+
 // The lines of a text that comes in such pieces, each with a bar.
 fn barred(alloc: Global, piece: usize) -> Result<Vec<u8>, Fail> {
     let disk = MemDisk::new(alloc, b"", List::new(alloc))?;
-    let mut peer = MemPeer::new(
-        alloc,
-        &disk,
-        TEXT,
-        piece,
-        List::new(alloc),
-        List::new(alloc),
-    )?;
+    let mut peer = peer_of(alloc, TEXT, piece, List::new(alloc))?;
     let mut lines = InputLines::new(alloc)?;
     let mut barred = Vec::new(alloc);
     for _ in 0..1000 {
@@ -52,7 +58,7 @@ fn a_read_that_fails_loses_nothing(rt: HostRuntime) -> Result<(), Fail> {
     let mut fails = List::new(alloc);
     fails.try_push(2)?;
     let disk = MemDisk::new(alloc, b"", List::new(alloc))?;
-    let mut peer = MemPeer::new(alloc, &disk, b"left\n", 3, fails, List::new(alloc))?;
+    let mut peer = peer_of(alloc, b"left\n", 3, fails)?;
     let mut lines = InputLines::new(alloc)?;
     let mut given = Vec::new(alloc);
     for _ in 0..5 {
