@@ -13,6 +13,6 @@ returns c =
     subst (λ (state : CoreState). (r : ℕ) → r < length state.cell.resources
     → has_bit c.full.result r ≡ nat_le (capacity_of state.cell r) (count state.cell state.parts r)) c.self.view_is
     (λ r within.
-        c.full.ensures r (omega (arith, are.complete, within))
-        ∙ ap (λ n. nat_le n (slice_index held.counts r)) (are.capacities r within)
-        ∙ ap (λ n. nat_le (capacity_of c.self.inside.table r) n) (are.each r within))
+    c.full.ensures r (omega (arith, are.complete, within))
+    ∙ ap (λ n. nat_le n (slice_index held.counts r)) (are.capacities r within)
+    ∙ ap (λ n. nat_le (capacity_of c.self.inside.table r) n) (are.each r within))
