@@ -32,5 +32,6 @@ begin_start start held =
     Tests (grants_start held.cell requests) λ granted.
     Opens (to_add held MAX_ROOM) (goes_on held requests)
 
+-- the whole of it: the cell is read, and then the start
 abbrev pub begin : List ℕ → List ℕ → Walk
 begin cell start = Tests (cell_file cell) (begin_start start)

@@ -25,6 +25,7 @@ pub record IsWatchLaw (cell : Cell) (parts : List Part) (request : Request) : Ty
       → ((job : JobId) → job_of request ≡ Some job → is_of job asked ≡ false) → IsWatch cell parts request (Some r)
       → IsWatch cell (state_after cell parts asked) request (Some r)
 
+-- so it is at each state that the policy admits, of each request that fits
 abbrev pub WatchLaw : Cell → Type 0
 WatchLaw cell = (parts : List Part) (request : Request) → IsAdmitted cell parts → RequestFits cell request → IsWatchLaw cell parts request
 
