@@ -5,7 +5,7 @@
 // before it fails, the first part of a torn write, and a write takes one byte and answers so, and the next one fails. With SLOW set each
 // fdatasync takes so many microseconds more. At the end the number of calls of that kind goes into the file named COUNT, and what was done
 // to the device into the file named TRACE, a line for each pwrite, with its offset and length, fdatasync and fsync; with WRITES set also
-// one for each write, with its length.
+// one for each write, with its length, and with READS set one for each pread, with its offset and length.
 //
 // Two outsides that are hard to come by are played: with TYPE set each regular file is told to be of that type (of st_mode, in octal)
 // and, as a device is, of no bytes; with READ_ONLY set no file is opened for writing, and locks and syncs aren't known, as on some
@@ -24,7 +24,7 @@
 #include <unistd.h>
 
 static unsigned long calls, failing, slow, type;
-static int error = EIO, is_short, is_read_only, tells_writes, next_fails;
+static int error = EIO, is_short, is_read_only, tells_writes, tells_reads, next_fails;
 static char kind[16], count_path[4096];
 static FILE *trace;
 
@@ -42,6 +42,7 @@ __attribute__((constructor)) static void start(void) {
   is_short = getenv("SHORT") != NULL;
   is_read_only = getenv("READ_ONLY") != NULL;
   tells_writes = getenv("WRITES") != NULL;
+  tells_reads = getenv("READS") != NULL;
   trace = told ? fopen(told, "w") : NULL;
   if (of)
     strncpy(kind, of, sizeof kind - 1);
@@ -92,6 +93,8 @@ ssize_t read(int file, void *out, size_t size) {
 }
 
 ssize_t pread(int file, void *out, size_t size, off_t at) {
+  if (trace && tells_reads)
+    fprintf(trace, "pread %ld %lu\n", (long)at, (unsigned long)size);
   if (fails("pread"))
     return -1;
   return REAL(ssize_t, "pread", int, void *, size_t, off_t)(file, out, size, at);

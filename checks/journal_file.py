@@ -2,12 +2,17 @@
 
 A journal is a gate 1, the name `RUNCELL1`, the length of the cell text, the text, and then for each grant a gate 1 and sixteen bytes,
 up to the first gate that isn't 1. Resources and types are numbered as the cell file has them.
+
+Whoever takes this module has journals made that weren't there: a program that it calls tells nothing of that, unless it sets the variable
+itself.
 """
 import hashlib
 import os
 import pathlib
 import struct
 import tomllib
+
+os.environ["WISHKABE_HINTS"] = "0"
 
 NAME = b"RUNCELL1"
 KINDS = {"load": 1, "process": 2, "move": 3, "unload": 4, "place": 5}

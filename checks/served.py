@@ -184,7 +184,8 @@ class Session:
             self.take(reply)
 
     def counts(self, server):
-        """Asks how many steps were granted; after a kill that may be the one that was asked last. Whether the server answered."""
+        """Asks how many steps were granted, and which was the last; after a kill that may be the one that was asked before it. Whether the
+        server answered."""
         reply = server.asked(f"{self.number} grants")
         if reply is None:
             return False
@@ -193,4 +194,8 @@ class Session:
         elif reply != f"{self.number} grants {len(self.granted)}":
             self.faults.append(f"{len(self.granted)} granted, {self.asked} asked, and told {reply}")
         self.asked = None
-        return True
+        reply = server.asked(f"{self.number} last")
+        last = self.granted[-1] if self.granted else "none"
+        if reply not in (None, f"{self.number} last {len(self.granted)} {last}"):
+            self.faults.append(f"{len(self.granted)} granted, and told {reply}")
+        return reply is not None

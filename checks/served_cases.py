@@ -9,20 +9,32 @@ import sys
 import time
 
 from journal_file import granted, journal
-from served import Server, within
+from served import CellFile, Server, within
 
 HERE = pathlib.Path(__file__).resolve().parent
+sys.path.insert(0, str(HERE.parent / "examples"))
+from client import Cell  # noqa: E402
+
 # How many bytes the server reads at once, and how many lines share their syncs.
 PIECE_BYTES, GROUP_LINES = 65_536, 512
 # Lines with their replies on the cell of two machines, from the empty cell on.
 TALK = [
+    ("next", "none"),
+    ("room", "1572864"),
+    ("65535 last", "0 none"),
     ("1 load 7 A", "granted"),
     ("2 load 8 Z", "refused saturated M2 1 of 1"),
     ("1 move 7", "refused not-processed"),
     ("why process M1", "granted"),
+    ("job 7", "A 0 M1 waiting"),
     ("65535 process M1", "granted"),
     ("1 grants", "1"),
+    ("1 last", "1 load 7 A"),
+    ("65535 last", "1 process M1"),
+    ("job 7", "A 0 M1 done"),
+    ("job 8", "none"),
     ("left", "1"),
+    ("next", "move 7"),
     ("1 move 7", "granted"),
     ("why load 9 Z", "refused saturated M2 1 of 1"),
     ("1 load 7 A", "refused job-loaded"),
@@ -32,6 +44,16 @@ TALK = [
     ("1 unload 7", "granted"),
     ("4 unload 7", "refused no-such-job"),
     ("left", "0"),
+    ("room", "1572859"),
+    ("4 place 9 A 1 waiting", "granted"),
+    ("4 place 9 A 1 waiting", "refused job-loaded"),
+    ("5 place 10 A 1 done", "refused saturated M2 1 of 1"),
+    ("job 9", "A 1 M2 waiting"),
+    ("4 last", "1 place 9 A 1 waiting"),
+    ("4 unload 9", "refused not-processed"),
+    ("4 process M2", "granted"),
+    ("next", "unload 9"),
+    ("4 unload 9", "granted"),
     ("2 load 8 Z", "granted"),
     ("2 process M1", "refused idle"),
     ("2 unload 8", "refused not-processed"),
@@ -42,6 +64,8 @@ TALK = [
     ("5 grants", "0"),
 ]
 TAIL = ["left 1", "plan 3", "move 8", "process M1", "unload 8"]
+# The first of these lines that is granted.
+LOADS = TALK.index(("1 load 7 A", "granted"))
 # The talk, and the cell is empty again.
 ROUND = [*TALK, ("2 move 8", "granted"), ("2 process M1", "granted"), ("2 unload 8", "granted")]
 # No request each.
@@ -49,11 +73,14 @@ GARBAGE = [
     b"", b" ", b"1", b"1 ", b"load 7 A", b"0 load 7 A", b"65536 load 7 A", b"01 load 7 A", b"-1 load 7 A", b"+1 load 7 A", b"1  load 7 A",
     b" 1 load 7 A", b"1 load 7 A ", b"1 load 7 A\r", b"1\tload 7 A", b"1 load 07 A", b"1 load 4294967296 A", b"1 load 7 B", b"1 load 7",
     b"1 load 7 A A", b"1 LOAD 7 A", b"1 process M3", b"1 process", b"1 move 7 0", b"1 move 7 8", b"1 move -7", b"1 unload",
-    b"1 unload 7 1", b"1 place 7 A 0 done", b"1 place 7 A 0 waiting", b"1 grants 0", b"1 grant", b"grants", b"0 grants", b"65536 grants",
+    b"1 unload 7 1", b"1 place 7 A 2 done", b"1 place 7 A 0", b"1 place 7 A 0 gone", b"1 place 7 B 0 done", b"1 place 7 A 00 done",
+    b"place 7 A 0 done", b"0 place 7 A 0 done", b"1 last 0", b"0 last", b"last", b"1 Last", b"1 next", b"next 1", b"Next", b"1 room",
+    b"room 1", b"job", b"job ", b"job 07", b"job 7 A", b"job A", b"job 4294967296", b"1 job 7",
+    b"1 grants 0", b"1 grant", b"grants", b"0 grants", b"65536 grants",
     b"1 left", b"left 0", b"Left", b"left ", b"why", b"why ", b"why left", b"why 1 load 7 A", b"why place 7 A 0 done", b"1 why load 7 A",
     b"1 load 7 A granted", b"plan", b"plan 0", b"drain", b"exit", b"quit", b"help", b"\0", b"1 load 7 A\0", b"\xff\xfe",
-    b"1 load 7 \xc3\x84", b"\x1b[A", b"shift 0 after 0", b"line refused 1", b"1 load " + b"7" * 60 + b" A", b"x" * 64, b"x" * 65,
-    b"x" * 66, b"1 load 7 A" + b"A" * 4096, b"9" * 1_000_000, b"1 load 7 A" + b"\0" * 1_000_000,
+    b"1 load 7 \xc3\x84", b"\x1b[A", b"shift 0 after 0", b"line refused 1", b"1 load " + b"7" * 60 + b" A", b"x" * 65, b"x" * 66,
+    b"x" * 67, b"1 load 7 A" + b"A" * 4096, b"9" * 1_000_000, b"1 load 7 A" + b"\0" * 1_000_000,
 ]
 
 
@@ -83,11 +110,13 @@ def talks(wrong, cell, folder):
     file = folder / "journal"
     wrong.see("the talk at once", cell.served(file, sent(TALK)), (0, whole))
     wrong.see("its journal", cell.entries(file), granted(cell.numbers, told(TALK), 0))
-    again = text_of(["shift 0 after 7", "1 grants 3", "2 grants 2", "65535 grants 1", "line refused 4", *TAIL])
-    wrong.see("on its journal", cell.served(file, b"1 grants\n2 grants\n65535 grants\n0 grants\n"), (0, again))
+    asked = b"1 grants\n2 grants\n65535 grants\n0 grants\n4 last\njob 8\nroom\n"
+    again = ["shift 0 after 10", "1 grants 3", "2 grants 2", "65535 grants 1", "line refused 4", "4 last 3 unload 9", "job 8 Z 0 M2 done",
+             "room 1572854", *TAIL]
+    wrong.see("on its journal", cell.served(file, asked), (0, text_of(again)))
     wrong.see("no line", cell.served(folder / "empty", b""), (0, text_of(["shift 0 after 0", "left 0", "plan 0"])))
     wrong.see("its journal", (folder / "empty").read_bytes(), journal(cell.text, []))
-    for piece in (1, 2, 3, 7, 64, 65, 66):
+    for piece in (1, 2, 3, 7, 66, 67, 68):
         file = folder / f"pieces of {piece}"
         server = Server(cell, file)
         for at in range(0, len(sent(TALK)), piece):
@@ -126,6 +155,18 @@ def garbage(wrong, cell, folder):
     wrong.see("its journal", cell.entries(folder / "journal"), granted(cell.numbers, told(TALK), 0))
 
 
+def longest(wrong, cell, folder):
+    """The longest line that asks something has 66 bytes."""
+    name, other = "N" * 32, folder / "cell.toml"
+    route = ", ".join([f'"{name}"'] * 11)
+    other.write_text(f'version = 1\n[[resource]]\nname = "{name}"\ncapacity = 1\n[[type]]\nname = "{name}"\nroute = [{route}]\n')
+    line = f"65535 place 4294967295 {name} 10 waiting"
+    wanted = ["shift 0 after 0", f"{line} granted", f"65535 last 1 {line[6:]}", f"job 4294967295 {name} 10 {name} waiting",
+              f"next process {name}", "line refused 5", "left 1", "plan 2", f"process {name}", "unload 4294967295"]
+    lines = f"{line}\n65535 last\njob 4294967295\nnext\n{line}x\n".encode()
+    wrong.see(f"a line of {len(line)} bytes", CellFile(cell.program, other).served(folder / "journal", lines), (0, text_of(wanted)))
+
+
 def many(wrong, cell, folder):
     """A thousand lines at once have the replies that they have one after the other."""
     lines, server = [line for line, _ in ROUND] * 40, Server(cell, folder / "one after the other")
@@ -160,22 +201,25 @@ def slow_clients(wrong, cell, folder):
     child = subprocess.Popen([cell.program, "serve", cell.path, file], stdin=subprocess.PIPE, stdout=subprocess.PIPE)
     child.stdout.readline()
     child.stdout.close()
-    child.stdin.write(sent(TALK[:1]))
+    begun = TALK[: LOADS + 1]
+    child.stdin.write(sent(begun))
     child.stdin.flush()
-    wrong.see("a client that is gone", (child.wait(), cell.entries(file)), (8, granted(cell.numbers, told(TALK[:1]), 0)))
+    wrong.see("a client that is gone", (child.wait(), cell.entries(file)), (8, granted(cell.numbers, told(begun), 0)))
     child.stdin.close()
 
     server = Server(cell, file)
     os.kill(server.child.pid, signal.SIGSTOP)
-    server.send(sent(TALK[1:]))
+    rest = TALK[LOADS + 1 :]
+    server.send(sent(rest))
     time.sleep(0.2)
     wrong.see("a server that is stopped says nothing", server.lines, ["shift 0 after 1"])
     os.kill(server.child.pid, signal.SIGCONT)
-    wrong.see("and goes on", (server.end(), server.lines), (0, ["shift 0 after 1", *told(TALK[1:]), *TAIL]))
+    wrong.see("and goes on", (server.end(), server.lines), (0, ["shift 0 after 1", *told(rest), *TAIL]))
 
 
 def beside(wrong, cell, folder):
-    """While a server has a journal nobody else opens it; and one after the other `run` and `serve` go on with one another's parts."""
+    """Beside a server others look into its journal, and nobody adds to it; and one after the other `run` and `serve` go on with one
+    another's parts."""
     file, shift, start = folder / "journal", folder / "shift.toml", folder / "start"
     fault = 7, "device fault\n"
     shift.write_text('version = 1\nnumber = 3\npatience = 1\n[[session]]\nsteps = ["process M1", "move 7"]\n')
@@ -183,10 +227,14 @@ def beside(wrong, cell, folder):
     server = Server(cell, file)
     wrong.see("a server is asked", server.asked("1 load 7 A"), "1 load 7 A granted")
     wrong.see("a second server", cell.served(file, b"2 load 8 Z\n"), fault)
-    others = (("plan", file), ("drain", file), ("grants", file), ("parts", file), ("why", file, "move 7"), ("carry", file, cell.path),
-              ("run", shift, file), ("begin", start, file))
-    for command in others:
+    for command in (("drain", file), ("run", shift, file), ("begin", start, file)):
         wrong.see(f"{command[0]} beside a server", cell.told(*command), fault)
+    plan = ["left 1", "plan 4", "process M1", "move 7", "process M2", "unload 7"]
+    looks = ((("plan", file), ["shift 0 after 1", *plan]), (("grants", file), ["shift 0 after 0", "1 load 7 A granted", *plan]),
+             (("why", file, "move 7"), ["refused not-processed"]), (("carry", file, cell.path), ["place 7 A 0 waiting"]))
+    for command, wanted in looks:
+        wrong.see(f"{command[0]} beside a server", cell.told(*command), (0, text_of(wanted)))
+    wrong.see("parts beside a server", cell.told("parts", file)[1].splitlines()[1], "part 7 A 0 waiting")
     wrong.see("the server goes on", server.asked("1 grants"), "1 grants 1")
     wrong.see("and ends", server.end(), 0)
     ran = text_of(["shift 3 after 1", "1 process M1 granted", "1 move 7 granted", "left 1", "plan 2", "process M2", "unload 7"])
@@ -296,6 +344,17 @@ def dispatched(wrong, cell, folder):
         one.close()
 
 
+def asked_in_python(wrong, cell, folder):
+    """The client in Python asks the questions."""
+    file = folder / "journal"
+    with Cell(cell.program, "serve", str(cell.path), str(file)) as asked:
+        wrong.see("its questions at first", (asked.next(), asked.room(), asked.last(1), asked.where(9)), (None, 1_572_864, (0, None), None))
+        wrong.see("a part that was put in", asked.ask(1, "place 9 A 1 waiting"), "granted")
+        found = asked.next(), asked.room(), asked.last(1), asked.where(9), asked.seen
+        wrong.see("its questions then", found, ("process M2", 1_572_863, (1, "place 9 A 1 waiting"), ("A", 1, "M2", False), 1))
+    wrong.see("its journal", cell.entries(file), [cell.entry(1, "place 9 A 1 waiting")])
+
+
 def library_of(folder, name):
     """A library of this folder, to be loaded before the C library."""
     library = folder / f"{name}.so"
@@ -373,5 +432,5 @@ def stable_before_told(trace, text, gate):
     return grants, syncs
 
 
-CASES = [talks, cuts, garbage, many, slow_clients, beside, statuses, full_journals, sockets, dispatched, interrupted, memory,
-         order_of_writes]
+CASES = [talks, cuts, garbage, longest, many, slow_clients, beside, statuses, full_journals, sockets, dispatched, asked_in_python, interrupted,
+         memory, order_of_writes]

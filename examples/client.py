@@ -77,10 +77,33 @@ class Cell:
         """How many parts are in the cell."""
         return int(self._told("left"))
 
+    def last(self, session):
+        """How many steps of a session were granted, and the last of them; None where there is none."""
+        count, step = self._told(f"{session} last").split(" ", 1)
+        return int(count), None if step == "none" else step
+
+    def where(self, job):
+        """Where the part of a job stands: its type, its place of the route, the resource there, and whether its work there is done. None
+        where it isn't in the cell."""
+        told = self._told(f"job {job}")
+        if told == "none":
+            return None
+        kind, place, resource, work = told.split(" ")
+        return kind, int(place), resource, work == "done"
+
+    def next(self):
+        """The next step of the plan that empties the cell, or None where no part is left."""
+        step = self._told("next")
+        return None if step == "none" else step
+
+    def room(self):
+        """For how many steps more the journal has room."""
+        return int(self._told("room"))
+
     def say(self, line):
         """The reply to a line, after the line's own words. None: the server was killed before it came, and is started again."""
         sent = f"{line}\n".encode()
-        if len(sent) > 65 or "\n" in line:
+        if len(sent) > 67 or "\n" in line:
             raise NoRequest(line)
         reply = queue.SimpleQueue()
         with self.lock:
@@ -141,9 +164,10 @@ class Cell:
         while not self.stopped:
             self.lines = []
             for line in map(bytes.decode, self.child.stdout):
-                is_reply = self.waiting and line.startswith((self.waiting[0][0], "line refused "))
-                if is_reply and line.endswith("\n") and not line.endswith(" halted\n"):
-                    self.seen += line.endswith(" granted\n") and not line.startswith("why ")
+                words = self.waiting[0][0] if self.waiting else None
+                is_reply = words and line.startswith((words, "line refused "))
+                if is_reply and line.endswith("\n") and line != f"{words}halted\n":
+                    self.seen += line == f"{words}granted\n" and not line.startswith("why ")
                     self.waiting.popleft()[1].put(line.rstrip("\n"))
                 else:
                     self.lines.append(line.rstrip("\n"))

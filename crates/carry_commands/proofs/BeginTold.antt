@@ -24,7 +24,7 @@ use Rattle.cell_walks.specs.Statuses.{status_number}
 use Rattle.cell_walks.specs.declared.status.Status.{Status}
 use Rattle.cell_walks.proofs.Standing.{found_same}
 use Rattle.cell_walks.proofs.Telling.{status_tells}
-use Rattle.cell_walks.proofs.Walked.{always_weaker, now_weaker}
+use Rattle.cell_walks.proofs.Walked.{now_weaker, since_weaker}
 use Rattle.journal_texts.specs.Records.{IsHalted, IsRecorded}
 use Rattle.durable_cell.specs.declared.replays.TheConstants.{MAX_ROOM}
 use Rattle.journal_texts.specs.AskedSteps.{AllGranted, HaltsAt, step_grant}
@@ -85,13 +85,9 @@ module _ (disk : DiskTold) (cell : Cell) (text : List ℕ) (requests : List Requ
               | inr so ↦ subst (StandsFor file text)
                   (append-nil (opening ++ outcome.added) ∙ ap (λ (gs : List Grant). opening ++ gs) added ∙ whole) so
             ]) now.now;
-        any_moment = always_weaker disk (λ file. disk.leaves file ⊎ StandsForPrefix text opening (outcome.added ++ []) file)
-            (λ file. disk.leaves file ⊎ StandsForFirstOf text requests file)
-            (λ file. elim [
-              | inl was ↦ inl was
-              | inr first ↦ inr (some_first file (outcome.added ++ []) []
-                  (sym added ∙ sym (append-nil outcome.added) ∙ sym (append-nil (outcome.added ++ []))) first)
-            ]) now.any_moment;
+        any_moment = since_weaker disk (StandsForPrefix text opening (outcome.added ++ [])) (StandsForFirstOf text requests)
+            (λ file. some_first file (outcome.added ++ []) []
+            (sym added ∙ sym (append-nil outcome.added) ∙ sym (append-nil (outcome.added ++ [])))) now.any_moment;
       }
 
   pub is_halted : IsHalted cell 0 opening (HaltsAt rest) outcome → IsHaltedBegin disk cell text requests opening outcome
@@ -131,13 +127,9 @@ module _ (disk : DiskTold) (cell : Cell) (text : List ℕ) (requests : List Requ
               | inr so ↦ inr (subst (StandsFor file text)
                   (append_assoc opening outcome.added (step_grant last ∷ []) ∙ ap (λ (gs : List Grant). opening ++ gs) both) so)
             ]) now.now;
-        any_moment = always_weaker disk
-            (λ file. disk.leaves file ⊎ StandsForPrefix text opening (outcome.added ++ step_grant last ∷ []) file)
-            (λ file. disk.leaves file ⊎ StandsForFirstOf text requests file)
-            (λ file. elim [
-              | inl was ↦ inl was
-              | inr some ↦ inr (some_first file (outcome.added ++ step_grant last ∷ []) (start_grants others) all some)
-            ]) now.any_moment;
+        any_moment = since_weaker disk (StandsForPrefix text opening (outcome.added ++ step_grant last ∷ []))
+            (StandsForFirstOf text requests)
+            (λ file. some_first file (outcome.added ++ step_grant last ∷ []) (start_grants others) all) now.any_moment;
         cause = All-head (λ grant. Rose disk.faults disk.faults_after) (step_grant last) [] now.cause;
       }
 

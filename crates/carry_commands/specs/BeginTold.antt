@@ -11,7 +11,7 @@ use Rattle.move_journal.specs.Journals.{StandsFor}
 use Rattle.record_text.specs.Records.{text_of_record}
 use Rattle.durable_cell.specs.declared.replays.TheConstants.{MAX_ROOM}
 use Rattle.cell_walks.specs.Allowed.{IsOpenedAs}
-use Rattle.cell_walks.specs.DiskTold.{DiskTold, IsAlways, IsNow, StoodFor}
+use Rattle.cell_walks.specs.DiskTold.{DiskTold, IsNow, SinceEntry, StoodFor}
 use Rattle.cell_walks.specs.Observed.{Observed, ShowsFile}
 use Rattle.cell_walks.specs.Outcomes.{Outcome}
 use Rattle.cell_walks.specs.declared.status.Status.TheVariants.{Done, DeviceFault}
@@ -38,7 +38,7 @@ pub record IsBegunWhole (disk : DiskTold) (cell : Cell) (text : List ℕ) (reque
   pub added : outcome.added ≡ start_grants (requests_left requests opening)
   pub sure : outcome.unsure ≡ []
   pub stands : IsNow disk (λ file. StandsFor file text (start_grants requests))
-  pub any_moment : IsAlways disk (λ file. disk.leaves file ⊎ StandsForFirstOf text requests file)
+  pub any_moment : SinceEntry disk (StandsForFirstOf text requests)
 
 -- The writing of a request halted after those that were granted: the block that ends there is printed, and the disk stands for the grants
 -- before it, or for these and it.
@@ -54,7 +54,7 @@ pub record IsHaltedBegin (disk : DiskTold) (cell : Cell) (text : List ℕ) (requ
   pub unsure : outcome.unsure ≡ step_grant last ∷ []
   pub stands : IsNow disk (λ file. StandsFor file text (opening ++ start_grants first)
       ⊎ StandsFor file text (opening ++ start_grants (first ++ last ∷ [])))
-  pub any_moment : IsAlways disk (λ file. disk.leaves file ⊎ StandsForFirstOf text requests file)
+  pub any_moment : SinceEntry disk (StandsForFirstOf text requests)
   pub cause : Rose disk.faults disk.faults_after
 
 -- The files stand for a cell and a start of it, each request of which is granted in its turn, and the journal for grants, which are a prefix

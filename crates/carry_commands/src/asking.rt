@@ -9,7 +9,7 @@ ghost use Rattle.carry_commands.specs.BeginClauses.{IsPlacing, KeepsHistory, MAX
 use crate::refusals::at_other_start;
 use cell_base::Request;
 use cell_texts::Made;
-use durable_cell::{Durable, Recalled};
+use durable_cell::{Durable, Recalled, durable_law};
 use journal_texts::{Closed, Recorded, give_back, record_of};
 use outside_io::Disk;
 
@@ -32,7 +32,7 @@ pub fn begin_opened<D: Disk>(
     ensures due { AreDue durable.cell durable.opening }
     ensures fits { IfOk result.made EntriesFit }
 {
-    let _kept = durable.core();
+    durable_law(&durable);
     match other {
         None => {
             let held = durable.held() as usize;
@@ -71,7 +71,7 @@ fn ask_each<D: Disk>(durable: &mut Durable<D, Recalled>, requests: &[Request])
     ensures asked { IsAskedIn requests.now durable.old durable.new }
     ensures kept { KeepsHistory durable.old }
 {
-    let _kept = durable.core();
+    durable_law(durable);
     for request in requests {
         match durable.ask(0, 0, request) {
             Ok(_) => {}

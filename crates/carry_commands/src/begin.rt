@@ -21,7 +21,7 @@ use printer::Printer;
 use record_text::MAX_START_LINES;
 use std::alloc::Global;
 
-/// The command, with the name of the start file. All requests are asked before the first line is printed.
+/// The command `begin`, with the name of the start file. All requests are asked before the first line is printed.
 #[derive(Drop)]
 pub struct Begin<'a> {
     pub start: &'a str,

@@ -19,7 +19,7 @@ use printer::Printer;
 use record_text::place_line;
 use std::alloc::Global;
 
-/// The command, with the name of the second cell's file.
+/// The command `carry`, with the name of the second cell's file.
 #[derive(Drop)]
 pub struct Carry<'a> {
     pub other: &'a str,

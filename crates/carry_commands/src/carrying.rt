@@ -5,6 +5,7 @@ ghost use Rattle.carry_commands.specs.CarryClauses.{AreCarried, CellFits, EndsAt
 use crate::placing::carried_part;
 use crate::refusals::{CarryFault, at_carry_fault};
 use admission_core::Core;
+use admission_core::laws::core_law;
 use cell_base::{Cell, List, NoMemory, Part, Request};
 use cell_walks::EarlyEnd;
 use std::alloc::Global;
@@ -47,7 +48,7 @@ fn place_parts(
     ensures ended { IfErr result (EndsAtCarry old.now.cell core.old.cell old.now.parts) }
     ensures same { core.new.cell ≡ core.old.cell }
 {
-    let _admitted = old.cell();
+    core_law(old);
     let mut requests = List::new(alloc);
     for part in parts {
         match carried_part(old.cell(), core, part) {

@@ -2,8 +2,10 @@
 //! journal of a start file. The walk of each stands in `specs/`, and `cell_driver::drive` goes it.
 //!
 //! ```text
-//! let CommandEnd { status, disk } = run_carry(alloc, &mut files, &mut out, "cell.toml", "new-cell.toml", disk);
-//! let CommandEnd { status, disk } = run_begin(alloc, &mut files, &mut out, "new-cell.toml", "start", new_disk);
+//! let carry = Carry { other: "new-cell.toml" };
+//! let CommandEnd { status, disk } = drive(&carry, alloc, &mut files, &mut out, "cell.toml", disk);
+//! let begin = Begin { start: "start" };
+//! let CommandEnd { status, disk } = drive(&begin, alloc, &mut files, &mut out, "new-cell.toml", new_disk);
 //! ```
 #![tactic(auto)]
 
@@ -15,10 +17,8 @@ mod compared;
 pub mod laws;
 mod placing;
 mod refusals;
-mod running;
 mod starts;
 
 pub use begin::Begin;
 pub use carry::Carry;
 pub use refusals::{CarryFault, StartFault, Uncarried};
-pub use running::{run_begin, run_carry};

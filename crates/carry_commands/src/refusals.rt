@@ -1,16 +1,15 @@
 //! What can't be done, and its line.
 ghost use Rattle.std.specs.Prelude.{◌≡◌, ◌+◌, ◌≤◌, ◌++◌, ◌∷◌, [], Some, length};
-ghost use Rattle.cell_walks.specs.declared.early_end.Subject.TheVariants.{Command, Input, Journal};
+ghost use Rattle.cell_walks.specs.declared.early_end.Subject.TheVariants.{Command, Journal};
 ghost use Rattle.cell_walks.specs.Walks.{end_with};
 ghost use Rattle.record_text.specs.Fitting.{RefusalFits};
 ghost use Rattle.record_text.specs.Lines.{why_words};
 ghost use Rattle.record_text.specs.Spaced.{spaced};
-ghost use Rattle.cell_texts.specs.RecordReads.{record_line};
 ghost use Rattle.carry_commands.specs.Refusals.{IsOfPlace, UncarriedFits, carry_refused, other_start, start_refused};
 
 use cell_base::{Cell, JobId, Refusal};
 use cell_walks::{EarlyEnd, Subject};
-use record_text::{Line, RecordFault, add_resource};
+use record_text::{Line, add_resource};
 
 /// Why a part can't be carried to another cell.
 #[derive(Clone, Copy, Debug, PartialEq, Eq)]
@@ -99,19 +98,6 @@ pub fn at_other_start(at: u64) -> EarlyEnd
     line.number(6u8);
     line.number(at);
     refused(Subject::Journal, line)
-}
-
-/// The end at a fault of a start file.
-pub fn at_file_fault(fault: RecordFault) -> EarlyEnd
-    ensures { result ≡ end_with Input (record_line fault) }
-{
-    let RecordFault::Bad { line: number } = fault else {
-        return EarlyEnd::WantOfMemory;
-    };
-    let mut line = Line::of_word(b"record");
-    line.word(b"refused");
-    line.number(number);
-    refused(Subject::Input, line)
 }
 
 // The end at what is refused, with this line.

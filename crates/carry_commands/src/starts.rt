@@ -6,11 +6,12 @@ ghost use Rattle.cell_texts.specs.Clauses.{CellFits};
 ghost use Rattle.carry_commands.specs.BeginClauses.{EndsBeforeJournal, IsGrantedStart, IsPlacing, IsRefusedStart};
 ghost use Rattle.carry_commands.specs.BeginClauses.{MAX_START_LINES, start_file, start_reads};
 
-use crate::refusals::{StartFault, at_file_fault, at_start_fault};
+use crate::refusals::{StartFault, at_start_fault};
 use admission_core::Core;
 use cell_base::{Cell, List, Reply, Request};
+use cell_texts::{at_record_fault, read_named};
 use cell_walks::EarlyEnd;
-use outside_io::{FileFail, Files};
+use outside_io::Files;
 use record_text::{MAX_START_BYTES, read_start};
 use refusal_reason::laws::refusal_is_present;
 use std::alloc::Global;
@@ -29,15 +30,13 @@ pub fn read_start_file<F: Files>(
     ensures few { IfOk result (λ requests. length requests ≤ MAX_START_LINES) }
     ensures ended { IfErr result (IsEndedAt (files_told F.holds F.is_sound F.faults files.old files.new) (start_file cell.now name.now)) }
 {
-    let mut bytes = Vec::new(alloc);
-    match files.read_file(alloc, name, MAX_START_BYTES, &mut bytes) {
-        Ok(()) => {}
-        Err(FileFail::Failed) => return Err(EarlyEnd::NotRead),
-        Err(FileFail::Memory) => return Err(EarlyEnd::WantOfMemory),
-    }
+    let bytes = match read_named(alloc, files, name, MAX_START_BYTES as u32) {
+        Ok(bytes) => bytes,
+        Err(end) => return Err(end),
+    };
     match read_start(alloc, cell, &bytes) {
         Ok(requests) => Ok(requests),
-        Err(fault) => Err(at_file_fault(fault)),
+        Err(fault) => Err(at_record_fault(fault)),
     }
 }
 

@@ -28,7 +28,7 @@ use Rattle.cell_walks.specs.Statuses.{status_number}
 use Rattle.cell_walks.specs.declared.status.Status.{Status}
 use Rattle.cell_walks.proofs.Standing.{found_same}
 use Rattle.cell_walks.proofs.Telling.{status_tells}
-use Rattle.cell_walks.proofs.Walked.{always_weaker, now_weaker}
+use Rattle.cell_walks.proofs.Walked.{now_weaker, since_weaker}
 use Rattle.journal_texts.specs.Records.{IsHalted, IsRecorded}
 use Rattle.durable_cell.specs.declared.replays.TheConstants.{MAX_ROOM}
 use Rattle.journal_texts.proofs.Replays.{replay_admitted}
@@ -80,12 +80,8 @@ module _ (disk : DiskTold) (cell : Cell) (text : List ℕ) (opening : List Grant
               | inr so ↦ subst (StandsFor file text)
                   (append-nil (opening ++ outcome.added) ∙ ap (λ (gs : List Grant). opening ++ gs) added) so
             ]) now.now;
-        any_moment = always_weaker disk (λ file. disk.leaves file ⊎ StandsForPrefix text opening (outcome.added ++ []) file)
-            (λ file. disk.leaves file ⊎ StandsForSome text opening plan file)
-            (λ file. elim [
-              | inl was ↦ inl was
-              | inr first ↦ inr (some_steps file (outcome.added ++ []) plan (append-nil outcome.added ∙ added) first)
-            ]) now.any_moment;
+        any_moment = since_weaker disk (StandsForPrefix text opening (outcome.added ++ [])) (StandsForSome text opening plan)
+            (λ file. some_steps file (outcome.added ++ []) plan (append-nil outcome.added ∙ added)) now.any_moment;
       }
 
   pub is_halted : IsHalted cell 0 opening (HaltsAt plan) outcome → IsHaltedDrain disk cell text opening outcome
@@ -119,13 +115,9 @@ module _ (disk : DiskTold) (cell : Cell) (text : List ℕ) (opening : List Grant
               | inr so ↦ inr (subst (StandsFor file text)
                   (append_assoc opening outcome.added (step_grant last ∷ []) ∙ ap (λ (gs : List Grant). opening ++ gs) both) so)
             ]) now.now;
-        any_moment = always_weaker disk
-            (λ file. disk.leaves file ⊎ StandsForPrefix text opening (outcome.added ++ step_grant last ∷ []) file)
-            (λ file. disk.leaves file ⊎ StandsForSome text opening (first ++ last ∷ []) file)
-            (λ file. elim [
-              | inl was ↦ inl was
-              | inr some ↦ inr (some_steps file (outcome.added ++ step_grant last ∷ []) (first ++ last ∷ []) both some)
-            ]) now.any_moment;
+        any_moment = since_weaker disk (StandsForPrefix text opening (outcome.added ++ step_grant last ∷ []))
+            (StandsForSome text opening (first ++ last ∷ []))
+            (λ file. some_steps file (outcome.added ++ step_grant last ∷ []) (first ++ last ∷ []) both) now.any_moment;
         cause = All-head (λ grant. Rose disk.faults disk.faults_after) (step_grant last) [] now.cause;
       }
 

@@ -11,7 +11,7 @@ use Rattle.move_journal.specs.Journals.{StandsFor}
 use Rattle.record_text.specs.Records.{text_of_record}
 use Rattle.durable_cell.specs.declared.replays.TheConstants.{MAX_ROOM}
 use Rattle.cell_walks.specs.Allowed.{IsOpenedAs}
-use Rattle.cell_walks.specs.DiskTold.{DiskTold, IsAlways, IsNow, StoodFor}
+use Rattle.cell_walks.specs.DiskTold.{DiskTold, IsNow, SinceEntry, StoodFor}
 use Rattle.cell_walks.specs.Observed.{Observed, ShowsFile}
 use Rattle.cell_walks.specs.Outcomes.{Outcome}
 use Rattle.cell_walks.specs.declared.status.Status.TheVariants.{Done, DeviceFault}
@@ -32,7 +32,7 @@ pub record IsEmptied (disk : DiskTold) (cell : Cell) (text : List ℕ) (grants :
   pub added : outcome.added ≡ map step_grant (plan_of cell (replay cell grants))
   pub sure : outcome.unsure ≡ []
   pub stands : IsNow disk (λ file. StandsFor file text (grants ++ map step_grant (plan_of cell (replay cell grants))))
-  pub any_moment : IsAlways disk (λ file. disk.leaves file ⊎ StandsForSome text grants (plan_of cell (replay cell grants)) file)
+  pub any_moment : SinceEntry disk (StandsForSome text grants (plan_of cell (replay cell grants)))
 
 -- The writing of a step halted after those that were granted: the block that ends there is printed, and the disk stands for the grants
 -- and the steps without the halted one, or with it.
@@ -47,7 +47,7 @@ pub record IsHaltedDrain (disk : DiskTold) (cell : Cell) (text : List ℕ) (gran
   pub unsure : outcome.unsure ≡ step_grant last ∷ []
   pub stands : IsNow disk (λ file. StandsFor file text (grants ++ map step_grant first)
       ⊎ StandsFor file text (grants ++ map step_grant (first ++ last ∷ [])))
-  pub any_moment : IsAlways disk (λ file. disk.leaves file ⊎ StandsForSome text grants (first ++ last ∷ []) file)
+  pub any_moment : SinceEntry disk (StandsForSome text grants (first ++ last ∷ []))
   pub cause : Rose disk.faults disk.faults_after
 
 -- The file stands for a cell, and the journal for grants: where the disk stood for one list of grants, for these; and this is so of the

@@ -13,7 +13,7 @@ use printer::Printer;
 use shift_checker::Verdict;
 use std::alloc::Global;
 
-/// The command, with the name of the record.
+/// The command `check`, with the name of the record.
 #[derive(Drop)]
 pub struct Check<'a> {
     pub record_file: &'a str,

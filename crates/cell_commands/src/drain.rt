@@ -8,7 +8,7 @@ ghost use Rattle.cell_commands.specs.declared.drain.TheConstants.{MAX_PLAN};
 use cell_driver::Command;
 use cell_texts::{CellFile, Made};
 use cell_walks::Status;
-use durable_cell::{Durable, MAX_ROOM, Recalled};
+use durable_cell::{Durable, MAX_ROOM, Recalled, durable_law};
 use journal_texts::{Closed, Recorded, open_journal_with, print_record, record_of};
 use outside_io::{Disk, Files, Sink};
 use printer::Printer;
@@ -18,7 +18,7 @@ use std::alloc::Global;
 /// The most steps of a plan: 128 for each of the 4,096 units of a cell.
 const MAX_PLAN: u64 = 524_288;
 
-/// The command.
+/// The command `drain`.
 pub struct Drain;
 
 impl Command for Drain {
@@ -84,7 +84,7 @@ fn ask_steps<D: Disk>(durable: &mut Durable<D, Recalled>)
     ensures admitted { IsAdmitted durable.old.cell (first_parts durable.old) }
     ensures kept { KeepsHistory durable.old }
 {
-    let _admitted = durable.core();
+    durable_law(durable);
     while let Some(step) = durable.core().plan_step() {
         match durable.ask(0, 0, &step) {
             Ok(_) => {}

@@ -8,7 +8,7 @@ use outside_io::{Disk, Files, Sink};
 use printer::Printer;
 use std::alloc::Global;
 
-/// The command.
+/// The command `plan`.
 pub struct Plan;
 
 impl Command for Plan {

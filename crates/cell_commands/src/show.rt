@@ -17,7 +17,7 @@ use refusal_reason::laws::show_lines_are_lines;
 use refusal_reason::show_text;
 use std::alloc::Global;
 
-/// The command.
+/// The command `show`.
 pub struct Show;
 
 /// What is shown: the cell of a core, and its text.

@@ -23,7 +23,7 @@ use refusal_reason::laws::refusal_is_present;
 use std::alloc::Global;
 use step_text::read_step;
 
-/// The command, with the step that is asked about.
+/// The command `why`, with the step that is asked about.
 #[derive(Drop)]
 pub struct Why<'a> {
     pub step: &'a str,

@@ -107,9 +107,12 @@ listed [] = []
 listed (form ∷ []) = form
 listed (form ∷ next ∷ rest) = form ++ codes ", " ++ listed (next ∷ rest)
 
--- how the command is written that reads its input while it answers; it has a top call of its own
+-- how the command is written that reads its input while it answers, and its journal; it has a top call of its own
 abbrev pub serve_words : List ℕ → List ℕ → List (List ℕ)
 serve_words cell journal = codes "serve" ∷ cell ∷ journal ∷ []
+
+abbrev pub served_journal : List ℕ → NamedJournal
+served_journal journal = record { name = journal; purpose = ToAdd }
 
 -- the commands with their words
 abbrev pub usage_text : List ℕ

@@ -1,7 +1,8 @@
-//! The top call.
+//! The top call: the words of a command line, files, a sink and a disk go in, and a status and the disk come out.
 ghost use Rattle.std.specs.Prelude.{◌≡◌, ℕ, List, map, None};
-ghost use Rattle.cell_walks.specs.Clauses.{Ends, disk_told, files_told, observed, sink_told};
-ghost use Rattle.cell_program.specs.Words.{Begin, Drain, Follow, Run, Task, journal_of, no_command, usage_text, walk_for, walk_of, words_of};
+ghost use Rattle.cell_walks.specs.Clauses.{Ends, disk_seen, files_seen, observed, sink_seen};
+ghost use Rattle.cell_program.specs.Words.{Begin as BeginTask, Drain as DrainTask, Follow as FollowTask, Run as RunTask};
+ghost use Rattle.cell_program.specs.Words.{Task, journal_of, no_command, serve_words, usage_text, walk_for, walk_of, words_of};
 ghost use Rattle.cell_program.specs.Deciding.{option_and_then, string_bytes, task_of};
 ghost use Rattle.cell_program.specs.Causes.{Causes};
 ghost use Rattle.cell_program.specs.Headline.{Begun, Drained, Headline};
@@ -9,19 +10,21 @@ ghost use Rattle.cell_program.specs.Promised.{FollowsAll, PromisesAt};
 ghost use Rattle.standby_commands.specs.FollowTold.{FollowTells};
 
 use crate::words::{Command, command_of};
-use carry_commands::{run_begin, run_carry};
-use cell_commands::{run_check, run_drain, run_plan, run_show, run_why};
+use carry_commands::{Begin, Carry};
+use cell_commands::{Check, Drain, Plan, Show, Why};
+use cell_driver::drive;
 use cell_texts::{CommandEnd, print_usage};
 use cell_walks::{Status, leaves_only_now, reads_an_image};
-use hybrid_command::run_hybrid;
-use look_commands::{run_grants, run_parts};
+use hybrid_command::HybridShift;
+use look_commands::{Grants, Parts};
 use make_command::run_make;
-use order_commands::{run_advise, run_arrange};
+use order_advisor::Weighing;
+use order_commands::BestOrders;
 use outside_io::{Disk, Files, Pace, Sink};
-use queue_command::run_queue;
+use queue_command::Queue;
 use run_command::run_on_journal;
 use solo_command::run_solo;
-use standby_commands::{run_feed, run_follow};
+use standby_commands::{Follow, run_feed};
 use std::alloc::Global;
 use std::sync::Wait;
 use std::thread::Threads;
@@ -46,47 +49,53 @@ pub fn cell_main<R: Threads + Wait + Sync, F: Files, K: Sink, D: Disk + Send, P:
 ) -> Ended<D>
     // Words that are a command: what every walk promises, of the walk of that command.
     ensures command { (task : Task) → words_of task ≡ map string_bytes words.now →
-        let files = files_told F.holds F.is_sound F.faults files.old files.new in
-        let disk = disk_told D.reads_as D.may_leave D.moment D.left_since D.faults disk result.disk in
-        PromisesAt (observed files disk) (sink_told K.taken K.was_put K.faults out.old out.new) (walk_of task) result.status }
+        let files = files_seen F.Files files.old files.new in
+        let disk = disk_seen D.Disk disk result.disk in
+        PromisesAt (observed files disk) (sink_seen K.Sink out.old out.new) (walk_of task) result.status }
 
     // Words that are none: the same of the walk that prints the commands.
     ensures none { ((task : Task) → words_of task ≡ map string_bytes words.now → ⊥) →
-        let files = files_told F.holds F.is_sound F.faults files.old files.new in
-        let disk = disk_told D.reads_as D.may_leave D.moment D.left_since D.faults disk result.disk in
-        PromisesAt (observed files disk) (sink_told K.taken K.was_put K.faults out.old out.new) no_command result.status }
+        let files = files_seen F.Files files.old files.new in
+        let disk = disk_seen D.Disk disk result.disk in
+        PromisesAt (observed files disk) (sink_seen K.Sink out.old out.new) no_command result.status }
+
+    // So are the words of `serve`, which has a call of its own: it reads an input, and here is none.
+    ensures serve { (cell journal : List ℕ) → serve_words cell journal ≡ map string_bytes words.now →
+        let files = files_seen F.Files files.old files.new in
+        let disk = disk_seen D.Disk disk result.disk in
+        PromisesAt (observed files disk) (sink_seen K.Sink out.old out.new) no_command result.status }
 
     // No command ends without its cause.
     ensures causes { (task : Task) → words_of task ≡ map string_bytes words.now →
-        let files = files_told F.holds F.is_sound F.faults files.old files.new in
-        let disk = disk_told D.reads_as D.may_leave D.moment D.left_since D.faults disk result.disk in
-        Causes (observed files disk) (sink_told K.taken K.was_put K.faults out.old out.new) task result.status }
+        let files = files_seen F.Files files.old files.new in
+        let disk = disk_seen D.Disk disk result.disk in
+        Causes (observed files disk) (sink_seen K.Sink out.old out.new) task result.status }
 
     // What that says of `run`, fact by fact.
-    ensures headline { (cell shift journal : List ℕ) → words_of (Run cell shift journal) ≡ map string_bytes words.now →
-        let files = files_told F.holds F.is_sound F.faults files.old files.new in
-        let disk = disk_told D.reads_as D.may_leave D.moment D.left_since D.faults disk result.disk in
-        Headline (observed files disk) (sink_told K.taken K.was_put K.faults out.old out.new) cell shift result.status }
+    ensures headline { (cell shift journal : List ℕ) → words_of (RunTask cell shift journal) ≡ map string_bytes words.now →
+        let files = files_seen F.Files files.old files.new in
+        let disk = disk_seen D.Disk disk result.disk in
+        Headline (observed files disk) (sink_seen K.Sink out.old out.new) cell shift result.status }
 
     // The same of `drain`, of `begin` and of `follow`.
-    ensures drained { (cell journal : List ℕ) → words_of (Drain cell journal) ≡ map string_bytes words.now →
-        let files = files_told F.holds F.is_sound F.faults files.old files.new in
-        let disk = disk_told D.reads_as D.may_leave D.moment D.left_since D.faults disk result.disk in
-        Drained (observed files disk) (sink_told K.taken K.was_put K.faults out.old out.new) cell result.status }
-    ensures begun { (cell start journal : List ℕ) → words_of (Begin cell start journal) ≡ map string_bytes words.now →
-        let files = files_told F.holds F.is_sound F.faults files.old files.new in
-        let disk = disk_told D.reads_as D.may_leave D.moment D.left_since D.faults disk result.disk in
-        Begun (observed files disk) (sink_told K.taken K.was_put K.faults out.old out.new) cell start result.status }
-    ensures followed { (cell frames journal : List ℕ) → words_of (Follow cell frames journal) ≡ map string_bytes words.now →
-        let files = files_told F.holds F.is_sound F.faults files.old files.new in
-        let disk = disk_told D.reads_as D.may_leave D.moment D.left_since D.faults disk result.disk in
-        FollowTells (observed files disk) (sink_told K.taken K.was_put K.faults out.old out.new) cell frames result.status }
+    ensures drained { (cell journal : List ℕ) → words_of (DrainTask cell journal) ≡ map string_bytes words.now →
+        let files = files_seen F.Files files.old files.new in
+        let disk = disk_seen D.Disk disk result.disk in
+        Drained (observed files disk) (sink_seen K.Sink out.old out.new) cell result.status }
+    ensures begun { (cell start journal : List ℕ) → words_of (BeginTask cell start journal) ≡ map string_bytes words.now →
+        let files = files_seen F.Files files.old files.new in
+        let disk = disk_seen D.Disk disk result.disk in
+        Begun (observed files disk) (sink_seen K.Sink out.old out.new) cell start result.status }
+    ensures followed { (cell frames journal : List ℕ) → words_of (FollowTask cell frames journal) ≡ map string_bytes words.now →
+        let files = files_seen F.Files files.old files.new in
+        let disk = disk_seen D.Disk disk result.disk in
+        FollowTells (observed files disk) (sink_seen K.Sink out.old out.new) cell frames result.status }
 
     // Frames of one list of grants are all taken, where nothing is refused and nothing outside fails.
-    ensures goes_through { (cell frames journal : List ℕ) → words_of (Follow cell frames journal) ≡ map string_bytes words.now →
-        let files = files_told F.holds F.is_sound F.faults files.old files.new in
-        let disk = disk_told D.reads_as D.may_leave D.moment D.left_since D.faults disk result.disk in
-        FollowsAll (observed files disk) (sink_told K.taken K.was_put K.faults out.old out.new) cell frames result.status }
+    ensures goes_through { (cell frames journal : List ℕ) → words_of (FollowTask cell frames journal) ≡ map string_bytes words.now →
+        let files = files_seen F.Files files.old files.new in
+        let disk = disk_seen D.Disk disk result.disk in
+        FollowsAll (observed files disk) (sink_seen K.Sink out.old out.new) cell frames result.status }
 
     // A command without a journal hands the disk back as it was, and so do words that are none.
     ensures untouched { ((task : Task) → words_of task ≡ map string_bytes words.now → journal_of task ≡ None) → result.disk ≡ disk }
@@ -109,9 +118,9 @@ fn run_command<R: Threads + Wait + Sync, F: Files, K: Sink, D: Disk + Send, P: P
     disk: D,
     pace: &P,
 ) -> CommandEnd<D>
-    ensures ends { let files = files_told F.holds F.is_sound F.faults files.old files.new in
-        let disk = disk_told D.reads_as D.may_leave D.moment D.left_since D.faults disk result.disk in
-        Ends (observed files disk) (sink_told K.taken K.was_put K.faults out.old out.new) (walk_for (task_of (map string_bytes words.now)))
+    ensures ends { let files = files_seen F.Files files.old files.new in
+        let disk = disk_seen D.Disk disk result.disk in
+        Ends (observed files disk) (sink_seen K.Sink out.old out.new) (walk_for (task_of (map string_bytes words.now)))
         result.status }
     ensures same { option_and_then journal_of (task_of (map string_bytes words.now)) ≡ None → result.disk ≡ disk }
 {
@@ -125,32 +134,43 @@ fn run_command<R: Threads + Wait + Sync, F: Files, K: Sink, D: Disk + Send, P: P
         Some(Command::Run { cell, shift, .. }) => run_on_journal(
             rt, alloc, files, out, cell, shift, disk, pace,
         ),
-        Some(Command::Plan { cell, .. }) => run_plan(alloc, files, out, cell, disk),
-        Some(Command::Drain { cell, .. }) => run_drain(alloc, files, out, cell, disk),
-        Some(Command::Why { cell, step, .. }) => run_why(alloc, files, out, cell, step, disk),
-        Some(Command::Check { cell, record_file }) => run_check(
-            alloc,
-            files,
-            out,
-            cell,
-            record_file,
-            disk,
-        ),
-        Some(Command::Show { cell }) => run_show(alloc, files, out, cell, disk),
+        Some(Command::Plan { cell, .. }) => drive(&Plan, alloc, files, out, cell, disk),
+        Some(Command::Drain { cell, .. }) => drive(&Drain, alloc, files, out, cell, disk),
+        Some(Command::Why { cell, step, .. }) => {
+            drive(&Why { step }, alloc, files, out, cell, disk)
+        }
+        Some(Command::Check { cell, record_file }) => {
+            drive(&Check { record_file }, alloc, files, out, cell, disk)
+        }
+        Some(Command::Show { cell }) => drive(&Show, alloc, files, out, cell, disk),
         Some(Command::Make { number }) => run_make(alloc, files, out, number, usage(), disk),
-        Some(Command::Carry { cell, other, .. }) => run_carry(alloc, files, out, cell, other, disk),
-        Some(Command::Begin { cell, start, .. }) => run_begin(alloc, files, out, cell, start, disk),
-        Some(Command::Hybrid { cell, shift }) => run_hybrid(alloc, files, out, cell, shift, disk),
-        Some(Command::Queue { cell, shift }) => run_queue(alloc, files, out, cell, shift, disk),
-        Some(Command::Advise { cell }) => run_advise(alloc, files, out, cell, disk),
-        Some(Command::Arrange { cell }) => run_arrange(alloc, files, out, cell, disk),
-        Some(Command::Grants { cell, .. }) => run_grants(alloc, files, out, cell, disk),
-        Some(Command::Parts { cell, .. }) => run_parts(alloc, files, out, cell, disk),
+        Some(Command::Carry { cell, other, .. }) => {
+            drive(&Carry { other }, alloc, files, out, cell, disk)
+        }
+        Some(Command::Begin { cell, start, .. }) => {
+            drive(&Begin { start }, alloc, files, out, cell, disk)
+        }
+        Some(Command::Hybrid { cell, shift }) => {
+            drive(&HybridShift { shift }, alloc, files, out, cell, disk)
+        }
+        Some(Command::Queue { cell, shift }) => {
+            drive(&Queue { shift }, alloc, files, out, cell, disk)
+        }
+        Some(Command::Advise { cell }) => {
+            let weighing = Weighing::Alike;
+            drive(&BestOrders { weighing }, alloc, files, out, cell, disk)
+        }
+        Some(Command::Arrange { cell }) => {
+            let weighing = Weighing::ByCapacity;
+            drive(&BestOrders { weighing }, alloc, files, out, cell, disk)
+        }
+        Some(Command::Grants { cell, .. }) => drive(&Grants, alloc, files, out, cell, disk),
+        Some(Command::Parts { cell, .. }) => drive(&Parts, alloc, files, out, cell, disk),
         Some(Command::Feed { cell, from, .. }) => {
             run_feed(alloc, files, out, cell, from, usage(), disk)
         }
         Some(Command::Follow { cell, frames, .. }) => {
-            run_follow(alloc, files, out, cell, frames, disk)
+            drive(&Follow { frames }, alloc, files, out, cell, disk)
         }
     }
 }

@@ -1,8 +1,8 @@
 //! What the words of the command line ask for.
-ghost use Rattle.std.specs.Prelude.{◌≡◌, map, IfSome, IfNone, List, None, ℕ};
+ghost use Rattle.std.specs.Prelude.{◌≡◌, map, IfSome, IfNone, List, None, Some, ℕ};
 ghost use Rattle.std.specs.String.{string_bytes};
 ghost use Rattle.std.specs.Option.{option_map};
-ghost use Rattle.cell_program.specs.Words.{Task, journal_of, serve_words, words_of};
+ghost use Rattle.cell_program.specs.Words.{Task, journal_of, serve_words, served_journal, words_of};
 ghost use Rattle.cell_program.specs.Deciding.{named, served_of, served_of_two, served_words, task_in};
 ghost use Rattle.cell_program.specs.Deciding.{task_of, task_of_one, task_of_three, task_of_two};
 
@@ -262,11 +262,17 @@ pub fn command_of(words: &[String]) -> Option<Command<'_>>
     decide(words)
 }
 
-/// The journal of the command that the words are written as.
+/// The journal of what the words are written as, a command or `serve CELL JOURNAL`.
 pub fn journal_in(words: &[String]) -> Option<Journal<'_>>
     ensures journal { (task : Task) → words_of task ≡ map string_bytes words.now → option_map named result ≡ journal_of task }
-    ensures none { ((task : Task) → words_of task ≡ map string_bytes words.now → ⊥) → result ≡ None }
+    ensures served { (cell journal : List ℕ) → serve_words cell journal ≡ map string_bytes words.now
+        → option_map named result ≡ Some (served_journal journal) }
+    ensures none { ((task : Task) → words_of task ≡ map string_bytes words.now → ⊥)
+        → ((cell journal : List ℕ) → serve_words cell journal ≡ map string_bytes words.now → ⊥) → result ≡ None }
 {
+    if let Some(served) = served_in(words) {
+        return Some(Journal::Added(served.journal));
+    }
     match command_of(words) {
         Some(command) => command.journal(),
         None => None,

@@ -12,7 +12,7 @@ use Rattle.move_journal.specs.Journals.{StandsFor}
 use Rattle.move_journal.proofs.Uniqueness.{journal_of, one_journal}
 use Rattle.shift_recovery.specs.declared.faults.JournalFault.{JournalFault}
 use Rattle.shift_recovery.proofs.Standing.{stands_found}
-use Rattle.cell_walks.specs.DiskTold.{DiskTold, IsOnlyRead, StaysEmpty, StandsOpened, StillStandsFor, StoodFor, AddsNothing}
+use Rattle.cell_walks.specs.DiskTold.{DiskTold, IsOnlyRead, StaysEmpty, StillStandsFor, StoodFor, AddsNothing}
 use Rattle.cell_walks.proofs.OpenedOnce.{opened_once}
 
 -- ---- a file
@@ -99,16 +99,6 @@ module _ (disk : DiskTold) (now : IfSome disk.reads disk.leaves) (text : List �
           → IfSome reads (λ file. opened_as cell file text room ≡ Ok found) → found ≡ grants
       by_told None now tells opened = absurd (cc)
       by_told (Some file) now tells opened = opened_once cell file text room found grants (stood.1 file now) opened
-
-  -- and stands for them still, where nothing was added
-  pub still_by_opened : StandsOpened text grants disk → StillStandsFor disk text grants
-  still_by_opened stands = (stands.now, by_told disk.reads stands.any_moment)
-    where
-      by_told : (reads : Option (List ℕ))
-          → IfSome reads (λ _. (left : List ℕ) → disk.left left → disk.leaves left ⊎ StandsFor left text grants)
-          → IfSome reads (λ _. (left : List ℕ) → disk.left left → StandsFor left text grants)
-      by_told None always = tt
-      by_told (Some file) always = λ left is. elim (always left is) [ inl at_entry ↦ stood.1 left at_entry | inr stands ↦ stands ]
 
   pub still_standing : AddsNothing text disk → StillStandsFor disk text grants
   still_standing (inl only) = still_by_read only

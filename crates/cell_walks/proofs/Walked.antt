@@ -8,7 +8,7 @@ use Rattle.outside_io.specs.Causes.{Rose}
 use Rattle.cell_base.specs.declared.shifts.Grant.{Grant}
 use Rattle.move_journal.specs.Journals.{StandsForPrefix, StandsFor}
 use Rattle.cell_walks.specs.Allowed.{IsUnread, StandsForAdded}
-use Rattle.cell_walks.specs.DiskTold.{DiskTold, IsAlways, IsNow, IsOnlyRead, IsUntouched, StillStandsFor, StoodFor}
+use Rattle.cell_walks.specs.DiskTold.{DiskTold, IsAlways, IsNow, IsOnlyRead, IsUntouched, SinceEntry, StillStandsFor, StoodFor}
 use Rattle.cell_walks.specs.Observed.{FilesTold, Source, Word, File, Known, IsThereAt, HoldsOfBytes, Tells}
 use Rattle.cell_walks.specs.Promises.{StandsWith}
 use Rattle.cell_walks.specs.declared.early_end.EarlyEnd.{EarlyEnd}
@@ -71,6 +71,19 @@ always_weaker disk P Q weaker is = by_told disk.reads is
     by_told None is = tt
     by_told (Some file) is = λ left at. weaker left (is left at)
 
+pub since_weaker : (disk : DiskTold) (P Q : List ℕ → Type 0) → ((file : List ℕ) → P file → Q file) → SinceEntry disk P → SinceEntry disk Q
+since_weaker disk P Q weaker is = record {
+  always = always_weaker disk (λ file. disk.leaves file ⊎ P file) (λ file. disk.leaves file ⊎ Q file)
+      (λ file. elim [ inl was ↦ inl was | inr has ↦ inr (weaker file has) ]) is.always;
+  found = by_told disk.reads is.found;
+}
+  where
+    by_told : (reads : Option (List ℕ))
+        → IfSome reads (λ _. (found : ℕ) × disk.read_until found × ((left : List ℕ) → disk.left_since found left → P left))
+        → IfSome reads (λ _. (found : ℕ) × disk.read_until found × ((left : List ℕ) → disk.left_since found left → Q left))
+    by_told None is = tt
+    by_told (Some file) is = (is.0, is.1, λ left at. weaker left (is.2 left at))
+
 module _ (disk : DiskTold) (text : List ℕ) (grants : List Grant) (stood : StoodFor disk text grants) where
   none_of : (since : List Grant) (file : List ℕ) → StandsFor file text grants → StandsForPrefix text grants since file
   none_of since file stands = (0, subst (StandsFor file text) (sym (append-nil grants)) stands)
@@ -118,5 +131,5 @@ module _ (disk : DiskTold) (text : List ℕ) (grants : List Grant) (stood : Stoo
               (λ file. StandsFor file text (grants ++ added) ⊎ StandsFor file text (grants ++ added ++ unsure))
               (StandsForPrefix text grants since) (unsure_of unsure) is.now,
           always_weaker disk (λ file. disk.leaves file ⊎ StandsForPrefix text grants since file) (StandsForPrefix text grants since)
-              (entry_or since) is.any_moment,
+              (entry_or since) is.any_moment.always,
         )

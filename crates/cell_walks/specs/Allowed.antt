@@ -6,7 +6,7 @@ use Rattle.cell_base.specs.declared.shifts.Grant.{Grant}
 use Rattle.move_journal.specs.Journals.{StandsForPrefix, StandsFor}
 use Rattle.shift_recovery.specs.Replayed.{AreDue, opened_as}
 use Rattle.shift_recovery.specs.declared.faults.JournalFault.{JournalFault}
-use Rattle.cell_walks.specs.DiskTold.{DiskTold, IsAlways, IsNow, IsOnlyRead, IsUntouched, AddsNothing}
+use Rattle.cell_walks.specs.DiskTold.{DiskTold, IsNow, IsOnlyRead, IsUntouched, AddsNothing, SinceEntry}
 use Rattle.outside_io.specs.Files.{IsThere}
 use Rattle.cell_walks.specs.Observed.{FilesTold, Observed, Source, Word, File, Known, HoldsOfBytes}
 use Rattle.cell_walks.specs.Outcomes.{Outcome, early}
@@ -17,11 +17,11 @@ use Rattle.cell_walks.specs.declared.early_end.EarlyEnd.TheVariants.{NotRead, De
 -- ---- the disk
 
 -- The disk stands for the opening grants and those that were added, with none or with all of those whose writing failed, and so does each
--- file that a crash now leaves; a crash since entry left what one at entry might have left, or the opening grants and a prefix of the
--- others; and a writing failed only where the disk did.
+-- file that a crash now leaves; a crash since entry left the opening grants and a prefix of the others, or, until the disk was found to
+-- stand for the opening grants, what one at entry might have left; and a writing failed only where the disk did.
 pub record StandsForAdded (disk : DiskTold) (text : List ℕ) (opening added unsure : List Grant) : Type 0 where
   pub now : IsNow disk (λ file. StandsFor file text (opening ++ added) ⊎ StandsFor file text (opening ++ added ++ unsure))
-  pub any_moment : IsAlways disk (λ file. disk.leaves file ⊎ StandsForPrefix text opening (added ++ unsure) file)
+  pub any_moment : SinceEntry disk (StandsForPrefix text opening (added ++ unsure))
   pub cause : All (λ grant. Rose disk.faults disk.faults_after) unsure
 
 -- how far a command has come with its disk: it was not asked, it is only read, or it stands for the grants that were found on it

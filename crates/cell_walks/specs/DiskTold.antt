@@ -1,23 +1,32 @@
 -- What a disk tells of one call of the program.
-use Rattle.std.specs.Prelude.{◌≡◌, ◌⊎◌, ℕ, List, [], Option, None, IfSome, IsSome, IsSomeAnd}
+use Rattle.std.specs.Prelude.{◌≡◌, ◌⊎◌, ℕ, ◌≤◌, List, [], Option, None, IfSome, IsSome, IsSomeAnd}
 use Rattle.outside_io.specs.Disk.{SameOutcomes}
 use Rattle.outside_io.specs.Meanings.{DiskMeaning}
 use Rattle.cell_base.specs.declared.shifts.Grant.{Grant}
 use Rattle.move_journal.specs.Blanks.{IsBlank}
 use Rattle.move_journal.specs.Journals.{StandsFor}
+use Rattle.shift_recovery.specs.Reads.{OnlyReads}
 
--- What the disk reads as, which files a crash may leave, and how many calls have failed, at entry and at the return; and which files
--- a crash at any moment since entry might have left.
+-- What the disk reads as, which files a crash may leave, and how many calls have failed, at entry and at the return; which files a crash
+-- at any moment since entry might have left, and which one since a later moment; and until which moments it was only read.
 pub record DiskTold : Type 1 where
   pub reads : Option (List ℕ)
   pub reads_after : Option (List ℕ)
   pub leaves : List ℕ → Type 0
   pub leaves_after : List ℕ → Type 0
   pub left : List ℕ → Type 0
+  pub left_since : ℕ → List ℕ → Type 0
+  pub read_until : ℕ → Type 0
   pub faults : ℕ
   pub faults_after : ℕ
 
--- the same, by the meanings of the disk
+-- it was only read until this moment, which came before the return
+abbrev pub IsReadUntil : {D : Type 0} → (D → Option (List ℕ)) → (D → List ℕ → Type 0) → (D → ℕ) → (D → ℕ → List ℕ → Type 0) → D → D → ℕ
+    → Type 0
+IsReadUntil {D} reads_as may_leave moment left_since old new time =
+    (found : D) × OnlyReads reads_as may_leave moment left_since old found × (moment found ≡ time) × (time ≤ moment new)
+
+-- what a disk tells, by its meanings
 abbrev pub disk_told : {D : Type 0} → (D → Option (List ℕ)) → (D → List ℕ → Type 0) → (D → ℕ) → (D → ℕ → List ℕ → Type 0)
     → (D → ℕ) → D → D → DiskTold
 disk_told reads_as may_leave moment left_since faults old new = record {
@@ -26,6 +35,8 @@ disk_told reads_as may_leave moment left_since faults old new = record {
   leaves = may_leave old;
   leaves_after = may_leave new;
   left = left_since new (moment old);
+  left_since = left_since new;
+  read_until = IsReadUntil reads_as may_leave moment left_since old new;
   faults = faults old;
   faults_after = faults new;
 }
@@ -42,6 +53,8 @@ no_disk = record {
   leaves = λ file. ⊥;
   leaves_after = λ file. ⊥;
   left = λ file. ⊥;
+  left_since = λ time file. ⊥;
+  read_until = λ time. ⊥;
   faults = 0;
   faults_after = 0;
 }
@@ -72,6 +85,17 @@ IsNow disk P =
 abbrev pub IsAlways : DiskTold → (List ℕ → Type 0) → Type 0
 IsAlways disk P = IfSome disk.reads (λ _. (left : List ℕ) → disk.left left → P left)
 
+-- where it told, there is a moment until which it was only read, and since which a crash might have left no file of which this doesn't hold
+abbrev pub IsSinceFound : DiskTold → (List ℕ → Type 0) → Type 0
+IsSinceFound disk P =
+    IfSome disk.reads (λ _. (found : ℕ) × disk.read_until found × ((left : List ℕ) → disk.left_since found left → P left))
+
+-- At each moment since entry a crash might have left what one at entry might have left, or a file of which this holds; and what one at
+-- entry might have left only while the disk was still only read.
+pub record SinceEntry (disk : DiskTold) (P : List ℕ → Type 0) : Type 0 where
+  pub always : IsAlways disk (λ file. disk.leaves file ⊎ P file)
+  pub found : IsSinceFound disk P
+
 -- It was blank and stands for no grants; and so does each file since entry that a crash at entry might not have left.
 pub record StaysEmpty (text : List ℕ) (disk : DiskTold) : Type 0 where
   pub blank : IfSome disk.reads IsBlank
@@ -81,11 +105,6 @@ pub record StaysEmpty (text : List ℕ) (disk : DiskTold) : Type 0 where
 -- an end before anything was added to its journal: it was only read, or none could be made where it was blank
 abbrev pub AddsNothing : List ℕ → DiskTold → Type 0
 AddsNothing text disk = IsOnlyRead disk ⊎ StaysEmpty text disk
-
--- It stands for these grants; and so does each file since entry that a crash at entry might not have left.
-pub record StandsOpened (text : List ℕ) (opening : List Grant) (disk : DiskTold) : Type 0 where
-  pub now : IsNow disk (λ file. StandsFor file text opening)
-  pub any_moment : IsAlways disk (λ file. disk.leaves file ⊎ StandsFor file text opening)
 
 -- it told at entry, and a crash then might have left no file but such as stand for these grants
 abbrev pub StoodFor : DiskTold → List ℕ → List Grant → Type 0

@@ -1,6 +1,7 @@
 //! Whole calls over objects in memory: the texts of both commands.
-use carry_commands::{run_begin, run_carry};
+use carry_commands::{Begin, Carry};
 use cell_base::{List, NoMemory};
+use cell_driver::drive;
 use cell_texts::CommandEnd;
 use outside_io::{MemDisk, MemFiles, MemSink};
 use std::alloc::Global;
@@ -50,7 +51,8 @@ fn begin(alloc: Global, cell: &str, start: &str, journal: &[u8]) -> Result<CallE
     files.add("start", start.as_bytes())?;
     let mut out = MemSink::new(alloc, List::new(alloc));
     let disk = MemDisk::new(alloc, journal, List::new(alloc))?;
-    let CommandEnd { status, disk } = run_begin(alloc, &mut files, &mut out, "cell", "start", disk);
+    let begin = Begin { start: "start" };
+    let CommandEnd { status, disk } = drive(&begin, alloc, &mut files, &mut out, "cell", disk);
     Ok(CallEnd {
         status: status.number(),
         out,
@@ -64,7 +66,8 @@ fn carry(alloc: Global, old: &str, new: &str, journal: &[u8]) -> Result<CallEnd,
     files.add("new", new.as_bytes())?;
     let mut out = MemSink::new(alloc, List::new(alloc));
     let disk = MemDisk::new(alloc, journal, List::new(alloc))?;
-    let CommandEnd { status, disk } = run_carry(alloc, &mut files, &mut out, "old", "new", disk);
+    let carry = Carry { other: "new" };
+    let CommandEnd { status, disk } = drive(&carry, alloc, &mut files, &mut out, "old", disk);
     Ok(CallEnd {
         status: status.number(),
         out,

@@ -3,6 +3,7 @@ use cell_base::List;
 use hints::{Ended, hint};
 use outside_io::MemFiles;
 use real_outside::Failure;
+use record_hints::owed;
 use std::alloc::Global;
 use std::io::{Error, ErrorKind};
 use std::test::Fail;
@@ -21,7 +22,7 @@ type = [{ name = "A", route = ["M1", "M2"] }, { name = "Z", route = ["M2", "M1"]
 /// For each fault of a cell file the file, what is printed, and the line.
 const CELLS: &str = r#"= 1
 cell refused 1
-f: TOML parse error at line 1, column 1: invalid key, expected letters, numbers, `-`, `_` or a quoted key
+f: TOML parse error at line 1, column 1: invalid key, expected letters, numbers, `-`, `_` or a quoted key: no TOML document
 color = 1
 cell refused 2 top
 f, "color": its keys are version, resource and type
@@ -69,16 +70,16 @@ cell refused 10
 f: some resources have an order and some have none; give one to all, or to none
 
 cell refused 11 5000
-f: the capacities of all resources add up to more than 4096, namely 5000
+f, units 5000: the capacities of all resources add up to more than 4096
 
 cell refused 12 17
-f, 17 resources: more resources than this command serves; advise takes 7, arrange 16
+f, resources 17: more than this command serves; advise takes 7, arrange 16
 "#;
 
 /// The same for each fault of a shift file.
 const SHIFTS: &str = r#"session
 shift refused 1
-f: TOML parse error at line 1, column 8: key with no value, expected `=`
+f: TOML parse error at line 1, column 8: key with no value, expected `=`: no TOML document
 session = [{ job = 7, x = 1 }]
 shift refused 2 session 1
 f, session 1, "x": its keys are steps; or job, type and path; or machine and turns
@@ -96,10 +97,10 @@ shift refused 5 session 1 path 1
 f, session 1, path 1, 9: it has to be from 0 to 7
 session = [{}, { steps = ["process M9"] }]
 shift refused 6 session 2 steps 0
-f, session 2, step 0, "process M9": the cell has no resource of this name
+f, session 2, step 0, "process M9": the cell has no resource or type of this name
 session = [{ steps = ["load 7 Q"] }]
 shift refused 6 session 1 steps 0
-f, session 1, step 0, "load 7 Q": the cell has no type of this name
+f, session 1, step 0, "load 7 Q": the cell has no resource or type of this name
 session = [{ type = "Q" }]
 shift refused 6 session 1 type
 f, session 1, type "Q": the cell has no type of this name
@@ -111,10 +112,10 @@ shift refused 8 top session 65
 f, session, 65 elements: more than 64
 
 shift refused 9 16385
-f: all sessions together have more than 16384 steps, namely 16385
+f, steps 16385: all sessions together have more than 16384
 
 shift refused 10 1048577
-f: the steps of all sessions times the patience are more than 1048576, namely 1048577
+f, asks 1048577: the steps of all sessions times the patience are more than 1048576
 "#;
 
 /// The same for records, where a stroke stands for a newline.
@@ -135,16 +136,16 @@ no 6 step
 f, line 6, "process M1": this step of the plan is not granted in its turn: refused idle, no part waits for work there
 shift 1 after 0/1 load 7 A granted/left 1/plan 1/process M1/
 no 4 parts
-f, line 4, "plan 1": parts remain when all steps of this plan are taken: 1
+f, line 4, "plan 1": parts remain when all steps of this plan are taken
 shift 1 after 0/1 load 7 A grantd/
 record refused 2
 f, line 2, "1 load 7 A grantd": no record has this line after those before it
 shift 1 after 0/left
 record refused 2
-f, line 2, "left": its newline is missing
+f, line 2, "left", which lacks its newline: no record has this line after those before it
 shift 1 after 0/
 record refused 2
-f, line 2: the text ends before it
+f, line 2, before which the file ends: no record has this line after those before it
 shift 1 after 0/
 record refused 0
 f: more than 160000000 bytes
@@ -162,13 +163,13 @@ check pipe r
 pipe, resource 0, capacity: it has to be from 1 to 1000
 carry c j start
 4 cell refused 1
-start: TOML parse error at line 1, column 7: key with no value, expected `=`
+c or start: no TOML document
 begin c start j
 5 record refused 1
 start, line 1, "place 7 A 0 waiting": no line place JOB TYPE PLACE done, or place JOB TYPE PLACE waiting, of a place that the cell has
 why c j go
 5 step refused
-"go": no step; these are load JOB TYPE, process RESOURCE, move JOB, move JOB BRANCH and unload JOB
+"go": no step of this cell; these are load JOB TYPE, process RESOURCE, move JOB, move JOB BRANCH and unload JOB, with the names of the cell file
 follow c frames j
 5 frames refused
 frames, 10 bytes: no frames; these have 24 bytes each, and at most 50331648 together
@@ -192,22 +193,22 @@ begin c start j
 start, line 1, "place 7 A 0 waiting": a part of this job is in the cell already
 feed c j 9
 10 feed refused 5
-j: its number of grants is 5, and 9 is above that
+j, grants 5: FROM is above this number
 follow c frames j
 10 follow refused 3 frame
-frames, frame of grant 3: its record is none; the file was not made by feed, or was changed
+frames, grant 3: its record is none; the file was not made by feed, or was changed
 follow c frames j
 10 follow refused 3 conflict
-frames, frame of grant 3: the journal has another grant of this number; another controller made the frames
+frames, grant 3: the journal has another grant of this number; another controller made the frames
 follow c frames j
 10 follow refused 3 fit
-frames, frame of grant 3: the cell has no such type, resource or place; the frames are of another cell file
+frames, grant 3: the cell has no such type, resource or place; the frames are of another cell file
 follow c frames j
 10 follow refused 3 at-last
-frames, frame of grant 3: the part is at a last place, from which it is unloaded
+frames, grant 3: the part is at a last place, from which it is unloaded
 follow c frames j
 10 follow refused 3 no-branch
-frames, frame of grant 3: the part's place has no such branch
+frames, grant 3: the part's place has no such branch
 
 2 usage: ..
 no word was given
@@ -216,7 +217,7 @@ sole c
 "sole": no command
 run c
 2 usage: ..
-run CELL SHIFT JOURNAL: words given after the first: 1, wanted: 3
+run CELL SHIFT JOURNAL: another number of words was given
 make x
 2 usage: ..
 make NUMBER, "x": no number from 0 to 18446744073709551615
@@ -233,7 +234,7 @@ const NO_JOURNAL: &str =
     "no journal, and nothing was written to it; name a journal, or a file that isn't there";
 
 const OTHER_CELL: &str =
-    "made with another cell file; give that one, or bring its parts to this one by carry and begin (docs/MOVING.md)";
+    "made with another text of the cell file (a comment counts too); give that one, or bring its parts to this one by carry and begin (docs/MOVING.md)";
 
 const DAMAGED: &str =
     "cut off or changed by another program; nothing was written to it. Keep it, and go on with a copy from before";
@@ -268,13 +269,13 @@ const JOURNALS: [(&str, &str, &str, &str); 7] = [
     (
         "\u{1}RUNCELL1...\u{1}x\u{1}xxxxxxxxxxxxxxxx.",
         "3 14",
-        "byte 14, an open gate with 16 bytes after it that are no grant",
+        "byte 14, an open gate with 16 bytes after it that are no grant, or none that can come there",
         DAMAGED,
     ),
     (
         "\u{1}RUNCELL1...\u{1}x\u{1}\u{1}......\u{1}...\u{7}.....",
         "3 14",
-        "byte 14, a grant that can't come after those before it",
+        "byte 14, an open gate with 16 bytes after it that are no grant, or none that can come there",
         DAMAGED,
     ),
 ];
@@ -312,9 +313,16 @@ fn told(
         line: line.as_bytes(),
         failure,
     };
-    match hint(alloc, &mut held, &ended) {
-        Some(hint) => Ok(hint),
-        None => Ok(String::from_str(alloc, "nothing")?),
+    let Some(hint) = hint(alloc, &mut held, &ended) else {
+        return Ok(String::from_str(alloc, "nothing")?);
+    };
+    let hint = hint.as_str();
+    match owed(alloc, &mut held, &given, ended.line) {
+        Some(owed) if status == 1 => {
+            let owed = owed.as_str();
+            Ok(format!(in alloc; "{hint}: {owed}")?)
+        }
+        _ => Ok(String::from_str(alloc, hint)?),
     }
 }
 
@@ -425,11 +433,10 @@ fn calls_outside_that_fail(rt: HostRuntime) -> Result<(), Fail> {
 
 #[test]
 fn nothing_is_told_where_nothing_is_known(rt: HostRuntime) -> Result<(), Fail> {
-    let cases: [(u8, &str); 9] = [
+    let cases: [(u8, &str); 8] = [
         (0, "yes"),
         (1, "no"),
         (4, "cell refused 13"),
-        (4, "cell refused 2 middle"),
         (5, "shift refused 0"),
         (6, "journal refused 7"),
         (7, "device fault"),
@@ -444,10 +451,25 @@ fn nothing_is_told_where_nothing_is_known(rt: HostRuntime) -> Result<(), Fail> {
 }
 
 #[test]
-fn text_of_a_file_moves_no_cursor(rt: HostRuntime) -> Result<(), Fail> {
-    let files: [(&str, &[u8]); 2] = [("c", CELL.as_bytes()), ("f", b"\x1b[2J\xff\n")];
-    let told = told(rt.alloc(), "check c f", &files, 5, "record refused 1", None)?;
-    let wanted = "f, line 1, \"\\x1b[2J\\xff\": no record has this line after those before it";
-    assert!(rt; told.as_str() == wanted, "{told}");
+fn what_cannot_be_seen_of_a_line_is_told(rt: HostRuntime) -> Result<(), Fail> {
+    let cases: [(&[u8], &str); 3] = [
+        (b"\x1b[2J\xff\n", "\"\\x1b[2J\\xff\""),
+        (
+            b"left 1\r\n",
+            "\"left 1\\x0d\", which ends in a carriage return; lines end in a newline alone",
+        ),
+        (
+            b"\xef\xbb\xbfleft 1\n",
+            "\"\u{feff}left 1\", which begins with a byte order mark",
+        ),
+    ];
+    for (text, found) in cases {
+        let files: [(&str, &[u8]); 2] = [("c", CELL.as_bytes()), ("f", text)];
+        let told = told(rt.alloc(), "check c f", &files, 5, "record refused 1", None)?;
+        let wanted = format!(in rt.alloc();
+            "f, line 1, {found}: no record has this line after those before it"
+        )?;
+        assert!(rt; told.as_str() == wanted.as_str(), "{told}");
+    }
     Ok(())
 }

@@ -13,3 +13,5 @@ mod make_command_tests;
 mod serve_command_tests;
 #[cfg(test)]
 mod standby_commands_tests;
+#[cfg(test)]
+mod stopped_conversations_tests;

@@ -20,6 +20,23 @@ const ANSWERED: &[u8] =
     b"shift 0 after 0\nleft 0\n1 load 7 A granted\n2 load 8 Z refused saturated M2 1 of 1\n1 grants 1\n\
       why load 8 Z refused saturated M2 1 of 1\n1 process M1 granted\nline refused 7\nleft 1\nplan 3\nmove 7\nprocess M2\nunload 7\n";
 
+// What a station asks while the server runs, and what it is told.
+const QUESTIONS: &[u8] =
+    b"next\nroom\njob 9\n1 last\n1 place 9 A 1 waiting\njob 9\n1 process M2\n1 last\n2 last\nnext\n1 unload 9\n1 load 7 A\njob 7\n\
+      1 last\nwhy place 9 A 1 done\n2 place 9 A 2 done\n2 place 9 A 1 done\nroom\njob\n";
+
+const REPLIES: &[u8] =
+    b"shift 0 after 0\nnext none\nroom 1572864\njob 9 none\n1 last 0 none\n1 place 9 A 1 waiting granted\njob 9 A 1 M2 waiting\n\
+      1 process M2 granted\n1 last 2 process M2\n2 last 0 none\nnext unload 9\n1 unload 9 granted\n1 load 7 A granted\n\
+      job 7 A 0 M1 waiting\n1 last 4 load 7 A\nline refused 15\nline refused 16\n2 place 9 A 1 done refused saturated M2 1 of 1\n\
+      room 1572860\nline refused 19\nleft 1\nplan 4\nprocess M1\nmove 7\nprocess M2\nunload 7\n";
+
+const ASKED_LATER: &[u8] = b"1 last\n2 last\nroom\njob 7\nnext\n";
+
+const TOLD_LATER: &[u8] =
+    b"shift 0 after 4\n1 last 4 load 7 A\n2 last 0 none\nroom 1572860\njob 7 A 0 M1 waiting\nnext process M1\nleft 1\nplan 4\n\
+      process M1\nmove 7\nprocess M2\nunload 7\n";
+
 // How a conversation ended, what was put and what of it was handed on, and what the disk holds.
 #[derive(Drop)]
 struct Held {
@@ -40,6 +57,7 @@ fn only(alloc: Global, number: u64) -> Result<List<u64>, Fail> {
 fn hold<R: Wait>(
     rt: &R,
     alloc: Global,
+    asked: &[u8],
     journal: &[u8],
     piece: usize,
     reads: List<u64>,
@@ -49,7 +67,7 @@ fn hold<R: Wait>(
     let mut files = MemFiles::new(alloc, List::new(alloc));
     files.add("cell", CELL)?;
     let disk = MemDisk::new(alloc, journal, calls)?;
-    let mut peer = MemPeer::new(alloc, &disk, ASKED, piece, reads, puts)?;
+    let mut peer = MemPeer::new(alloc, &disk, asked, piece, reads, puts)?;
     let CommandEnd { status, disk } = run_serve(rt, alloc, &mut files, &mut peer, "cell", disk);
     Ok(Held {
         status,
@@ -66,6 +84,7 @@ fn the_answers_are_the_same_for_each_size_of_the_pieces(rt: HostRuntime) -> Resu
         let held = hold(
             &rt,
             alloc,
+            ASKED,
             b"",
             piece,
             List::new(alloc),
@@ -77,6 +96,7 @@ fn the_answers_are_the_same_for_each_size_of_the_pieces(rt: HostRuntime) -> Resu
         let later = hold(
             &rt,
             alloc,
+            ASKED,
             held.journal.as_slice(),
             piece,
             List::new(alloc),
@@ -94,12 +114,35 @@ fn the_answers_are_the_same_for_each_size_of_the_pieces(rt: HostRuntime) -> Resu
 }
 
 #[test]
+fn questions_are_answered_after_what_was_asked_before(rt: HostRuntime) -> Result<(), Fail> {
+    let alloc = rt.alloc();
+    let mut journal = Vec::new(alloc);
+    for (asked, told) in [(QUESTIONS, REPLIES), (ASKED_LATER, TOLD_LATER)] {
+        let held = hold(
+            &rt,
+            alloc,
+            asked,
+            journal.as_slice(),
+            4096,
+            List::new(alloc),
+            List::new(alloc),
+            List::new(alloc),
+        )?;
+        assert_eq!(rt; held.status, Status::Done);
+        assert_eq!(rt; held.heard.as_slice(), told);
+        journal = Vec::from_slice(alloc, held.journal.as_slice())?;
+    }
+    Ok(())
+}
+
+#[test]
 fn a_put_that_fails_cuts_the_answers(rt: HostRuntime) -> Result<(), Fail> {
     let alloc = rt.alloc();
     for put in 1..14 {
         let held = hold(
             &rt,
             alloc,
+            ASKED,
             b"",
             64,
             List::new(alloc),
@@ -118,6 +161,7 @@ fn a_read_that_fails_ends_after_the_answers(rt: HostRuntime) -> Result<(), Fail>
     let held = hold(
         &rt,
         alloc,
+        ASKED,
         b"",
         17,
         only(alloc, 2)?,
@@ -144,6 +188,7 @@ fn a_sync_that_fails_halts_the_first_grant(rt: HostRuntime) -> Result<(), Fail> 
         let held = hold(
             &rt,
             alloc,
+            ASKED,
             b"",
             4096,
             List::new(alloc),

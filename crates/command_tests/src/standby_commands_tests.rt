@@ -1,8 +1,9 @@
 //! Whole calls over objects in memory: the texts of both commands.
 use cell_base::{List, NoMemory};
+use cell_driver::drive;
 use cell_texts::CommandEnd;
 use outside_io::{MemDisk, MemFiles, MemSink};
-use standby_commands::{run_feed, run_follow};
+use standby_commands::{Follow, run_feed};
 use std::alloc::Global;
 use std::test::Fail;
 
@@ -55,9 +56,8 @@ fn follow(alloc: Global, frames: &[[u8; 24]], more: &[u8]) -> Result<CallEnd, No
     files.add("frames", bytes.as_slice())?;
     let mut out = MemSink::new(alloc, List::new(alloc));
     let disk = MemDisk::new(alloc, b"", List::new(alloc))?;
-    let CommandEnd { status, disk } = run_follow(
-        alloc, &mut files, &mut out, "cell", "frames", disk,
-    );
+    let follow = Follow { frames: "frames" };
+    let CommandEnd { status, disk } = drive(&follow, alloc, &mut files, &mut out, "cell", disk);
     Ok(CallEnd {
         status: status.number(),
         out,

@@ -12,7 +12,7 @@ use std::alloc::Global;
 use std::rt::Clock;
 use std::sync::Wait;
 use std::thread::Threads;
-use torn_sinks::TornSink;
+use test_fixtures::TornSink;
 
 /// The one call of the outside that is to fail; puts and reads are numbered from 1. Of a torn put the sink takes the first
 /// half of the piece.

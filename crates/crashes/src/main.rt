@@ -1,6 +1,5 @@
 //! The program `crashes`: shows from outside what is proved of a journal and its recovery, over every case of its tables. It
-//! prints a line a table, and ends with status 1 at the first difference. `crashes large GRANTS ROOM` times the recovery of
-//! a large journal.
+//! prints a line a table, and ends with status 1 at the first difference.
 #![tactic(auto)]
 
 mod answer;
@@ -9,7 +8,6 @@ mod faults;
 mod file;
 mod given;
 mod held;
-mod large;
 mod life;
 mod records;
 mod sample;
@@ -18,41 +16,23 @@ mod stops;
 mod texts;
 mod torn;
 
-use anyhow::{Context, Result, bail};
+use anyhow::Result;
 use cuts::{EVERY_CUT, PIECES, ROOMS, check_cuts};
 use faults::check_faults;
 use given::check_given;
-use large::recover_large;
 use records::check_records;
-use std::env;
 use std::process::ExitCode;
-use std::rt::{Clock, Env};
 use stops::{Stops, check_stops};
 use texts::check_texts;
 
 fn main(rt: HostRuntime) -> ExitCode {
-    match run(&rt) {
+    match check_all(&rt) {
         Ok(()) => ExitCode::SUCCESS,
         Err(error) => {
             let _ = println!(rt; "{error:?}");
             ExitCode::from(1)
         }
     }
-}
-
-fn run<R: Env + Clock + Print + AllocGlobal>(rt: &R) -> Result<()> {
-    let mut words = env::args(rt)?.skip(1);
-    let Some(word) = words.next() else {
-        return check_all(rt);
-    };
-    if word.as_str() != "large" {
-        bail!("no such word: {word}");
-    }
-    let grants = words.next().context("no number of grants")?;
-    let room = words.next().context("no room")?;
-    let grants = grants.parse().context("no number")?;
-    let room = room.parse().context("no number")?;
-    recover_large(rt, grants, room)
 }
 
 fn check_all<R: Print + AllocGlobal>(rt: &R) -> Result<()> {

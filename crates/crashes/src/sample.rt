@@ -3,7 +3,7 @@
 use cell_base::{Grant, JobId, Request, ResId, TypeId};
 
 /// The text of the cell.
-pub use small_cells::CROSSING as CELL;
+pub use test_fixtures::CROSSING as CELL;
 
 /// How many grants a journal may have where a table doesn't say otherwise.
 pub const ROOM: u64 = 1_000;

@@ -1,6 +1,6 @@
 //! Cell files as they are read and printed.
 use cell_file::{CellFault, print_cell, read_cell};
-use small_cells::CROSSING;
+use test_fixtures::CROSSING;
 use std::alloc::Global;
 use std::test::Fail;
 

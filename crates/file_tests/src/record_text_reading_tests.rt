@@ -1,7 +1,7 @@
 //! Texts that are read, and the bad lines of others.
 use cell_base::{Cell, JobType, List, Name, NoMemory, ResId, Step, cell_fits};
 use record_text::{RecordFault, read_record};
-use small_cells::add_machine;
+use test_fixtures::add_machine;
 use std::alloc::Global;
 use std::test::Fail;
 

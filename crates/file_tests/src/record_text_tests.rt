@@ -6,7 +6,7 @@ use cell_base::{
     Cell, Entry, JobId, List, NoMemory, Refusal, Reply, Request, ResId, Told, TypeId, request_fits,
 };
 use record_text::{Line, head_line, left_line, line_of, plan_line, step_line};
-use small_cells::{add_machine, add_type};
+use test_fixtures::{add_machine, add_type};
 use std::alloc::Global;
 use std::test::Fail;
 

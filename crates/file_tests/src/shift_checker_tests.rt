@@ -2,7 +2,7 @@
 use cell_base::{NoMemory, ResId, cell_fits};
 use record_text::{RecordFault, read_record};
 use shift_checker::{Verdict, Why, check, check_text};
-use small_cells::crossing;
+use test_fixtures::crossing;
 use std::alloc::Global;
 use std::test::Fail;
 

@@ -3,7 +3,7 @@ use cell_base::{
     Cell, JobId, JobType, List, Name, NoMemory, Request, ResId, Shift, Step, TypeId, cell_fits,
 };
 use shift_file::{StepFault, read_shift, read_step};
-use small_cells::{add_machine, add_type};
+use test_fixtures::{add_machine, add_type};
 use std::alloc::{AllocError, Global};
 use std::test::Fail;
 

@@ -1,14 +1,7 @@
 //! How a command ended, and the line for a person about it.
-use crate::asked::Asked;
-use crate::cell_line::cell_line;
-use crate::journal_line::journal_line;
-use crate::misfit_line::misfit_line;
-use crate::outside_line::{device_line, failure_line, unread_line};
-use crate::record_line::{record_line, verdict_line};
-use crate::shift_line::shift_line;
-use crate::texts::NO_MEMORY;
-use crate::words::Words;
-use crate::words_line::{frames_line, step_line, words_line};
+use crate::failed::add_failure;
+use crate::file_place::add_place;
+use hint_texts::{Asked, HintLine, NO_MEMORY, Place, Refusal, words_line};
 use outside_io::Files;
 use real_outside::Failure;
 use std::alloc::Global;
@@ -26,44 +19,50 @@ pub struct Ended<'a> {
 }
 
 /// One line for a person after a refusal, without a newline: the file, the place, what was found there, and what is wrong. There is none
-/// where nothing was refused, and where it can't be made, for any cause. Files are read once more for it.
-pub fn hint<F: Files>(alloc: Global, files: &mut F, ended: &Ended<'_>) -> Option<String> {
+/// where nothing was refused, and where it can't be made, for any cause.
+pub fn hint<F: Files>(alloc: Global, files: &mut F, ended: &Ended<'_>) -> Option<HintLine> {
+    let mut hint = HintLine::new(alloc);
     let usage = str::from_utf8(ended.usage).ok()?;
-    let line = str::from_utf8(ended.line).ok()?;
     match ended.status {
-        0 => None,
-        2 => words_line(alloc, usage, ended.words),
-        3 => unread_line(alloc, ended.failure),
-        7 => device_line(alloc, ended.failure?),
-        8 => failure_line(alloc, ended.failure?, ""),
-        9 => String::from_str(alloc, NO_MEMORY).ok(),
-        status => {
+        0 => return None,
+        2 => words_line(&mut hint, usage, ended.words)?,
+        3 | 7 | 8 => add_failure(&mut hint, ended.status, ended.failure)?,
+        9 => hint.add(NO_MEMORY)?,
+        _ => {
+            let line = str::from_utf8(ended.line).ok()?;
             let asked = Asked::new(usage, ended.words)?;
-            refusal_line(alloc, files, &asked, status, line)
+            let refusal = Refusal::of(&asked, line)?;
+            add_refusal(alloc, files, &mut hint, &asked, &refusal, line)?;
         }
     }
+    Some(hint)
 }
 
-// The line of a file, a word or a request that is refused.
-fn refusal_line<F: Files>(
+// Adds what is refused, where in it, and why.
+fn add_refusal<F: Files>(
     alloc: Global,
     files: &mut F,
+    hint: &mut HintLine,
     asked: &Asked<'_>,
-    status: u8,
+    refusal: &Refusal<'_>,
     line: &str,
-) -> Option<String> {
-    match status {
-        1 => verdict_line(alloc, files, asked, line),
-        4 => cell_line(alloc, files, asked, line),
-        5 => match Words::of(line).word()? {
-            "shift" => shift_line(alloc, files, asked, line),
-            "record" => record_line(alloc, files, asked, line),
-            "step" => step_line(alloc, files, asked),
-            "frames" => frames_line(alloc, files, asked),
-            _ => None,
-        },
-        6 => journal_line(alloc, files, asked, line),
-        10 => misfit_line(alloc, files, asked, line),
-        _ => None,
+) -> Option<()> {
+    let name = refusal.given;
+    if refusal.place == Place::Word {
+        hint.quote(name.as_bytes())?;
+    } else {
+        hint.show(name.as_bytes())?;
     }
+    match asked.word("CELL2") {
+        Some(second) if asked.word("CELL") == Some(name) => add_second(hint, second)?,
+        _ => add_place(alloc, files, hint, asked, refusal, line)?,
+    }
+    hint.add(":")?;
+    hint.add(refusal.text)
+}
+
+// Adds the second of two cell files: the line doesn't say which of them is refused, and so neither is looked at.
+fn add_second(hint: &mut HintLine, name: &str) -> Option<()> {
+    hint.add(" or ")?;
+    hint.show(name.as_bytes())
 }

@@ -4,32 +4,21 @@
 //! plain words of it, with the file's name and the value that stands there:
 //!
 //! ```text
-//! shift.toml, session 2, step 0, "process M9": the cell has no resource of this name
+//! shift.toml, session 2, step 0, "process M9": the cell has no resource or type of this name
 //! ```
 //!
-//! It is made after the command has ended, of the line that was printed last and of the files, which are read once more. So no command
-//! knows of it, and where it can't be made there is none. `texts` is the table of what is wrong, one text for each fault.
+//! It is made after the command has ended, of the line that was printed last: that line says what the readers found, and nothing is judged
+//! once more. Of the file only what stands at the place is looked at. `hint_texts` has a text for each fault. Where a line can't be made
+//! there is none.
 #![tactic(auto)]
 
-mod asked;
-mod cell_line;
-mod document;
 mod ended;
-mod journal_line;
-mod listed;
-mod misfit_line;
-mod outside_line;
-mod placed;
-mod printed;
-mod quoted;
+mod failed;
+mod file_place;
+mod journal_place;
 mod reading;
-mod record_line;
-mod replay;
-mod replies;
-mod shift_line;
-mod texts;
-mod toml_line;
-mod words;
-mod words_line;
+mod spot;
+mod toml_place;
+mod values;
 
 pub use ended::{Ended, hint};

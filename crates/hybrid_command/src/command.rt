@@ -17,7 +17,7 @@ use printer::Printer;
 use solo_rounds::steps_of;
 use std::alloc::Global;
 
-/// The command, with the name of the shift. All memory is taken before the first session asks.
+/// The command `hybrid`, with the name of the shift. All memory is taken before the first session asks.
 #[derive(Drop)]
 pub struct HybridShift<'a> {
     pub shift: &'a str,

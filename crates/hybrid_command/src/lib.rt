@@ -4,7 +4,8 @@
 //! in the place of a saturation has the reason `blocked`. The command is a walk in `specs/Hybrid`, which `cell_driver::drive` goes.
 //!
 //! ```text
-//! let CommandEnd { status, disk } = run_hybrid(alloc, &mut files, &mut out, "cell.toml", "shift.toml", disk);
+//! let hybrid = HybridShift { shift: "shift.toml" };
+//! let CommandEnd { status, disk } = drive(&hybrid, alloc, &mut files, &mut out, "cell.toml", disk);
 //! ```
 #![tactic(auto)]
 
@@ -12,7 +13,5 @@ mod command;
 mod lines;
 mod planning;
 mod printing;
-mod running;
 
 pub use command::{HybridRun, HybridShift};
-pub use running::run_hybrid;

@@ -83,11 +83,11 @@ written_over room bytes old all =
     ap (λ (n : ℕ). take n (bytes ++ drop (length bytes) old)) (sym all) ∙ take-append_seam bytes (drop (length bytes) old)
 
 -- what is kept of some bytes
-pub kept_first : (front bytes : List ℕ) (n : ℕ) → length front ≤ 65 → n ≡ min (length bytes) (65 - length front)
-    → front ++ take n bytes ≡ take 65 (front ++ bytes)
+pub kept_first : (front bytes : List ℕ) (n : ℕ) → length front ≤ 67 → n ≡ min (length bytes) (67 - length front)
+    → front ++ take n bytes ≡ take 67 (front ++ bytes)
 kept_first front bytes n few is =
-    let room : ℕ = 65 - length front in
-    let all : 65 ≡ length front + room = omega (arith, few) in
+    let room : ℕ = 67 - length front in
+    let all : 67 ≡ length front + room = omega (arith, few) in
     let front_of : take n bytes ≡ take room bytes = elim (cases_lt room (length bytes)) [
       | inl more ↦ ap (λ (k : ℕ). take k bytes) (omega (arith, is, more))
       | inr less ↦ take_all n bytes (omega (arith, is, less)) ∙ sym (take_all room bytes (omega (arith, less)))
@@ -124,11 +124,11 @@ take_front (suc n) (x ∷ front) rest = ap (λ (xs : List ℕ). x ∷ xs) (take_
 module _ (text : List ℕ) (given : List (List ℕ)) (old new : LinesState) (reading : AreLinesSoFar text given old) where
   -- a line is given
   pub reads_line : (count : ℕ) → Some count ≡ position is_newline old.ahead → new.ahead ≡ drop (suc count) old.ahead
-      → new.begun ≡ [] → new.line ≡ take 65 (old.begun ++ take count old.ahead)
-      → (line : List ℕ) × (new.line ≡ take 65 line) × AreLinesSoFar text (given ++ line ∷ []) new
+      → new.begun ≡ [] → new.line ≡ take 67 (old.begun ++ take count old.ahead)
+      → (line : List ℕ) × (new.line ≡ take 67 line) × AreLinesSoFar text (given ++ line ∷ []) new
   reads_line count at ahead begun line = (
     reading.begun ++ take count old.ahead,
-    line ∙ ap (λ (o : List ℕ). take 65 (o ++ take count old.ahead)) reading.kept ∙ take_front 65 reading.begun (take count old.ahead),
+    line ∙ ap (λ (o : List ℕ). take 67 (o ++ take count old.ahead)) reading.kept ∙ take_front 67 reading.begun (take count old.ahead),
     record {
       begun = [];
       kept = begun;
@@ -140,11 +140,11 @@ module _ (text : List ℕ) (given : List (List ℕ)) (old new : LinesState) (rea
   )
 
   -- there is none
-  pub reads_none : None ≡ position is_newline old.ahead → new.ahead ≡ [] → new.begun ≡ take 65 (old.begun ++ old.ahead)
+  pub reads_none : None ≡ position is_newline old.ahead → new.ahead ≡ [] → new.begun ≡ take 67 (old.begun ++ old.ahead)
       → AreLinesSoFar text given new
   reads_none none ahead begun = record {
     begun = reading.begun ++ old.ahead;
-    kept = begun ∙ ap (λ (o : List ℕ). take 65 (o ++ old.ahead)) reading.kept ∙ take_front 65 reading.begun old.ahead;
+    kept = begun ∙ ap (λ (o : List ℕ). take 67 (o ++ old.ahead)) reading.kept ∙ take_front 67 reading.begun old.ahead;
     goes_on = λ more. reading.goes_on more ∙ ap (λ (lines : List (List ℕ)). given ++ lines)
         (without_newline reading.begun old.ahead more none
         ∙ ap (λ (rest : List ℕ). lines_after (reading.begun ++ old.ahead) (rest ++ more)) (sym ahead));

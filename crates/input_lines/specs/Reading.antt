@@ -16,7 +16,7 @@ reading piece at end begun line = record { begun = begun; ahead = slice_range pi
 -- Of this text these lines were given: whatever comes after it, its other whole lines are those of what was read and of that.
 pub record AreLinesSoFar (text : List ℕ) (given : List (List ℕ)) (lines : LinesState) : Type 0 where
   pub begun : List ℕ
-  pub kept : lines.begun ≡ take 65 begun
+  pub kept : lines.begun ≡ take 67 begun
   pub goes_on : (more : List ℕ) → whole_lines (text ++ more) ≡ given ++ lines_after begun (lines.ahead ++ more)
 
 -- The source gave a piece of so many bytes: it is ahead, and comes after the text that was read.

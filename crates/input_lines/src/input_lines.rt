@@ -14,7 +14,7 @@ use std::alloc::Global;
 use std::marker::Model;
 
 /// How many bytes of a line are kept.
-pub const LINE_KEPT: usize = 65;
+pub const LINE_KEPT: usize = 67;
 
 // How many bytes are asked for at a time: as many as a pipe gives at once.
 const PIECE_BYTES: usize = 65_536;

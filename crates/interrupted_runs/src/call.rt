@@ -4,7 +4,7 @@ use anyhow::{Context, Result, bail};
 use cell_base::List;
 use cell_program::{Ended, cell_main};
 use outside_io::{DiskCall, FreePace, MemDisk, MemFiles, MemSink, Pace};
-use small_cells::CROSSING;
+use test_fixtures::CROSSING;
 use std::alloc::Global;
 use std::sync::Wait;
 use std::thread::Threads;
@@ -133,7 +133,8 @@ fn call<R: Threads + Wait + Sync, P: Pace + Sync>(
     CallEnd::new(alloc, ended, out.bytes())
 }
 
-fn owned(alloc: Global, words: &[&str]) -> Result<Vec<String>> {
+/// Words, as a command line has them.
+pub fn owned(alloc: Global, words: &[&str]) -> Result<Vec<String>> {
     let mut owned = Vec::new(alloc);
     for word in words {
         owned.push(String::from_str(alloc, word)?)?;

@@ -1,6 +1,6 @@
 //! A conversation with a server, over objects in memory.
 
-use crate::call::{CallEnd, files_with};
+use crate::call::{CallEnd, files_with, owned};
 use anyhow::{Context, Result, bail};
 use cell_base::List;
 use cell_program::{Ended, serve_main};
@@ -8,7 +8,7 @@ use outside_io::{CallKind, DiskCall, MemDisk, MemSource};
 use peers::{MemPeer, Peer, Silent};
 use std::alloc::Global;
 use std::sync::Wait;
-use torn_sinks::TornSink;
+use test_fixtures::TornSink;
 
 /// A kind of call of the outside. Of a torn put the sink takes the first half of the piece.
 #[derive(Clone, Copy, Debug)]
@@ -80,7 +80,8 @@ fn ask_over<R: Wait, T: Peer<MemDisk>>(
     peer: &mut T,
 ) -> Result<Ended<MemDisk>> {
     let mut files = files_with(alloc, b"")?;
-    Ok(serve_main(rt, alloc, &mut files, peer, "cell", disk))
+    let words = owned(alloc, &["serve", "cell", "journal"])?;
+    Ok(serve_main(rt, alloc, &words, &mut files, peer, disk))
 }
 
 fn push<T: Drop>(calls: &mut List<T>, call: T) -> Result<()> {

@@ -4,7 +4,7 @@ use anyhow::{Result, bail};
 use cell_base::{Grant, List};
 use outside_io::Disk;
 use shift_recovery::{Opened, recover};
-use small_cells::CROSSING;
+use test_fixtures::CROSSING;
 use std::alloc::Global;
 
 // More grants than any shift here has.

@@ -9,7 +9,7 @@ use cell_file::read_cell;
 use cell_lock::{Pass, SharedCell};
 use durable_cell::{AskFault, Durable, Opening};
 use outside_io::Disk;
-use small_cells::CROSSING;
+use test_fixtures::CROSSING;
 use std::alloc::Global;
 use std::sync::Wait;
 

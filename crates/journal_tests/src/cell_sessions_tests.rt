@@ -6,7 +6,7 @@ use cell_base::{
 };
 use cell_sessions::{BeginFault, Progress, ShiftGrants, begin, solo};
 use shift_recovery::Taker;
-use small_cells::cell_of_one;
+use test_fixtures::cell_of_one;
 use std::alloc::Global;
 use std::test::Fail;
 

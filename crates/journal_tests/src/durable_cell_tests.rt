@@ -4,7 +4,7 @@ use cell_base::{
 };
 use durable_cell::{AskFault, Durable, Opening};
 use outside_io::{CallKind, Disk, DiskCall, MemDisk};
-use small_cells::cell_of_one;
+use test_fixtures::cell_of_one;
 use std::alloc::Global;
 use std::test::Fail;
 

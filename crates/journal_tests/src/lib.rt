@@ -26,4 +26,4 @@ mod shift_recovery_tests;
 #[cfg(test)]
 mod standby_link_tests;
 #[cfg(test)]
-mod torn_sinks_tests;
+mod torn_sink_tests;

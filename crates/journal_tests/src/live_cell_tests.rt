@@ -7,7 +7,7 @@ use cell_base::{
 use live_cell::{JournalFull, LiveCell, LiveParts, OpenedLive};
 use outside_io::{CallKind, Disk, DiskCall, MemDisk};
 use shift_recovery::{OpenError, OpenFault};
-use small_cells::cell_of_one;
+use test_fixtures::cell_of_one;
 use std::alloc::Global;
 use std::test::Fail;
 

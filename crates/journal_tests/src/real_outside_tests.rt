@@ -3,6 +3,7 @@ use outside_io::{Disk, Failed, FileFail, Files, Pace, Sink, Source};
 use real_outside::{DirFiles, FileDisk, InSource, OutSink, Purpose, RestPace};
 use std::fs;
 use std::io::{self, Error, ErrorKind, Read, Write};
+use std::os::unix::fs::FileExt;
 use std::test::Fail;
 use std::time::{Duration, Instant};
 
@@ -51,23 +52,87 @@ fn a_journal_is_written_and_read_back(rt: HostRuntime) -> Result<(), Fail> {
         assert_eq!(rt; disk.read_at(0, &mut bytes), Ok(()));
         assert_eq!(rt; bytes.as_slice(), b"abde".as_slice());
         assert_eq!(rt; disk.read_at(1, &mut bytes), Err(Failed));
-        for purpose in [Purpose::ToRead, Purpose::ToAdd] {
-            assert_eq!(rt;
-                FileDisk::new(&rt, alloc, "journal", purpose, false).len(),
-                Err(Failed)
-            );
-        }
+        assert_eq!(rt;
+            FileDisk::new(&rt, alloc, "journal", Purpose::ToAdd, false).len(),
+            Err(Failed)
+        );
+        let mut one = FileDisk::new(&rt, alloc, "journal", Purpose::ToRead, false);
+        let mut other = FileDisk::new(&rt, alloc, "journal", Purpose::ToRead, false);
+        assert_eq!(rt; one.sync(), Ok(()));
+        assert_eq!(rt; other.len(), Ok(4));
+        assert_eq!(rt; one.write_at(0, b"x"), Err(Failed));
+        assert_eq!(rt; (disk.was_absent(), one.was_absent()), (true, false));
     }
-    let mut one = FileDisk::new(&rt, alloc, "journal", Purpose::ToRead, false);
-    let mut other = FileDisk::new(&rt, alloc, "journal", Purpose::ToRead, false);
-    assert_eq!(rt; one.sync(), Ok(()));
-    assert_eq!(rt; other.len(), Ok(4));
-    assert_eq!(rt; one.write_at(0, b"x"), Err(Failed));
-    assert_eq!(rt;
-        FileDisk::new(&rt, alloc, "journal", Purpose::ToAdd, false).len(),
-        Err(Failed)
-    );
+    let mut looked = FileDisk::new(&rt, alloc, "journal", Purpose::ToRead, false);
+    assert_eq!(rt; looked.len(), Ok(4));
+    let mut disk = FileDisk::new(&rt, alloc, "journal", Purpose::ToAdd, false);
+    assert_eq!(rt; disk.len(), Ok(4));
+    assert_eq!(rt; disk.was_absent(), false);
     fs::remove_file(&rt, "journal")?;
+    Ok(())
+}
+
+// A journal of a cell text of no bytes, before and after the gate of its grant is opened.
+const CLOSED: &[u8; 31] = b"\x01RUNCELL1\0\0\0\0\x000123456789abcdef\0";
+
+const OPEN: &[u8; 31] = b"\x01RUNCELL1\0\0\0\0\x010123456789abcdef\0";
+
+// The bytes that a look at a file of these bytes reads, where others stand there before it reads.
+fn looked(rt: &HostRuntime, before: &[u8], after: &[u8]) -> Result<Vec<u8>, Fail> {
+    fs::write(rt, "looked", before)?;
+    let mut look = FileDisk::new(rt, rt.alloc(), "looked", Purpose::ToRead, false);
+    let _ = look.len()?;
+    fs::OpenOptions::new()
+        .write(true)
+        .open(rt, "looked")?
+        .write_all_at(after, 0)?;
+    let mut read = vec![in rt.alloc(); 9; before.len()]?;
+    let (first, rest) = read.split_at_mut(before.len() / 2);
+    look.read_at(0, first)?;
+    look.read_at(first.len() as u64, rest)?;
+    look.sync()?;
+    fs::remove_file(rt, "looked")?;
+    Ok(read)
+}
+
+#[test]
+fn a_look_ends_where_the_journal_ended_when_it_began(rt: HostRuntime) -> Result<(), Fail> {
+    for length in 1..31 {
+        // Up to the whole head the file's own gate is the last one, and then the gate of the first record.
+        let last = if length <= 13 { 0 } else { 13 };
+        let mut wanted = *OPEN;
+        wanted[last] = 0;
+        assert_eq!(rt;
+            looked(&rt, &CLOSED[..length], OPEN)?.as_slice(),
+            &wanted[..length]
+        );
+    }
+    // What hasn't grown is read as it is, and so is what is no journal.
+    for (before, after, wanted) in [
+        (CLOSED.as_slice(), OPEN.as_slice(), OPEN.as_slice()),
+        (&OPEN[..20], &OPEN[..20], &OPEN[..20]),
+        (b"log", b"log of somebody", b"log"),
+    ] {
+        assert_eq!(rt; looked(&rt, before, after)?.as_slice(), wanted);
+    }
+    Ok(())
+}
+
+#[test]
+fn a_file_that_is_cut_shorter_or_exchanged_is_a_fault(rt: HostRuntime) -> Result<(), Fail> {
+    fs::write(&rt, "cut", "abcd")?;
+    let mut look = FileDisk::new(&rt, rt.alloc(), "cut", Purpose::ToRead, false);
+    assert_eq!(rt; look.len(), Ok(4));
+    fs::write(&rt, "cut", "abc")?;
+    assert_eq!(rt; look.read_at(0, &mut [0]), Err(Failed));
+    assert_eq!(rt; look.sync(), Err(Failed));
+    let mut look = FileDisk::new(&rt, rt.alloc(), "cut", Purpose::ToRead, false);
+    assert_eq!(rt; look.sync(), Ok(()));
+    fs::write(&rt, "other", "abc")?;
+    fs::rename(&rt, "other", "cut")?;
+    assert_eq!(rt; look.sync(), Err(Failed));
+    fs::remove_file(&rt, "cut")?;
+    assert_eq!(rt; look.sync(), Err(Failed));
     Ok(())
 }
 
@@ -88,6 +153,7 @@ fn only_a_regular_file_is_a_journal(rt: HostRuntime) -> Result<(), Fail> {
     assert_eq!(rt; disk.read_at(0, &mut []), Ok(()));
     assert_eq!(rt; disk.read_at(0, &mut [0]), Err(Failed));
     assert_eq!(rt; disk.write_at(0, b"a"), Err(Failed));
+    assert!(rt; disk.was_absent());
     assert!(rt; !fs::exists(&rt, "absent")?);
     Ok(())
 }

@@ -1,18 +1,18 @@
 -- What the disk of a durable cell tells, by what the durable cell keeps.
-use Rattle.std.specs.Prelude.{MatchOption}
+use Rattle.std.specs.Prelude.{IfSome, MatchOption, ⊤}
 use Rattle.std.specs.Option.{option_to_list}
 use Rattle.std.proofs.Common.{◌≡◌, ◌⊎◌, inl, inr, ℕ, List, [], ◌++◌, All, Option, Some, None, sym, subst, append_assoc}
 use Rattle.std.proofs.lemmas.List.Elements.{All-cons, All-nil}
 use Rattle.cell_base.specs.declared.shifts.Grant.{Grant}
 use Rattle.outside_io.specs.Causes.{Rose}
-use Rattle.outside_io.specs.Disk.{LeavesOnly}
+use Rattle.outside_io.specs.Disk.{LeavesOnly, Turns}
+use Rattle.outside_io.specs.Telling.{told, turned, where_told}
 use Rattle.durable_cell.specs.DurableState.{DurableState}
 use Rattle.durable_cell.specs.Kept.{KeepsDisk, StandsBetween, StandsNow}
-use Rattle.durable_cell.specs.Moments.{since_entry}
 use Rattle.move_journal.specs.Journals.{StandsFor}
 use Rattle.cell_walks.specs.Allowed.{StandsForAdded}
 use Rattle.cell_walks.specs.DiskTold.{disk_told}
-use Rattle.journal_texts.proofs.Disks.{always_told, now_told}
+use Rattle.journal_texts.proofs.Disks.{now_told, since_entry}
 
 module _ {D : Type 0} (reads_as : D → Option (List ℕ)) (may_leave : D → List ℕ → Type 0) (moment : D → ℕ)
     (left_since : D → ℕ → List ℕ → Type 0) (faults : D → ℕ) (durable : DurableState D)
@@ -35,18 +35,20 @@ module _ {D : Type 0} (reads_as : D → Option (List ℕ)) (may_leave : D → Li
   caused (Some last) count =
       let P : Grant → Type 0 = λ grant. Rose (faults durable.entry) (faults durable.disk) in All-cons P last [] count (All-nil P)
 
+  since_found : IfSome (reads_as durable.entry) (λ _. LeavesOnly moment left_since durable.found durable.disk (StandsBetween durable))
+  since_found = where_told (reads_as durable.entry) (λ _. LeavesOnly moment left_since durable.found durable.disk (StandsBetween durable))
+      (λ file is. let now = turned (reads_as durable.entry) (reads_as durable.disk) (λ _ _. ⊤) file is keeps.tells in
+      told (reads_as durable.disk) (λ _. LeavesOnly moment left_since durable.found durable.disk (StandsBetween durable)) now.0 now.1
+      keeps.any_moment)
+
   stands_now : StandsForAdded (disk_told reads_as may_leave moment left_since faults durable.entry durable.disk) durable.text
       durable.opening durable.added (option_to_list durable.unsure)
   stands_now = record {
     now = now_told (reads_as durable.entry) (reads_as durable.disk) (may_leave durable.disk) (StandsNow durable)
         (Stands (option_to_list durable.unsure))
         (λ file. by_unsure file (option_to_list durable.unsure)) keeps.tells keeps.stands;
-    any_moment = always_told (reads_as durable.entry) (reads_as durable.disk) (left_since durable.disk (moment durable.entry))
-        (LeavesOnly moment left_since durable.entry durable.disk (λ file. may_leave durable.entry file ⊎ StandsBetween durable file))
-        (λ file. may_leave durable.entry file ⊎ StandsBetween durable file)
-        (λ file. may_leave durable.entry file ⊎ StandsBetween durable file)
-        (λ file is. is) (λ only. only.each) keeps.tells
-        (since_entry reads_as may_leave moment left_since faults durable keeps);
+    any_moment = since_entry reads_as may_leave moment left_since faults durable.entry durable.found durable.disk (StandsBetween durable)
+        keeps.read since_found;
     cause = caused durable.unsure keeps.count;
   }
 

@@ -1,15 +1,21 @@
 -- A journal that was read: its grants, and the state after them.
-use Rattle.std.specs.Prelude.{◌≡◌, ℕ, List, length}
+use Rattle.std.specs.Prelude.{◌≡◌, ℕ, List, length, IfSome}
 use Rattle.std.specs.List.{All}
 use Rattle.cell_base.specs.declared.shifts.Grant.{Grant}
 use Rattle.cell_base.specs.Fits.{RequestFits}
 use Rattle.cell_base.specs.Histories.{replay}
+use Rattle.outside_io.specs.Disk.{Only}
 use Rattle.cell_walks.specs.Allowed.{IsOpenedAs}
 use Rattle.cell_walks.specs.DiskTold.{DiskTold}
 use Rattle.cell_walks.specs.Walks.{Journal}
 use Rattle.journal_texts.specs.declared.readers.AfterGrants.{AfterGrants}
 use Rattle.journal_texts.specs.declared.readers.Found.{Found}
 use Rattle.journal_texts.specs.declared.readers.Replayed.{Replayed}
+
+-- what was read is stable: no call failed, and a crash now leaves no other file than the one that the disk reads as
+pub record IsStable (disk : DiskTold) : Type 0 where
+  pub counts : disk.faults_after ≡ disk.faults
+  pub leaves : IfSome disk.reads (λ file. Only file disk.leaves_after)
 
 -- the state after the grants of a journal that was opened, and how many they are
 pub record IsAfterGrants (disk : DiskTold) (journal : Journal) (after : AfterGrants) : Type 0 where

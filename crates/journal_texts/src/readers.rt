@@ -2,7 +2,7 @@
 ghost use Rattle.std.specs.Prelude.{◌≡◌, ◌≤◌, ℕ, [], length, IfOk, IfErr};
 ghost use Rattle.cell_walks.specs.Clauses.{IsNotOpened, IsOnlyRead, disk_told};
 ghost use Rattle.cell_texts.specs.Clauses.{CellFits, MAX_CELL_BYTES, known};
-ghost use Rattle.journal_texts.specs.Clauses.{GrantsFit, IsAfterGrants, IsFound, IsReplayed, to_read};
+ghost use Rattle.journal_texts.specs.Clauses.{GrantsFit, IsAfterGrants, IsFound, IsReplayed, IsStable, to_read};
 
 use crate::refusals::at_journal_fault;
 use admission_core::Core;
@@ -28,7 +28,8 @@ pub struct Found {
     pub grants: List<Grant>,
 }
 
-/// The state after the grants of the cell that stand on a disk, or the end in its place. It only reads, and keeps no list of the grants.
+/// The state after the grants of the cell that stand on a disk, or the end in its place. It only reads, and keeps no list of the grants. What
+/// it tells is stable: it syncs once more after the last read.
 pub fn read_journal<D: Disk>(alloc: Global, held: CellFile, disk: D) -> Made<AfterGrants, D>
     requires fits { CellFits held.cell }
     requires short { length held.text.items ≤ MAX_CELL_BYTES }
@@ -37,6 +38,8 @@ pub fn read_journal<D: Disk>(alloc: Global, held: CellFile, disk: D) -> Made<Aft
     ensures ended { IfErr result.made (IsNotOpened
         (disk_told D.reads_as D.may_leave D.moment D.left_since D.faults disk result.disk) (to_read (known held))) }
     ensures only_read { IsOnlyRead (disk_told D.reads_as D.may_leave D.moment D.left_since D.faults disk result.disk) }
+    ensures stable { IfOk result.made (λ _. IsStable
+        (disk_told D.reads_as D.may_leave D.moment D.left_since D.faults disk result.disk)) }
 {
     let Made { made, disk } = replay_journal(alloc, held, disk, Unkept);
     let made = match made {
@@ -49,7 +52,8 @@ pub fn read_journal<D: Disk>(alloc: Global, held: CellFile, disk: D) -> Made<Aft
     Made { made, disk }
 }
 
-/// The grants of the cell that stand on a disk, with the state after them, or the end in their place. It only reads.
+/// The grants of the cell that stand on a disk, with the state after them, or the end in their place. It only reads, and what it tells is
+/// stable.
 pub fn find_grants<D: Disk>(alloc: Global, held: CellFile, disk: D) -> Made<Found, D>
     requires fits { CellFits held.cell }
     requires short { length held.text.items ≤ MAX_CELL_BYTES }
@@ -59,6 +63,8 @@ pub fn find_grants<D: Disk>(alloc: Global, held: CellFile, disk: D) -> Made<Foun
     ensures ended { IfErr result.made (IsNotOpened
         (disk_told D.reads_as D.may_leave D.moment D.left_since D.faults disk result.disk) (to_read (known held))) }
     ensures only_read { IsOnlyRead (disk_told D.reads_as D.may_leave D.moment D.left_since D.faults disk result.disk) }
+    ensures stable { IfOk result.made (λ _. IsStable
+        (disk_told D.reads_as D.may_leave D.moment D.left_since D.faults disk result.disk)) }
 {
     let Made { made, disk } = replay_journal(alloc, held, disk, List::new(alloc));
     match made {
@@ -98,17 +104,26 @@ fn replay_journal<D: Disk, K: Taker + Drop>(
     ensures ended { IfErr result.made (IsNotOpened
         (disk_told D.reads_as D.may_leave D.moment D.left_since D.faults disk result.disk) (to_read (known held))) }
     ensures only_read { IsOnlyRead (disk_told D.reads_as D.may_leave D.moment D.left_since D.faults disk result.disk) }
+    ensures stable { IfOk result.made (λ _. IsStable
+        (disk_told D.reads_as D.may_leave D.moment D.left_since D.faults disk result.disk)) }
 {
     let CellFile { cell, text } = held;
     match resume(alloc, cell, &text, disk, MAX_ROOM, kept) {
-        Ok(Resumed { core, stored, kept }) => Made {
-            made: Ok(Replayed {
-                core,
-                count: stored.count(),
-                kept,
-            }),
-            disk: stored.into_disk(),
-        },
+        Ok(Resumed { core, stored, kept }) => {
+            let count = stored.count();
+            let mut disk = stored.into_disk();
+            // While it was read another program may have added to it.
+            if disk.sync().is_err() {
+                return Made {
+                    made: Err(EarlyEnd::DeviceFailed),
+                    disk,
+                };
+            }
+            Made {
+                made: Ok(Replayed { core, count, kept }),
+                disk,
+            }
+        }
         Err(OpenError { disk, why }) => match why {
             OpenFault::Refused(why) => Made {
                 made: Err(at_journal_fault(why)),

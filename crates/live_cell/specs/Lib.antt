@@ -1,5 +1,4 @@
 -- What the contracts cite.
 pub mod Acknowledged
 pub mod LiveState
-pub mod Moments
 pub mod Openings

@@ -191,6 +191,13 @@ impl<D: Disk> LiveCell<D> {
         self.most - self.group.grants().len() as u64
     }
 
+    /// How many grants more the journal may have, beside those that are pending.
+    pub fn room_left(&self) -> u64
+        ensures { result + self.now.len + length self.now.pending ≡ self.now.room }
+    {
+        self.room - self.journal.len() - self.group.grants().len() as u64
+    }
+
     /// The number of grants on the disk.
     pub fn len(&self) -> u64
         ensures { result ≡ self.now.len }

@@ -1,6 +1,5 @@
 -- What the clauses of this crate name of records, their lines and their verdicts.
 pub use Rattle.cell_base.specs.Plans.{resource_of_part}
-pub use Rattle.step_text.specs.Steps.{done_word}
 pub use Rattle.record_text.specs.Blocks.{AreBlocks}
 pub use Rattle.record_text.specs.Lines.{line_of}
 pub use Rattle.record_text.specs.Records.{text_of_block}

@@ -11,7 +11,7 @@ use outside_io::{Disk, Files, Sink};
 use printer::Printer;
 use std::alloc::Global;
 
-/// The command. The grants are held once: each line is made of its grant.
+/// The command `grants`. The grants are held once: each line is made of its grant.
 pub struct Grants;
 
 impl Command for Grants {

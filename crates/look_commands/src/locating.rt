@@ -4,14 +4,14 @@ ghost use Rattle.cell_base.specs.Neighborhoods.{count};
 ghost use Rattle.cell_base.specs.Stages.{IsStage, stage_of};
 ghost use Rattle.cell_texts.specs.Clauses.{CellFits};
 ghost use Rattle.printer.specs.Printing.{Prints};
-ghost use Rattle.look_commands.specs.Clauses.{done_word, line_of, resource_of_part, spaced};
+ghost use Rattle.look_commands.specs.Clauses.{line_of, resource_of_part, spaced};
 ghost use Rattle.look_commands.specs.Parts.{part_line, parts_lines, parts_on, resource_lines, resource_words, share_words};
 
 use admission_core::Core;
 use cell_base::{Cell, Part, ResId};
 use outside_io::Sink;
 use printer::Printer;
-use record_text::{Line, add_resource, add_type};
+use record_text::{Line, add_resource, add_type, done_word};
 
 /// Prints each resource of a core with its parts, which are these.
 pub fn print_parts<K: Sink>(out: &mut Printer<K>, core: &Core, parts: &[Part])
@@ -111,12 +111,4 @@ fn part_line(cell: &Cell, part: Part) -> Line
     line.number(part.place);
     line.word(done_word(part.done));
     line.end()
-}
-
-// Whether the work of a part is done.
-fn done_word(done: bool) -> &'static [u8]
-    ensures word { result.now ≡ done_word done }
-    ensures len { length result.now ≤ 7 }
-{
-    if done { b"done" } else { b"waiting" }
 }

@@ -14,7 +14,7 @@ use outside_io::{Disk, Files, Sink};
 use printer::Printer;
 use std::alloc::Global;
 
-/// The command.
+/// The command `parts`.
 pub struct Parts;
 
 /// A core, and its parts in the order of arrival.

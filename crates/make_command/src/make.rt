@@ -1,6 +1,6 @@
 //! `make NUMBER`: a shift that is drawn from a number, its sessions in rounds on the empty cell that is drawn with it.
 ghost use Rattle.std.specs.Prelude.{◌≡◌};
-ghost use Rattle.cell_walks.specs.Clauses.{Ends, disk_told, files_told, no_disk, observed, sink_told};
+ghost use Rattle.cell_walks.specs.Clauses.{Ends, disk_seen, files_seen, no_disk, observed, sink_seen};
 ghost use Rattle.make_command.specs.Clauses.{make};
 
 use crate::printing::print_summary;
@@ -21,9 +21,8 @@ pub fn run_make<F: Files, K: Sink, D: Disk>(
     usage: &[u8],
     disk: D,
 ) -> CommandEnd<D>
-    ensures ends { let files = files_told F.holds F.is_sound F.faults files.now files.now in
-        let disk = disk_told D.reads_as D.may_leave D.moment D.left_since D.faults disk result.disk in
-        Ends (observed files disk) (sink_told K.taken K.was_put K.faults out.old out.new) (make usage.now number.now) result.status }
+    ensures ends { Ends (observed (files_seen F.Files files.now files.now) (disk_seen D.Disk disk result.disk))
+        (sink_seen K.Sink out.old out.new) (make usage.now number.now) result.status }
     ensures same { result.disk ≡ disk }
 {
     let status = make_of_word(alloc, files, out, number, usage);
@@ -38,8 +37,8 @@ fn make_of_word<F: Files, K: Sink>(
     number: &str,
     usage: &[u8],
 ) -> Status
-    ensures { let files = files_told F.holds F.is_sound F.faults files.now files.now in
-        Ends (observed files no_disk) (sink_told K.taken K.was_put K.faults out.old out.new) (make usage.now number.now) result }
+    ensures { Ends (observed (files_seen F.Files files.now files.now) no_disk) (sink_seen K.Sink out.old out.new)
+        (make usage.now number.now) result }
 {
     match number_of(0, u64::MAX, number.as_bytes()) {
         Some(number) => match summary_of(alloc, number) {

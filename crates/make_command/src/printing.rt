@@ -1,26 +1,23 @@
-//! The lines on their way to the sink.
-ghost use Rattle.outside_io.specs.Puts.{sink_told};
-ghost use Rattle.cell_walks.specs.Clauses.{IsDelivered};
+//! A summary on its way to the sink.
+ghost use Rattle.cell_walks.specs.Clauses.{IsDelivered, sink_seen};
 ghost use Rattle.cell_walks.specs.Outcomes.{done};
 ghost use Rattle.make_command.specs.Clauses.{summary_lines};
 
 use crate::summary::Summary;
-use cell_texts::print_lines;
 use cell_walks::Status;
 use outside_io::Sink;
+use printer::Printer;
 
-/// Prints a summary, each line by itself, up to the first that the sink doesn't take.
+/// Prints a summary, and answers the status.
 pub fn print_summary<K: Sink>(out: &mut K, summary: &Summary) -> Status
-    ensures { IsDelivered (sink_told K.taken K.was_put K.faults out.old out.new) (done (summary_lines summary.now)) result }
+    ensures { IsDelivered (sink_seen K.Sink out.old out.new) (done (summary_lines summary.now)) result }
 {
-    let lines = [
+    let mut printer = Printer::new(out);
+    printer.lines(&[
         summary.number_line(),
         summary.size_line(),
         summary.told_line(),
         summary.left_line(),
-    ];
-    match print_lines(out, &lines) {
-        Ok(()) => Status::Done,
-        Err(_) => Status::SinkFault,
-    }
+    ]);
+    printer.status(Status::Done)
 }

@@ -1,3 +1,4 @@
+pub mod Advised
 pub mod Lines
 pub mod Orders
 pub mod Shown

@@ -9,14 +9,12 @@ use Rattle.order_advisor.specs.declared.advice.TheConstants.{ADVISED, ARRANGED}
 use Rattle.order_advisor.specs.declared.weighing.Weighing.{Weighing}
 use Rattle.order_advisor.specs.declared.weighing.Weighing.TheVariants.{Alike, ByCapacity}
 use Rattle.cell_walks.specs.Observed.{Known}
-use Rattle.cell_walks.specs.Outcomes.{Outcome, done, early}
+use Rattle.cell_walks.specs.Outcomes.{Outcome, done}
 use Rattle.cell_walks.specs.Walks.{Test, Walk, Tests, Answers}
-use Rattle.cell_walks.specs.declared.early_end.EarlyEnd.{EarlyEnd}
 use Rattle.cell_walks.specs.declared.early_end.Subject.TheVariants.{Cell as OfCell}
 use Rattle.cell_texts.specs.OneWay.{reads_by, once}
 use Rattle.cell_texts.specs.Tests.{KnownCell, cell_file}
 use Rattle.order_commands.specs.Lines.{advice_lines, too_many_line}
-use Rattle.order_commands.specs.declared.orders.Advised.{Advised}
 
 -- whether a cell has no more resources than the limit; else how many it has
 abbrev pub few_enough : ℕ → Cell → List ℕ → Result ⊤ ℕ
@@ -44,26 +42,24 @@ pub record IsAdvised (weighing : Weighing) (cell : Cell) (outcome : Outcome) : T
 abbrev pub advised : Weighing → KnownCell → Walk
 advised weighing held = Answers λ input outcome. IsAdvised weighing held.cell outcome
 
--- the same for a file of a cell with no more resources than the limit
-abbrev pub orders_within : Weighing → ℕ → List ℕ → Walk
-orders_within weighing limit cell =
-    Tests (cell_file cell) λ held.
-    Tests (few_resources limit held.cell) λ few. advised weighing held
+-- the most resources of a cell whose memberships are weighed so
+abbrev pub limit_of : Weighing → ℕ
+limit_of Alike = ADVISED
+limit_of ByCapacity = ARRANGED
+
+-- the walk from the cell on
+abbrev pub best_orders : Weighing → KnownCell → Walk
+best_orders weighing held = Tests (few_resources (limit_of weighing) held.cell) λ few. advised weighing held
 
 -- `advise CELL`: each membership weighs 1
 abbrev pub advise : List ℕ → Walk
-advise = orders_within Alike ADVISED
+advise cell = Tests (cell_file cell) (best_orders Alike)
 
 -- `arrange CELL`: each weighs 1,000 divided by the capacity of the resource, rounded down
 abbrev pub arrange : List ℕ → Walk
-arrange = orders_within ByCapacity ARRANGED
+arrange cell = Tests (cell_file cell) (best_orders ByCapacity)
 
 -- the line where there is no advice; want of memory has none
 abbrev pub fault_line : AdviceFault → Option (List ℕ)
 fault_line (TooManyResources count) = Some (too_many_line count)
 fault_line Memory = None
-
--- the advice, or the early end
-abbrev pub advised_outcome : Result Advised EarlyEnd → Outcome
-advised_outcome (Ok advised) = done (advice_lines advised.cell advised.advice)
-advised_outcome (Err end) = early end

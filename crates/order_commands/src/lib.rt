@@ -1,12 +1,13 @@
 //! The commands on orders: `advise` and `arrange` print the orders of a cell's resources whose neighborhoods weigh least.
 //!
-//! They are one command with two limits and two weights: `advise` takes a cell of at most `ADVISED` resources and weighs each membership as
-//! 1, `arrange` one of at most `ARRANGED`, and weighs it as 1,000 divided by the capacity of the resource. The walk stands in `specs/`, and
-//! the function here goes it: its clause `Ends` says that what was put is an outcome that the walk allows. `laws` says that the memberships
-//! that are weighed are the stages that `show` prints of the cell with the printed orders.
+//! They are one command with two weights, each with its limit: `advise` takes a cell of at most `ADVISED` resources and weighs each
+//! membership as 1, `arrange` one of at most `ARRANGED`, and weighs it as 1,000 divided by the capacity of the resource. The walk stands in
+//! `specs/Orders`, and `cell_driver::drive` goes it. `laws` says that the memberships that are weighed are the stages that `show` prints of
+//! the cell with the printed orders.
 //!
 //! ```text
-//! let CommandEnd { status, disk } = run_arrange(alloc, &mut files, &mut out, "cell.toml", disk);
+//! let arrange = BestOrders { weighing: Weighing::ByCapacity };
+//! let CommandEnd { status, disk } = drive(&arrange, alloc, &mut files, &mut out, "cell.toml", disk);
 //! ```
 #![tactic(auto)]
 
@@ -14,4 +15,4 @@ pub mod laws;
 mod lines;
 mod orders;
 
-pub use orders::{run_advise, run_arrange};
+pub use orders::BestOrders;

@@ -1,7 +1,7 @@
 //! That memory is had, and that each call answers, on a cell of one machine.
 use admission_core::Core;
 use cell_base::{JobId, Part, Refusal, Reply, Request, ResId, TypeId, cell_fits, request_fits};
-use small_cells::cell_of_one;
+use test_fixtures::cell_of_one;
 use std::process::Abort;
 use std::test::Fail;
 

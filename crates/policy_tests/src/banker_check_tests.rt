@@ -1,7 +1,7 @@
 //! Two parts on a cell of two machines: in each other's way, and one after the other.
 use banker_check::{Hybrid, HybridReply};
 use cell_base::{JobId, Request, ResId, TypeId, cell_fits, request_fits};
-use small_cells::crossing;
+use test_fixtures::crossing;
 use std::test::Fail;
 
 fn load(job: u32, kind: u16) -> Request {

@@ -2,7 +2,7 @@
 use admission_core::Core;
 use cell_base::{JobId, Reply, Request, ResId, TypeId, cell_fits, request_fits};
 use drain_planner::{Drainer, plan};
-use small_cells::cell_of_one;
+use test_fixtures::cell_of_one;
 use std::alloc::Global;
 use std::test::Fail;
 

@@ -23,7 +23,7 @@ mod refusal_reason_tests;
 #[cfg(test)]
 mod route_table_tests;
 #[cfg(test)]
-mod small_cells_tests;
+mod test_fixtures_tests;
 #[cfg(test)]
 mod upstream_sets_tests;
 #[cfg(test)]

@@ -1,7 +1,7 @@
 //! That memory is had, and the advice for small cells.
 use cell_base::{Cell, List, NoMemory, cell_fits};
 use order_advisor::{AdviceFault, advise, arrange};
-use small_cells::{add_machine, add_type};
+use test_fixtures::{add_machine, add_type};
 use std::alloc::Global;
 use std::test::Fail;
 

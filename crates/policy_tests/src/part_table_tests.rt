@@ -4,7 +4,7 @@ ghost use Rattle.std.specs.Prelude.{◌≡◌, false};
 use cell_base::{JobId, NoMemory, Part, ResId, TypeId, cell_fits};
 use part_table::{Found, Parts};
 use route_table::StageTable;
-use small_cells::cell_of_one;
+use test_fixtures::cell_of_one;
 use std::alloc::Global;
 use std::process::Abort;
 use std::test::Fail;

@@ -6,7 +6,7 @@ use cell_base::{
     JobId, List, NoMemory, Refusal, Reply, Request, ResId, TypeId, cell_fits, request_fits,
 };
 use refusal_reason::{explain, laws, show_text};
-use small_cells::crossing;
+use test_fixtures::crossing;
 use std::alloc::Global;
 use std::test::Fail;
 

@@ -1,7 +1,7 @@
 //! That memory is had, and that the look-ups answer.
 use cell_base::{ResId, TypeId, cell_fits};
 use route_table::{StageNo, StageTable};
-use small_cells::crossing;
+use test_fixtures::crossing;
 use std::test::Fail;
 
 /// What other threads may have.

@@ -1,7 +1,7 @@
 //! That memory is had, and the neighborhoods of two machines.
 use cell_base::{ResId, cell_fits};
 use route_table::{StageNo, StageTable};
-use small_cells::crossing;
+use test_fixtures::crossing;
 use std::test::Fail;
 use upstream_sets::Upstream;
 

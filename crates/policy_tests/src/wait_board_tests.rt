@@ -5,7 +5,7 @@ use admission_core::Core;
 use cell_base::{
     Cell, JobId, List, NoMemory, Refusal, Request, ResId, TypeId, cell_fits, request_fits,
 };
-use small_cells::{add_machine, add_type, cell_of_one};
+use test_fixtures::{add_machine, add_type, cell_of_one};
 use std::alloc::Global;
 use std::sync::{Mutex, Wait};
 use std::test::Fail;

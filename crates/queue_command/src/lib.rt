@@ -6,7 +6,5 @@
 mod lines;
 mod printing;
 mod queue;
-mod running;
 
 pub use queue::Queue;
-pub use running::run_queue;

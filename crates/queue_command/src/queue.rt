@@ -20,7 +20,7 @@ use wait_board::Board;
 /// The room of the board: an ask has two entries at most, one where it waits and one at the end of its wait.
 const ROOM: u64 = 2 * MAX_ASKS;
 
-/// The command, with the name of the shift. All memory is taken before the first session asks.
+/// The command `queue`, with the name of the shift. All memory is taken before the first session asks.
 #[derive(Drop)]
 pub struct Queue<'a> {
     pub shift: &'a str,

@@ -20,6 +20,7 @@ pub struct FileDisk<'a, R> {
     faults: u64,
     failed: Option<Failure<'a>>,
     progress: Progress<'a, R>,
+    absence: Option<&'a str>,
     bytes: u64,
     grants: GrantCount,
 }
@@ -39,9 +40,21 @@ impl<'a, R: HostFiles<File = File> + Clock + Eprint> FileDisk<'a, R> {
             faults: 0,
             failed: None,
             progress: Progress::new(rt, shows),
+            absence: None,
             bytes: 0,
             grants: GrantCount::default(),
         }
+    }
+
+    /// The same disk, which tells this line on standard error when it is opened and no file of this name is there.
+    pub fn telling(mut self, absence: Option<&'a str>) -> FileDisk<'a, R> {
+        self.absence = absence;
+        self
+    }
+
+    /// Whether no file of this name was there when it was opened. One to be added to was made then.
+    pub fn was_absent(&self) -> bool {
+        self.file.was_absent()
     }
 
     /// The last call that failed.
@@ -58,10 +71,24 @@ impl<'a, R: HostFiles<File = File> + Clock + Eprint> FileDisk<'a, R> {
         }
     }
 
+    // The first call that came to the open file tells where it was not there.
+    fn tell_absence(&mut self)
+        ensures { self.new.faults ≡ self.old.faults }
+    {
+        if self.file.is_found() {
+            if let Some(line) = self.absence.take() {
+                if self.file.was_absent() {
+                    self.progress.tell(line);
+                }
+            }
+        }
+    }
+
     // The answer of a call, and one fault more where it is one. A call that did not come to the open file failed to open it.
     fn counted<T>(&mut self, call: &'static str, answer: io::Result<T>) -> Result<T, Failed>
         ensures { HasCause self.old.faults self.new.faults result }
     {
+        self.tell_absence();
         match answer {
             Ok(value) => Ok(value),
             Err(error) => {

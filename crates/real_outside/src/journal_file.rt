@@ -1,26 +1,35 @@
-//! The file of a journal: looked at, opened and locked at the first call, and held until the program ends.
+//! The file of a journal: looked at and opened at the first call, and held until the program ends.
 //!
 //! It has to be a regular file. A folder, a device, a pipe or a socket is refused before it is opened: a pipe would wait for its other
 //! end, and a block device has the length 0 by its metadata and would be taken for blank.
 //!
-//! To add to it, the file is made where it isn't there, and the lock keeps every other opening out. An empty file may be new: its folder
-//! is synced before anything is written, so that its name survives a power cut.
+//! To add to it, the file is made where it isn't there, and a lock keeps others out who would add to it; where one of them has it, it is
+//! waited for. An empty file may be new: its folder is synced before anything is written, so that its name survives a power cut.
 //!
-//! To read it, neither the file nor its folder is changed. A file that isn't there is blank. The lock is shared with other readers.
-//! A read-only medium may know neither locks nor syncs, and needs none: nobody can write there.
+//! To read it, neither the file nor its folder is changed, and no lock is taken. A file that isn't there is blank. A read-only medium
+//! may know no syncs, and needs none: nobody can write there.
+use crate::look::Look;
 use std::alloc::Global;
 use std::fs::{File, Metadata, OpenOptions, TryLockError};
 use std::io::{self, Error, ErrorKind};
 use std::os::unix::fs::FileExt;
 use std::path::Path;
-use std::rt::Files;
+use std::rt::{Clock, Files};
+use std::thread;
+use std::time::Duration;
+
+/// How often a lock that is held is tried again, and the milliseconds before each time: two seconds in all.
+const LOCK_TRIES: u32 = 100;
+
+const LOCK_PAUSE: u64 = 20;
 
 /// What a journal's file is opened for.
 #[derive(Clone, Copy, Debug, PartialEq, Eq)]
 pub enum Purpose {
-    /// To read it as it stands. A file that isn't there is blank, and a write fails.
+    /// To read it as it stands, also while another program adds to it. A file that isn't there is blank, and a write fails.
     ToRead,
-    /// To read it and to write grants to it. A file that isn't there is made.
+    /// To read it and to write grants to it. A file that isn't there is made. A lock that another program has is waited for, up to two
+    /// seconds.
     ToAdd,
 }
 
@@ -34,14 +43,18 @@ pub struct JournalFile<'a, R> {
     found: Option<Found>,
 }
 
-// What stands under a name: no file, for one who only reads, or an open and locked one.
+// What stands under a name.
 #[derive(Drop)]
 enum Found {
+    /// No file, for one who only reads.
     Nothing,
-    Regular(File),
+    /// A file that is only read.
+    Looked(Look),
+    /// A file that is locked, and whether it was made when it was opened.
+    Locked { file: File, is_new: bool },
 }
 
-impl<'a, R: Files<File = File>> JournalFile<'a, R> {
+impl<'a, R: Files<File = File> + Clock> JournalFile<'a, R> {
     /// The file of this name, not yet opened.
     pub fn new(rt: &'a R, alloc: Global, name: &'a str, purpose: Purpose) -> JournalFile<'a, R> {
         JournalFile {
@@ -63,11 +76,21 @@ impl<'a, R: Files<File = File>> JournalFile<'a, R> {
         self.found.is_some()
     }
 
+    /// Whether no file of this name was there when it was opened.
+    pub fn was_absent(&self) -> bool {
+        match &self.found {
+            Some(Found::Nothing) => true,
+            Some(Found::Locked { is_new, .. }) => *is_new,
+            Some(Found::Looked(_)) | None => false,
+        }
+    }
+
     /// The number of bytes.
     pub fn len(&mut self) -> io::Result<u64> {
         match self.found()? {
             Found::Nothing => Ok(0),
-            Found::Regular(file) => Ok(file.metadata()?.len()),
+            Found::Looked(look) => look.len(),
+            Found::Locked { file, .. } => Ok(file.metadata()?.len()),
         }
     }
 
@@ -76,7 +99,8 @@ impl<'a, R: Files<File = File>> JournalFile<'a, R> {
         match self.found()? {
             Found::Nothing if out.is_empty() => Ok(()),
             Found::Nothing => Err(Error::from(ErrorKind::UnexpectedEof)),
-            Found::Regular(file) => file.read_exact_at(out, at),
+            Found::Looked(look) => look.read_at(at, out),
+            Found::Locked { file, .. } => file.read_exact_at(out, at),
         }
     }
 
@@ -84,8 +108,8 @@ impl<'a, R: Files<File = File>> JournalFile<'a, R> {
     /// opened to be read.
     pub fn write_at(&mut self, at: u64, bytes: &[u8]) -> io::Result<()> {
         match self.found()? {
-            Found::Nothing => Err(Error::from(ErrorKind::PermissionDenied)),
-            Found::Regular(file) => file.write_all_at(bytes, at),
+            Found::Nothing | Found::Looked(_) => Err(Error::from(ErrorKind::PermissionDenied)),
+            Found::Locked { file, .. } => file.write_all_at(bytes, at),
         }
     }
 
@@ -94,19 +118,20 @@ impl<'a, R: Files<File = File>> JournalFile<'a, R> {
         let (rt, name) = (self.rt, self.name);
         match self.found()? {
             Found::Nothing => Ok(()),
-            Found::Regular(file) => match file.sync_data() {
+            Found::Looked(look) => match look.sync(rt, name) {
                 Err(error) if error.kind() == ErrorKind::InvalidInput => {
                     error_unless_read_only(rt, name, error)
                 }
                 synced => synced,
             },
+            Found::Locked { file, .. } => file.sync_data(),
         }
     }
 
     // What stands under the name, opened where it isn't yet.
-    fn found(&mut self) -> io::Result<&Found> {
+    fn found(&mut self) -> io::Result<&mut Found> {
         match self.found {
-            Some(ref found) => Ok(found),
+            Some(ref mut found) => Ok(found),
             None => {
                 let found = match self.purpose {
                     Purpose::ToRead => open_to_read(self.rt, self.name)?,
@@ -118,32 +143,44 @@ impl<'a, R: Files<File = File>> JournalFile<'a, R> {
     }
 }
 
-// Opens a file to read it, under a lock that readers share. The lock goes with the file.
+// Opens a file to read it.
 fn open_to_read<R: Files<File = File>>(rt: &R, name: &str) -> io::Result<Found> {
     if !is_there(rt, name)? {
         return Ok(Found::Nothing);
     }
     let file = File::open(rt, name)?;
-    match file.try_lock_shared() {
-        Ok(()) => {}
-        Err(TryLockError::WouldBlock) => return Err(Error::from(ErrorKind::WouldBlock)),
-        Err(TryLockError::Error(error)) => error_unless_read_only(rt, name, error)?,
-    }
     regular_length(&file.metadata()?)?;
-    Ok(Found::Regular(file))
+    Ok(Found::Looked(Look::new(file)))
 }
 
 // Opens a file to read and write it, makes it where it isn't there, and locks it. The lock goes with the file.
-fn open_to_add<R: Files<File = File>>(rt: &R, alloc: Global, name: &str) -> io::Result<Found> {
-    is_there(rt, name)?;
+fn open_to_add<R: Files<File = File> + Clock>(
+    rt: &R,
+    alloc: Global,
+    name: &str,
+) -> io::Result<Found> {
+    let is_new = !is_there(rt, name)?;
     let mut how = OpenOptions::new();
     how.read(true).write(true).create(true);
     let file = how.open(rt, name)?;
-    file.try_lock()?;
+    lock(rt, &file)?;
     if regular_length(&file.metadata()?)? == 0 {
         sync_folder(rt, alloc, name)?;
     }
-    Ok(Found::Regular(file))
+    Ok(Found::Locked { file, is_new })
+}
+
+// Locks a file. A lock that is held is waited for: a program that has just ended, or one that is being replaced, gives it back soon.
+fn lock<C: Clock>(clock: &C, file: &File) -> io::Result<()> {
+    for _ in 0..LOCK_TRIES {
+        match file.try_lock() {
+            Err(TryLockError::WouldBlock) => {
+                thread::sleep(clock, Duration::from_millis(LOCK_PAUSE));
+            }
+            locked => return Ok(locked?),
+        }
+    }
+    Ok(file.try_lock()?)
 }
 
 // Whether a regular file of this name is there; anything else of this name is an error. No file has the empty name, and none gets it.

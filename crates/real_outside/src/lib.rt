@@ -20,6 +20,7 @@ mod file_disk;
 mod grant_count;
 mod in_source;
 mod journal_file;
+mod look;
 mod out_sink;
 mod progress;
 mod regular_files;

@@ -62,6 +62,12 @@ impl<'a, R: Clock + Eprint> Progress<'a, R> {
         }
     }
 
+    /// Shows a line that stays, in the place of the one before. It is no part of what is off.
+    pub fn tell(&self, line: &str) {
+        let wipe = if self.is_on { WIPE } else { "" };
+        let _ = eprintln!(self.rt; "{wipe}{line}");
+    }
+
     // The milliseconds since the first call, where that is `least` of them ago and no line was shown lately.
     fn due(&mut self, least: u64) -> Option<u128> {
         if !self.is_on {

@@ -1,9 +1,13 @@
 //! A sink that sees what goes through it.
 ghost use Rattle.std.specs.Prelude.{◌≡◌};
+ghost use Rattle.outside_io.specs.Causes.{HasCause};
+ghost use Rattle.real_outside.specs.OutSink.{write_faults};
 
+use crate::OutSink;
 use crate::progress::WIPE;
 use arrayvec::ArrayVec;
 use outside_io::{Failed, Sink};
+use std::io::Write;
 
 /// The most bytes of a line that is kept.
 const LINE_BYTES: usize = 256;
@@ -60,6 +64,15 @@ impl<'a, K, R: Eprint> SeenSink<'a, K, R> {
             self.line.clear();
             let _ = self.line.try_extend_from_slice(piece);
         }
+    }
+}
+
+impl<W: Write, R: Eprint> SeenSink<'_, OutSink<W>, R> {
+    /// Writes what a buffer within the writer below still holds. A failure is one of a put before it.
+    pub fn flush(&mut self) -> Result<(), Failed>
+        ensures { HasCause (write_faults self.old.inner) (write_faults self.new.inner) result }
+    {
+        self.inner.flush()
     }
 }
 

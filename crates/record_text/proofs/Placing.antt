@@ -1,5 +1,6 @@
 -- The words of a placed part, both ways.
-use Rattle.std.proofs.Common.{codes, ◌≡◌, ℕ, ◌<◌, ◌^◌, Bool, [], ◌++◌, Some, refl, sym, ap, ◌∙◌, subst, append-nil, rules}
+use Rattle.std.proofs.Common.{codes, ◌≡◌, ℕ, ◌<◌, ◌^◌, Bool, [], ◌++◌, Option, None, Some, refl, sym, ap, ◌∙◌, subst, append-nil, rules}
+use Rattle.std.specs.Prelude.{IfSome}
 use Rattle.std.proofs.lemmas.Option.{cond_some}
 use Rattle.cell_base.specs.declared.cells.Cell.{Cell}
 use Rattle.cell_base.specs.declared.cells.TypeId.{TypeId}
@@ -64,6 +65,18 @@ placing-sound cell ws request is =
       at.text ∙ ap (λ (rest : Words). request_words cell read.0.0 ++ rest) end.0 ∙ append-nil (request_words cell read.0.0),
       placing_so cell read.0.0 (place_is cell ws read.0 read.1) at.fits at.job,
     )
+
+placing_is_fit : (cell : Cell) (request : Request) → IsPlacing cell request → RequestFits cell request
+placing_is_fit cell (Place done kind job place) placing = placing.0
+placing_is_fit cell (Load job kind) placing = absurd placing
+placing_is_fit cell (Process machine) placing = absurd placing
+placing_is_fit cell (Move job branch) placing = absurd placing
+placing_is_fit cell (Unload job) placing = absurd placing
+
+-- what is read fits the cell
+pub placed_fits : (cell : Cell) (ws : Words) (read : Option Request) → read ≡ placing_of cell ws → IfSome read (RequestFits cell)
+placed_fits cell ws None is = tt
+placed_fits cell ws (Some request) is = placing_is_fit cell request (placing-sound cell ws request (sym is)).1
 
 pub placing-complete : (cell : Cell) → CellFits cell → (request : Request) → IsPlacing cell request
     → placing_of cell (request_words cell request) ≡ Some request

@@ -3,16 +3,18 @@
 //! A line places one part, `place 7 A 1 waiting` or `place 7 A 1 done`: its job, its type, its place in the route, from 0, and whether
 //! its work there is done. There may be no line.
 ghost use Rattle.std.specs.Prelude.{◌≡◌, ◌<◌, ◌⊎◌, [], length, IfSome, IfOk, IfErr, List as Items};
-ghost use Rattle.cell_base.specs.Fits.{CellFits};
+ghost use Rattle.cell_base.specs.Fits.{CellFits, RequestFits};
 ghost use Rattle.cell_base.specs.declared.requests.Request.{Request};
 ghost use Rattle.cell_base.specs.declared.requests.Request.TheVariants.{Place};
+ghost use Rattle.step_text.specs.Words.{words};
 ghost use Rattle.record_text.specs.BadLines.{pieces};
+ghost use Rattle.record_text.specs.Reading.{placing_of};
 ghost use Rattle.record_text.specs.StartLines.{GivesStart, next_request, read_from};
 ghost use Rattle.record_text.specs.declared.start.TheConstants.{MAX_START_LINES};
 ghost use Rattle.record_text.specs.StartFiles.{IsPlacing, IsStartOf, StartRefusedAt, place_line};
 
 use crate::line::Line;
-use crate::lines::add_type;
+use crate::lines::{add_type, done_word};
 use crate::lines_at::placing_of;
 use crate::record::{RecordFault, cut_line};
 use cell_base::{Cell, JobId, List, Request, TypeId};
@@ -76,6 +78,16 @@ fn next_request(cell: &IndexedCell<'_>, found: &List<Request>, line: &[u8]) -> O
     placing_of(cell, line)
 }
 
+/// The request that a line without its newline places a part by, where it is such a line.
+#[tactic(auto, using(crate::proofs::Placing::placed_fits))]
+pub fn read_place(cell: &Cell, line: &[u8]) -> Option<Request>
+    requires { CellFits cell.now }
+    ensures request { result ≡ placing_of cell.now (words line.now) }
+    ensures fits { IfSome result (RequestFits cell.now) }
+{
+    placing_of(&IndexedCell::new(cell), line)
+}
+
 /// The line of a request that places a part.
 pub fn place_line(cell: &Cell, request: &Request) -> Line
     requires fits { CellFits cell.now }
@@ -103,10 +115,6 @@ fn line_of_place(cell: &Cell, job: JobId, kind: TypeId, place: u16, done: bool) 
     line.number(job.0);
     add_type(&mut line, cell, kind);
     line.number(place);
-    if done {
-        line.word(b"done");
-    } else {
-        line.word(b"waiting");
-    }
+    line.word(done_word(done));
     line.end()
 }

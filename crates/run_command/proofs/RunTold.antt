@@ -11,7 +11,7 @@ use Rattle.cell_base.specs.Histories.{grants}
 use Rattle.durable_cell.specs.Asked.{grant_of}
 use Rattle.move_journal.specs.Journals.{StandsForPrefix, StandsFor}
 use Rattle.cell_walks.specs.Allowed.{StandsForAdded}
-use Rattle.cell_walks.specs.DiskTold.{DiskTold, IsAlways}
+use Rattle.cell_walks.specs.DiskTold.{DiskTold, SinceEntry}
 use Rattle.cell_walks.specs.Observed.{Observed}
 use Rattle.cell_walks.specs.Outcomes.{Outcome}
 use Rattle.cell_walks.specs.Promises.{IsAnswered, Promises}
@@ -52,8 +52,7 @@ module _ (disk : DiskTold) (cell : Cell) (text : List ℕ) (shift : Shift) (open
               | inl so ↦ so
               | inr so ↦ subst (StandsFor file text) (append-nil (opening ++ since)) so
             ]) left.now;
-        any_moment = subst (λ (gs : List Grant). IsAlways disk (λ file. disk.leaves file ⊎ StandsForPrefix text opening gs file))
-            (append-nil since) left.any_moment;
+        any_moment = subst (λ (gs : List Grant). SinceEntry disk (StandsForPrefix text opening gs)) (append-nil since) left.any_moment;
       }
 
   pub is_halted : IsHalted cell shift.number opening (RanPart shift opening) outcome → IsHaltedRun disk cell text shift opening outcome

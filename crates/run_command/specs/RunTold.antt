@@ -19,7 +19,7 @@ use Rattle.move_journal.specs.Journals.{StandsForPrefix, StandsFor}
 use Rattle.record_text.specs.Records.{text_of_record}
 use Rattle.shift_file.specs.Walk.{shift_of}
 use Rattle.cell_walks.specs.Allowed.{IsOpenedAs}
-use Rattle.cell_walks.specs.DiskTold.{DiskTold, IsAlways, IsNow, StoodFor}
+use Rattle.cell_walks.specs.DiskTold.{DiskTold, IsNow, SinceEntry, StoodFor}
 use Rattle.cell_walks.specs.Observed.{Observed, ShowsFile}
 use Rattle.cell_walks.specs.Outcomes.{Outcome}
 use Rattle.cell_walks.specs.declared.status.Status.TheVariants.{Done, DeviceFault}
@@ -50,7 +50,7 @@ pub record IsWholeRun (disk : DiskTold) (cell : Cell) (text : List ℕ) (shift :
   pub added : outcome.added ≡ grants shift.number history
   pub sure : outcome.unsure ≡ []
   pub stands : IsNow disk (λ file. StandsFor file text (opening ++ grants shift.number history))
-  pub any_moment : IsAlways disk (λ file. disk.leaves file ⊎ StandsForPrefix text opening (grants shift.number history) file)
+  pub any_moment : SinceEntry disk (StandsForPrefix text opening (grants shift.number history))
 
 -- The writing of a grant halted, and no session was granted anything after it: the block that ends there is printed, and the disk
 -- stands for the grants and those of the history, without the halted request or with it.
@@ -69,8 +69,8 @@ pub record IsHaltedRun (disk : DiskTold) (cell : Cell) (text : List ℕ) (shift 
   pub unsure : outcome.unsure ≡ grant_of shift.number last ∷ []
   pub stands : let granted = grants shift.number history in IsNow disk (λ file.
       StandsFor file text (opening ++ granted) ⊎ StandsFor file text (opening ++ granted ++ grant_of shift.number last ∷ []))
-  pub any_moment : IsAlways disk (λ file. disk.leaves file
-      ⊎ StandsForPrefix text opening (grants shift.number history ++ grant_of shift.number last ∷ []) file)
+  pub any_moment : SinceEntry disk
+      (StandsForPrefix text opening (grants shift.number history ++ grant_of shift.number last ∷ []))
   pub cause : Rose disk.faults disk.faults_after
 
 -- The files stand for a cell and a shift, and the journal for grants after which the sessions of the shift start: where the disk stood for

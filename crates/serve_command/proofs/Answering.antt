@@ -1,9 +1,9 @@
 -- What the answer to one ask makes of the server.
 use Rattle.std.specs.Prelude.{Option, None, Some}
-use Rattle.std.proofs.Common.{◌≡◌, ℕ, ◌+◌, ◌<◌, ◌-◌, cond, Bool, true, false, List, [], ◌∷◌}
+use Rattle.std.proofs.Common.{◌≡◌, ℕ, ◌+◌, ◌<◌, ◌-◌, All, cond, Bool, true, false, List, [], ◌∷◌}
 use Rattle.std.proofs.Common.{◌++◌, length, refl, sym, ap, ◌∙◌, subst, arith, append-nil}
 use Rattle.std.proofs.lemmas.List.{length-append}
-use Rattle.std.proofs.lemmas.List.Elements.{All-nil, All-cons, All-head}
+use Rattle.std.proofs.lemmas.List.Elements.{All-append, All-nil, All-cons, All-head}
 use Rattle.cell_base.specs.declared.cells.Cell.{Cell}
 use Rattle.cell_base.specs.declared.requests.Part.{Part}
 use Rattle.cell_base.specs.declared.requests.Refusal.{Refusal}
@@ -21,7 +21,7 @@ use Rattle.cell_texts.proofs.Fitting.{entries_fit}
 use Rattle.live_cell.specs.LiveState.{LiveState, asked}
 use Rattle.policy_laws.specs.Laws.{RefusalLaw}
 use Rattle.record_text.specs.Fitting.{EntryFits}
-use Rattle.serve_command.specs.Answers.{added_by, answer, entry_of, halted_line, session_grant}
+use Rattle.serve_command.specs.Answers.{added_by, answer, entry_of, halted_line, line_number, session_grant}
 use Rattle.serve_command.specs.Serving.{CountsGrant, TakesOneLine, HasCounts, IsAskAnswered, IsJournalFull, StandsAt, first_after}
 use Rattle.serve_command.specs.declared.asks.Ask.{Ask}
 use Rattle.serve_command.specs.declared.asks.Ask.TheVariants.{Step}
@@ -48,12 +48,12 @@ first_same (Some first) at line = refl
 -- ---- an ask that is no step
 
 module _ {D : Type 0} (old new : Server D) (line : List ℕ)
-    (is : new ≡ record old { replies = old.replies ++ line ∷ []; asked = old.asked + 1 }) where
+    (is : new ≡ record old { replies = old.replies ++ line ∷ []; asked = line_number (old.asked + 1) }) where
   pub kept_answered : (cell : Cell) (grants : List Grant) (ask : Ask) → StandsAt grants old → added_by cell grants ask ≡ []
-      → line ≡ answer cell grants (old.asked + 1) ask → IsAskAnswered cell grants old ask new
+      → line ≡ answer cell grants (line_number (old.asked + 1)) ask → IsAskAnswered cell grants old ask new
   kept_answered cell grants ask at none line_is =
-      let still : StandsAt grants (record old { replies = old.replies ++ line ∷ []; asked = old.asked + 1 }) =
-      record { parts = at.parts; counts = at.counts; number = at.number } in
+      let still : StandsAt grants (record old { replies = old.replies ++ line ∷ []; asked = line_number (old.asked + 1) }) =
+      record { fit = at.fit; parts = at.parts; counts = at.counts; number = at.number } in
       record {
         at = subst (λ (gs : List Grant). StandsAt gs new) (sym (ap (λ (gs : List Grant). grants ++ gs) none ∙ append-nil grants))
             (subst (StandsAt grants) (sym is) still);
@@ -91,7 +91,7 @@ module _ {D : Type 0} (old new : Server D) (session : ℕ) (request : Request) (
 
   -- it was granted
   module _ (granted : reply ≡ Granted) (mid : Server D) (counted : CountsGrant (record old { live = live }) session request mid)
-      (is : new ≡ record mid { replies = mid.replies ++ line ∷ []; asked = mid.asked + 1 }) where
+      (is : new ≡ record mid { replies = mid.replies ++ line ∷ []; asked = line_number (mid.asked + 1) }) where
     here : is_granted (reply_to cell old.live.parts request) ≡ true
     here = ap is_granted (sym reply_is ∙ granted)
 
@@ -128,16 +128,20 @@ module _ {D : Type 0} (old new : Server D) (session : ℕ) (request : Request) (
           few = omega (arith, ap (λ (l : LiveState D). length l.pending) all, length-append old.live.pending (grant ∷ []));
           replies = ap (λ (s : Server D). length s.replies) is ∙ length-append mid.replies (line ∷ [])
               ∙ ap (λ (rs : List (List ℕ)). length rs + 1) counted.replies;
-          asked = ap (λ (s : Server D). s.asked) is ∙ ap (λ (n : ℕ). n + 1) counted.asked;
+          asked = ap (λ (s : Server D). s.asked) is ∙ ap (λ (n : ℕ). line_number (n + 1)) counted.asked;
         }
 
-    pub granted_answered : (grants : List Grant) → StandsAt grants old → length grants < 4294967295
-        → line ≡ answer cell grants (old.asked + 1) (Step session request) → IsAskAnswered cell grants old (Step session request) new
-    granted_answered grants at few line_is =
+    pub granted_answered : RequestFits cell request → (grants : List Grant) → StandsAt grants old → length grants < 4294967295
+        → line ≡ answer cell grants (line_number (old.asked + 1)) (Step session request) → IsAskAnswered cell grants old (Step session request) new
+    granted_answered fits grants at few line_is =
         let all = new_live ∙ live_more in
+        let Fits : Grant → Type 0 = λ (one : Grant). RequestFits cell one.request in
         let added : added_by cell grants (Step session request) ≡ grant ∷ [] =
         ap (λ (b : Bool). cond b (grant ∷ []) []) (ap (λ (ps : List Part). is_granted (reply_to cell ps request)) (sym at.parts) ∙ here) in
         let stands : StandsAt (grants ++ grant ∷ []) new = record {
+          fit = subst (λ (c : Cell). All (λ (one : Grant). RequestFits c one.request) (grants ++ grant ∷ []))
+              (sym (ap (λ (l : LiveState D). l.cell) all))
+              (All-append Fits grants (grant ∷ []) at.fit (All-cons Fits grant [] fits (All-nil Fits)));
           parts = ap (λ (l : LiveState D). l.parts) all ∙ ap (λ (ps : List Part). state_after cell ps request) at.parts
               ∙ sym (after_more cell [] grants grant)
               ∙ ap (λ (c : Cell). replay c (grants ++ grant ∷ [])) (sym (ap (λ (l : LiveState D). l.cell) all));
@@ -163,7 +167,7 @@ module _ {D : Type 0} (old new : Server D) (session : ℕ) (request : Request) (
 
   -- it was refused
   module _ (why : Refusal) (refused : reply ≡ Refused why) (law : RefusalLaw cell)
-      (is : new ≡ record old { live = live; replies = old.replies ++ line ∷ []; asked = old.asked + 1 }) where
+      (is : new ≡ record old { live = live; replies = old.replies ++ line ∷ []; asked = line_number (old.asked + 1) }) where
     not_here : is_granted (reply_to cell old.live.parts request) ≡ false
     not_here = ap is_granted (sym reply_is ∙ refused)
 
@@ -177,13 +181,13 @@ module _ {D : Type 0} (old new : Server D) (session : ℕ) (request : Request) (
         nothing_less : old.live.spare - 0 ≡ old.live.spare
         nothing_less = omega arith
 
-    same : new ≡ record old { replies = old.replies ++ line ∷ []; asked = old.asked + 1 }
-    same = is ∙ (λ i. record old { live = live_same i; replies = old.replies ++ line ∷ []; asked = old.asked + 1 })
+    same : new ≡ record old { replies = old.replies ++ line ∷ []; asked = line_number (old.asked + 1) }
+    same = is ∙ (λ i. record old { live = live_same i; replies = old.replies ++ line ∷ []; asked = line_number (old.asked + 1) })
 
     pub refused_goes : TakesOneLine old new
     refused_goes = kept_goes old new line same
 
-    pub refused_answered : (grants : List Grant) → StandsAt grants old → line ≡ answer cell grants (old.asked + 1) (Step session request)
+    pub refused_answered : (grants : List Grant) → StandsAt grants old → line ≡ answer cell grants (line_number (old.asked + 1)) (Step session request)
         → IsAskAnswered cell grants old (Step session request) new
     refused_answered grants at line_is =
         kept_answered old new line same cell grants (Step session request) at

@@ -1,29 +1,32 @@
 -- What a line asks, by its words.
-use Rattle.std.specs.Prelude.{codes, if◌then◌else◌, is_none}
-use Rattle.std.specs.Option.{option_map_or}
+use Rattle.std.specs.Prelude.{Result, codes, if◌then◌else◌, is_none}
+use Rattle.std.specs.Option.{option_map_or, option_or}
+use Rattle.std.specs.Result.{result_ok}
 use Rattle.std.proofs.Common.{◌≡◌, ℕ, ◌<◌, inl, inr, Bool, false, List, [], ◌∷◌, Option}
 use Rattle.std.proofs.Common.{None, Some, refl, length, take, sym, ap, ◌∙◌, arith}
 use Rattle.std.proofs.lemmas.Bool.{cases_lt, lt-leb}
 use Rattle.std.proofs.lemmas.List.{length-take, take_all}
 use Rattle.cell_base.specs.declared.cells.Cell.{Cell}
+use Rattle.cell_base.specs.declared.requests.Request.{Request}
+use Rattle.record_text.specs.Reading.{placing_of}
+use Rattle.step_text.specs.declared.faults.StepFault.{StepFault}
 use Rattle.step_text.specs.Steps.{step_of, step_of_words}
 use Rattle.step_text.specs.Words.{words}
 use Rattle.step_text.proofs.Cuts.{words_some}
-use Rattle.serve_command.specs.Asks.{ask_of, ask_of_several, is_word}
-use Rattle.serve_command.specs.declared.asks.Ask.TheVariants.{Left, Nothing}
+use Rattle.serve_command.specs.Asks.{ask_of, ask_of_several, ask_of_session, ask_of_words, is_word, job_asked, request_of}
+use Rattle.serve_command.specs.declared.asks.Ask.{Ask}
+use Rattle.serve_command.specs.declared.asks.Ask.TheVariants.{Count, Last, Nothing, Step}
 
-too_long : (cell : Cell) (text : List ℕ) → 64 < length text → ask_of cell text ≡ Nothing
+too_long : (cell : Cell) (text : List ℕ) → 66 < length text → ask_of cell text ≡ Nothing
 unfolding ask_of
-too_long cell text long = ap (λ (short : Bool). if short
-    then (if is_word (codes "left") (words text) then Left else ask_of_several cell (words text)) else Nothing)
-    (lt-leb (length text) 64 long)
+too_long cell text long = ap (λ (short : Bool). if short then ask_of_words cell (words text) else Nothing) (lt-leb (length text) 66 long)
 
 -- a line of which more bytes are kept than an ask has asks what it asked
-pub ask_of-kept : (cell : Cell) (line : List ℕ) → ask_of cell (take 65 line) ≡ ask_of cell line
-ask_of-kept cell line = elim (cases_lt (length line) 65) [
-  | inl short ↦ ap (ask_of cell) (take_all 65 line (omega (arith, short)))
+pub ask_of-kept : (cell : Cell) (line : List ℕ) → ask_of cell (take 67 line) ≡ ask_of cell line
+ask_of-kept cell line = elim (cases_lt (length line) 67) [
+  | inl short ↦ ap (ask_of cell) (take_all 67 line (omega (arith, short)))
   | inr long ↦
-      too_long cell (take 65 line) (omega (arith, length-take 65 line, long)) ∙ sym (too_long cell line (omega (arith, long)))
+      too_long cell (take 67 line) (omega (arith, length-take 67 line, long)) ∙ sym (too_long cell line (omega (arith, long)))
 ]
 
 -- the step of a text is that of its words
@@ -37,3 +40,33 @@ pub several_words : {A : Type 0} (text_of : A → List ℕ) (word : List ℕ) (a
 several_words text_of word all first None parted some = absurd (cc)
 several_words text_of word all first (Some rest) parted some =
     let more = words_some (text_of rest) in ap (is_word word) (parted ∙ ap (λ (ws : List (List ℕ)). first ∷ ws) more.2)
+
+-- a text after the first word
+module _ {A : Type 0} (text_of : A → List ℕ) (all : List (List ℕ)) (word : List ℕ) (rest : Option A)
+    (parted : all ≡ word ∷ option_map_or (λ r. words (text_of r)) rest []) (some : A) (is : rest ≡ Some some) where
+  -- is of one word or more
+  all_words : all ≡ word ∷ (words_some (text_of some)).0 ∷ (words_some (text_of some)).1
+  all_words =
+      parted ∙ ap (λ (o : Option A). word ∷ option_map_or (λ r. words (text_of r)) o []) is
+      ∙ ap (λ (ws : List (List ℕ)). word ∷ ws) (words_some (text_of some)).2
+
+  pub several_asked : (cell : Cell) → ask_of_words cell all ≡ ask_of_several cell word (words (text_of some))
+  several_asked cell = ap (ask_of_words cell) all_words ∙ ap (ask_of_several cell word) (sym (words_some (text_of some)).2)
+
+  pub no_job_asked : job_asked all ≡ Nothing
+  no_job_asked = ap job_asked all_words
+
+-- what a session asks in words that are neither of the two
+pub step_asked : (cell : Cell) (session : ℕ) (ws : List (List ℕ)) → is_word (codes "grants") ws ≡ false → is_word (codes "last") ws ≡ false
+    → (found : Option Request) → found ≡ request_of cell ws → option_map_or (Step session) found Nothing ≡ ask_of_session cell session ws
+step_asked cell session ws no_grants no_last found is =
+    let asked : Option Request → Ask = λ (one : Option Request). option_map_or (Step session) one Nothing in
+    let other : Bool → Ask = λ (last : Bool). if last then Last session else asked (request_of cell ws) in
+    ap asked is
+    ∙ sym (ap (λ (grants : Bool). if grants then Count session else other (is_word (codes "last") ws)) no_grants ∙ ap other no_last)
+
+-- the request of a text is its step, where it has one
+pub step_first : (cell : Cell) (text : List ℕ) (read : Result Request StepFault) → read ≡ step_of cell text
+    → option_or (result_ok read) (placing_of cell (words text)) ≡ request_of cell (words text)
+step_first cell text read is =
+    ap (λ (r : Result Request StepFault). option_or (result_ok r) (placing_of cell (words text))) (is ∙ step_is cell text)

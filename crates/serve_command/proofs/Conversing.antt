@@ -1,6 +1,6 @@
 -- A conversation goes on by a round, or by a piece of its input, or ends.
 use Rattle.std.specs.Io.KnownBytes.{Appends}
-use Rattle.std.proofs.Common.{◌≡◌, ℕ, ◌+◌, ◌<◌, inl, List, [], ◌∷◌, ◌++◌, length, map, Option}
+use Rattle.std.proofs.Common.{◌≡◌, ℕ, ◌+◌, ◌<◌, ◌≤◌, inl, List, [], ◌∷◌, ◌++◌, length, map, Option}
 use Rattle.std.proofs.Common.{All, refl, sym, ap, ◌∙◌, subst, arith, append_assoc, append-nil}
 use Rattle.std.proofs.lemmas.List.{length-append, length-map, map-append}
 use Rattle.std.proofs.lemmas.List.Elements.{All-nil}
@@ -28,7 +28,7 @@ use Rattle.cell_walks.specs.Statuses.{early_line}
 use Rattle.cell_walks.specs.declared.early_end.EarlyEnd.TheVariants.{NotRead}
 use Rattle.cell_walks.specs.declared.status.Status.{Status}
 use Rattle.cell_walks.specs.declared.status.Status.TheVariants.{Done, DeviceFault, JournalRefused, ReadFault, SinkFault}
-use Rattle.serve_command.specs.Answers.{added_by, answers, halted_line, since}
+use Rattle.serve_command.specs.Answers.{added_by, answers, halted_line, line_number, since}
 use Rattle.serve_command.specs.Asks.{ask_of, asks_in}
 use Rattle.serve_command.specs.Conversing.{IsConversing, IsLeftWith, IsServedAfter, fresh_lines}
 use Rattle.serve_command.specs.Rounds.{StandsAfter, IsLastRound, IsRound, Moves}
@@ -36,11 +36,12 @@ use Rattle.serve_command.specs.Serve.{FailedDevice, FailedSink, FullJournal, Inp
 use Rattle.serve_command.specs.Serve.{Stopped, Stops, answered_lines, full_line}
 use Rattle.serve_command.specs.Serving.{IsJournalFull, HasNoGroup}
 use Rattle.serve_command.specs.declared.asks.Ask.{Ask}
+use Rattle.serve_command.specs.declared.command.TheConstants.{MAX_SERVED}
 use Rattle.serve_command.specs.declared.server.Server.{Server}
 use Rattle.lent_peers.proofs.Flushing.{all_still}
 use Rattle.serve_command.proofs.Delivering.{delivered_after}
-use Rattle.serve_command.proofs.Grouping.{answers-append, since-append}
-use Rattle.serve_command.proofs.Standing.{first_of_more, left_begins, left_goes, shows_weaker}
+use Rattle.serve_command.proofs.Grouping.{answers-append, answers-known, since-append}
+use Rattle.serve_command.proofs.Standing.{left_begins, left_goes, shows_weaker}
 
 -- ---- asks after asks
 
@@ -57,11 +58,15 @@ module _ (cell : Cell) (opening : List Grant) (asked group : List Ask) where
       ∙ ap (λ (gs : List Grant). opening ++ gs) (sym (since-append cell opening asked group))
 
   -- the answers to a group come after the lines that were put
-  all_lines : (number : ℕ) → number ≡ 1 + length asked
-      → answered_lines cell opening asked ++ answers cell behind number group ≡ answered_lines cell opening (asked ++ group)
+  all_lines : (number : ℕ) → line_number number ≡ line_number (length asked)
+      → answered_lines cell opening asked ++ answers cell behind (number + 1) group ≡ answered_lines cell opening (asked ++ group)
   all_lines number is =
-      ap (λ (n : ℕ). answered_lines cell opening asked ++ answers cell behind n group) is
+      ap (λ (ls : List (List ℕ)). answered_lines cell opening asked ++ ls)
+      (answers-known cell behind (length asked) number group is ∙ ap (λ (n : ℕ). answers cell behind n group) one_more)
       ∙ ap (λ (ls : List (List ℕ)). line_of (head_words 0 (length opening)) ∷ ls) (sym (answers-append cell opening 1 asked group))
+    where
+      one_more : length asked + 1 ≡ 1 + length asked
+      one_more = omega arith
 
   -- what a round that stops comes to, after what was put and added before
   abbrev pub after_all : Outcome → Outcome
@@ -73,8 +78,8 @@ module _ (cell : Cell) (opening : List Grant) (asked group : List Ask) where
   }
 
   -- and more asks after those that were not answered
-  stops_so : (number : ℕ) → number ≡ 1 + length asked → (others later : List Ask) (outcome : Outcome)
-      → Stops cell (behind ++ since cell behind group) (answers cell behind number group) (since cell behind group) others outcome
+  stops_so : (number : ℕ) → line_number number ≡ line_number (length asked) → (others later : List Ask) (outcome : Outcome)
+      → Stops cell (behind ++ since cell behind group) (answers cell behind (number + 1) group) (since cell behind group) others outcome
       → Stops cell (opening ++ since cell opening (asked ++ group)) (answered_lines cell opening (asked ++ group))
       (since cell opening (asked ++ group)) (others ++ later) (after_all outcome)
   stops_so number is others later outcome (FullJournal next rest parted full outcome_is) =
@@ -82,21 +87,21 @@ module _ (cell : Cell) (opening : List Grant) (asked group : List Ask) where
       (subst (λ (gs : List Grant). IsJournalFull cell gs next) all_grants full)
       (ap after_all outcome_is ∙ (λ i. record {
         status = JournalRefused;
-        pieces = (sym (append_assoc (answered_lines cell opening asked) (answers cell behind number group) (full_line ∷ []))
+        pieces = (sym (append_assoc (answered_lines cell opening asked) (answers cell behind (number + 1) group) (full_line ∷ []))
             ∙ ap (λ (ls : List (List ℕ)). ls ++ full_line ∷ []) (all_lines number is)) i;
         added = sym (since-append cell opening asked group) i;
         unsure = [];
       }))
-  stops_so number is others later outcome (FailedDevice next rest count parted some outcome_is) =
-      let more = first_of_more count rest later in
-      FailedDevice next (rest ++ later) more.0 (ap (λ (l : List Ask). l ++ later) parted)
+  stops_so number is others later outcome (FailedDevice next decided rest parted few some outcome_is) =
+      FailedDevice next decided (rest ++ later)
+      (ap (λ (l : List Ask). l ++ later) parted ∙ append_assoc (next ∷ decided) rest later) few
       (subst (λ (gs : List Grant). 0 < length (added_by cell gs next)) all_grants some)
       (ap after_all outcome_is ∙ (λ i. record {
         status = DeviceFault;
-        pieces = (sym (append_assoc (answered_lines cell opening asked) (answers cell behind number group) (halted_line cell next ∷ []))
+        pieces = (sym (append_assoc (answered_lines cell opening asked) (answers cell behind (number + 1) group) (halted_line cell next ∷ []))
             ∙ ap (λ (ls : List (List ℕ)). ls ++ halted_line cell next ∷ []) (all_lines number is)) i;
         added = sym (since-append cell opening asked group) i;
-        unsure = since cell (all_grants i) (next ∷ more.1 i);
+        unsure = since cell (all_grants i) (next ∷ decided);
       }))
   stops_so number is others later outcome (FailedSink outcome_is) =
       FailedSink (ap after_all outcome_is ∙ (λ i. record {
@@ -135,8 +140,8 @@ module _ {D K : Type 0} (reads_as : D → Option (List ℕ)) (may_leave : D → 
   abbrev asked : List Ask
   asked = map (ask_of cell) given
 
-  abbrev number_is : old.asked + 1 ≡ 1 + length asked
-  number_is = omega (arith, so_far.asked, length-map given (ask_of cell))
+  abbrev number_is : line_number old.asked ≡ line_number (length asked)
+  number_is = so_far.asked ∙ ap line_number (sym (length-map given (ask_of cell)))
 
   abbrev front : List Grant
   front = opening ++ since cell opening asked
@@ -175,7 +180,7 @@ module _ {D K : Type 0} (reads_as : D → Option (List ℕ)) (may_leave : D → 
             (λ file. IsBeforeOrAfterAll cell_text (front ++ more) [] file) (λ file stands. inl stands) round.stands_after.disk)
             (All-nil (λ grant. Rose (faults first) (faults new.live.disk))));
         took = subst (TookAll (sink_told taken was_put sink_faults a c))
-            (all_lines cell opening asked asks (old.asked + 1) number_is
+            (all_lines cell opening asked asks old.asked number_is
             ∙ ap (answered_lines cell opening) every)
             (took_more taken was_put sink_faults a b c (answered_lines cell opening asked)
             (answers cell front (old.asked + 1) asks) so_far.took
@@ -183,6 +188,13 @@ module _ {D K : Type 0} (reads_as : D → Option (List ℕ)) (may_leave : D → 
         sink_still = still ∙ so_far.sink_still;
         input_still = so_far.input_still;
         disk_still = fed ∙ so_far.disk_still;
+        room = omega (
+          arith,
+          round.room,
+          length-append opening (since cell opening asked),
+          length-append (since cell opening asked) more,
+          ap (λ (gs : List Grant). length gs) added,
+        );
       }
 
   -- a round that stops
@@ -206,7 +218,13 @@ module _ {D K : Type 0} (reads_as : D → Option (List ℕ)) (may_leave : D → 
               ∙ (λ i. (map-append (ask_of cell) given last.taken ∙ ap (λ (l : List Ask). asked ++ l) last.parted
               ∙ sym (append_assoc asked last.group last.others)) i ++ ahead)
               ∙ append_assoc (asked ++ last.group) last.others ahead;
-          ends = Stopped (stops_so cell opening asked last.group (old.asked + 1) number_is last.others ahead last.outcome last.stops);
+          ends = Stopped (stops_so cell opening asked last.group old.asked number_is last.others ahead last.outcome last.stops);
+          room = omega (
+            arith,
+            last.room,
+            length-append opening (since cell opening asked),
+            length-append (since cell opening asked) last.outcome.added,
+          );
         };
         delivered = delivered_after taken was_put sink_faults a b c (answered_lines cell opening asked) so_far.took so_far.sink_still status
             last.outcome outcome refl refl last.delivered;
@@ -239,6 +257,7 @@ module _ {D : Type 0} (reads_as : D → Option (List ℕ)) (may_leave : D → Li
     sink_still = so_far.sink_still;
     input_still = still ∙ so_far.input_still;
     disk_still = so_far.disk_still;
+    room = so_far.room;
   }
 
   -- the last one is empty
@@ -273,6 +292,7 @@ module _ {D : Type 0} (reads_as : D → Option (List ℕ)) (may_leave : D → Li
     sink_still = so_far.sink_still;
     input_still = no_read ∙ so_far.input_still;
     disk_still = so_far.disk_still;
+    room = so_far.room;
   }
 
   -- nothing is put, in a call that belongs to the put before it
@@ -295,6 +315,7 @@ module _ {D : Type 0} (reads_as : D → Option (List ℕ)) (may_leave : D → Li
     sink_still = still ∙ so_far.sink_still;
     input_still = so_far.input_still;
     disk_still = so_far.disk_still;
+    room = so_far.room;
   }
 
 -- it could not be read
@@ -327,6 +348,7 @@ module _ {D K S : Type 0} (reads_as : D → Option (List ℕ)) (may_leave : D �
           others = [];
           split = none_ahead cell so_far.text given lines so_far.reads spent ∙ sym (append-nil asked_all);
           ends = InputLost refl (subst (λ (n : ℕ). Rose n (input_faults z)) so_far.input_still rose) refl;
+          room = omega (arith, so_far.room);
         };
         delivered = delivered_after taken was_put sink_faults a b c
             (answered_lines cell opening asked_all) so_far.took so_far.sink_still status
@@ -342,10 +364,15 @@ module _ {D K S : Type 0} (reads_as : D → Option (List ℕ)) (may_leave : D �
     (only_now : (c : List ℕ) → left_since server.live.disk (moment server.live.disk) c → may_leave server.live.disk c)
     (gave : S → Option (List ℕ)) (ended : S → Type 0) (input_faults : S → ℕ) (x y : S) (unread : gave y ≡ gave x)
     (no_read : input_faults y ≡ input_faults x) (taken : K → Option (List ℕ)) (was_put : K → List ℕ → K → Type 0) (sink_faults : K → ℕ) (a b : K) (line : List ℕ)
-    (line_is : line ≡ line_of (head_words 0 server.live.len)) where
+    (line_is : line ≡ line_of (head_words 0 server.live.len))
+    (fits : server.live.len + length server.live.pending ≤ MAX_SERVED) where
   pub head_is : line ≡ line_of (head_words 0 (length opening))
   head_is = line_is ∙ ap (λ (n : ℕ). line_of (head_words 0 n))
       (omega (arith, behind.at.number, ap (λ (gs : List Grant). length gs) ready.pending))
+
+  -- the journal has room for the grants of the opening
+  pub within : length opening ≤ MAX_SERVED
+  within = omega (arith, fits, behind.at.number)
 
   nothing_left : IsLeftWith reads_as may_leave moment left_since faults cell_text opening [] [] server.live.disk server.live.disk
   nothing_left = left_begins reads_as may_leave moment left_since faults cell_text opening server.live.disk only_now behind.disk
@@ -362,13 +389,14 @@ module _ {D K S : Type 0} (reads_as : D → Option (List ℕ)) (may_leave : D �
     came = nothing_came;
     reads = record { begun = []; kept = refl; goes_on = λ more. refl };
     cell_is = refl;
-    asked = new;
+    asked = ap line_number new;
     stands_after = subst (λ (gs : List Grant). StandsAfter reads_as may_leave cell_text gs server) (sym (append-nil opening)) behind;
     left = nothing_left;
     took = subst (λ (l : List ℕ). TookAll (sink_told taken was_put sink_faults a b) (l ∷ [])) head_is took;
     sink_still = still;
     input_still = no_read;
     disk_still = refl;
+    room = omega (arith, within);
   }
 
   -- it was not
@@ -384,6 +412,7 @@ module _ {D K S : Type 0} (reads_as : D → Option (List ℕ)) (may_leave : D �
       others = [];
       split = refl;
       ends = Stopped (FailedSink refl);
+      room = omega (arith, within);
     };
     delivered = Cut refl (subst (λ (l : List ℕ). TookSome (sink_told taken was_put sink_faults a b) (l ∷ [])) head_is some) rose;
     left = nothing_left;
@@ -437,6 +466,7 @@ module _ {D K : Type 0} (reads_as : D → Option (List ℕ)) (may_leave : D → 
       others = [];
       split = none_ahead cell so_far.text given lines so_far.reads spent ∙ sym (append-nil asked_to_end);
       ends = InputEnded refl at_end drains refl;
+      room = omega (arith, so_far.room);
     };
     delivered = delivered;
     left = so_far.left;

@@ -1,7 +1,8 @@
 -- What each moment of a conversation says of its file.
 use Rattle.std.specs.Prelude.{◌==◌, ◌&&◌}
 use Rattle.std.proofs.Common.{◌≡◌, ◌⊎◌, ⊎_elim, inl, inr, ℕ, zero, suc, ◌+◌, ◌≤◌, cond, Bool, true, false, List, [], ◌∷◌, ◌++◌}
-use Rattle.std.proofs.Common.{refl, sym, ap, ◌∙◌, subst, arith, append_assoc, append-nil}
+use Rattle.std.proofs.Common.{length, refl, sym, ap, ◌∙◌, subst, arith, append_assoc, append-nil}
+use Rattle.std.proofs.lemmas.List.{length-append}
 use Rattle.cell_base.specs.declared.cells.Cell.{Cell}
 use Rattle.cell_base.specs.declared.shifts.Grant.{Grant}
 use Rattle.cell_base.specs.Histories.{is_granted}
@@ -9,12 +10,13 @@ use Rattle.move_journal.specs.Journals.{StandsFor}
 use Rattle.move_journal.proofs.Uniqueness.{journal_of, one_journal}
 use Rattle.peers.specs.Moments.{Moment}
 use Rattle.serve_command.specs.Answers.{added_by, count_of, reply_after, since}
-use Rattle.serve_command.specs.ExactlyOnce.{Acknowledged, ExactlyOnce, GoesOn, answered_by, grants_line, is_step_of, steps_of, told_by}
+use Rattle.serve_command.specs.ExactlyOnce.{Acknowledged, ExactlyOnce, GoesOn, OneGroup, answered_by, grants_line, is_step_of, steps_of, told_by}
 use Rattle.serve_command.specs.ExactlyOnce.{unanswered_by}
 use Rattle.serve_command.specs.Laws.{is_told_granted, told_granted}
 use Rattle.serve_command.specs.Lives.{AreSent, Ending, Halting, IsLive, Ready, Serving, Start, grants_then}
 use Rattle.serve_command.specs.declared.asks.Ask.{Ask}
-use Rattle.serve_command.specs.declared.asks.Ask.TheVariants.{Step, Count, Why, Left, Nothing}
+use Rattle.serve_command.specs.declared.asks.Ask.TheVariants.{Step}
+use Rattle.serve_command.specs.declared.replies.TheConstants.{GROUP_LINES}
 use Rattle.serve_command.proofs.Grouping.{since-append}
 use Rattle.serve_command.proofs.Histories.{each_once}
 
@@ -38,10 +40,7 @@ told_few cell earlier session (ask ∷ asks) = omega (arith, one_few ask, told_f
 
     one_few : (ask : Ask) → cond (is_told_granted cell earlier session ask) 1 0 ≤ cond (is_step_of session ask) 1 0
     one_few (Step asking request) = by_reply (is_granted (reply_after cell earlier request)) (asking == session)
-    one_few (Count asking) = omega arith
-    one_few (Why request) = omega arith
-    one_few Left = omega arith
-    one_few Nothing = omega arith
+    one_few _ = omega arith
 
 zero_or_one : (n told count : ℕ) → n ≤ 1 → count ≡ told + n → (count ≡ told) ⊎ (count ≡ told + 1)
 zero_or_one zero told count few is = inl (omega (arith, is))
@@ -61,11 +60,13 @@ module _ (start : Start) where
   record Says (at : Moment) (answered unanswered : List Ask) : Type 0 where
     sent : AreSent start (answered ++ unanswered) at
     image : StandsFor at.image start.text (Then answered) ⊎ StandsFor at.image start.text (Then (answered ++ unanswered))
+    few : length unanswered ≤ GROUP_LINES
 
   says : (at : Moment) (live : IsLive start at) → Says at (answered_by live) (unanswered_by live)
-  says at (Ready given put image) = record {
-    sent = ([], [], given ∙ sym (append-nil start.given), refl);
+  says at (Ready given room put image) = record {
+    sent = ([], [], given ∙ sym (append-nil start.given), refl, room);
     image = inl (subst (StandsFor at.image start.text) (sym (append-nil start.opening)) image);
+    few = omega arith;
   }
   says at (Serving serving) = record {
     sent = serving.sent;
@@ -73,6 +74,7 @@ module _ (start : Start) where
         (λ none. inl (subst (λ (asks : List Ask). StandsFor at.image start.text (Then asks))
         (sym (append-nil serving.earlier) ∙ ap (λ (asks : List Ask). serving.earlier ++ asks) (sym none.0)) none.2))
         serving.image;
+    few = omega (arith, serving.few, length-append serving.shown serving.rest);
   }
   says at (Halting halting) =
       let all : List Ask = halting.next ∷ halting.rest in
@@ -86,14 +88,27 @@ module _ (start : Start) where
             (sym (more_after halting.earlier (halting.before ++ all))
             ∙ ap Then (sym (append_assoc halting.earlier halting.before all))) after))
             halting.image;
+        few = omega (arith, halting.few, length-append halting.before all);
       }
   says at (Ending ending) = record {
     sent = subst (λ (asks : List Ask). AreSent start asks at) (sym (append-nil ending.asked)) ending.sent;
     image = inl ending.image;
+    few = omega arith;
   }
 
   sent_first : (first then : List Ask) (at : Moment) → AreSent start (first ++ then) at → AreSent start first at
-  sent_first first then at sent = (sent.0, then ++ sent.1, sent.2, sent.3 ∙ append_assoc first then sent.1)
+  sent_first first then at sent = (
+    sent.0,
+    then ++ sent.1,
+    sent.2,
+    sent.3 ∙ append_assoc first then sent.1,
+    omega (
+      arith,
+      sent.4,
+      ap (λ (gs : List Grant). length gs) (more_after first then),
+      length-append (Then first) (since start.cell (Then first) then),
+    ),
+  )
 
   pub acknowledged : Acknowledged start
   acknowledged at live = ⊎_elim
@@ -103,6 +118,15 @@ module _ (start : Start) where
         subst (StandsFor at.image start.text) (more_after (answered_by live) (unanswered_by live)) all,
       ))
       (says at live).image
+
+  pub one_group : OneGroup start
+  one_group at live = (
+    (says at live).few,
+    λ next stands. ⊎_elim
+        (λ none. inl (stands_for_one at.image start.text next (Then (answered_by live)) stands none))
+        (λ all. inr (stands_for_one at.image start.text next (Then (answered_by live ++ unanswered_by live)) stands all))
+        (says at live).image,
+  )
 
   pub goes_on_after : GoesOn start
   goes_on_after at live next stands =

@@ -4,7 +4,7 @@ use Rattle.std.proofs.Common.{◌≡◌, ℕ, ◌+◌, List, [], ◌∷◌, ◌+
 use Rattle.std.proofs.lemmas.List.{length-append}
 use Rattle.cell_base.specs.declared.cells.Cell.{Cell}
 use Rattle.cell_base.specs.declared.shifts.Grant.{Grant}
-use Rattle.serve_command.specs.Answers.{added_by, answer, answers, halted_line, since}
+use Rattle.serve_command.specs.Answers.{added_by, answer, answers, halted_line, line_number, since}
 use Rattle.serve_command.specs.Serving.{TakesOneLine, IsAskAnswered, IsFirstGrant, IsAnsweredGroup, StandsAt, first_after}
 use Rattle.serve_command.specs.declared.asks.Ask.{Ask}
 use Rattle.serve_command.specs.declared.server.FirstGrant.{FirstGrant}
@@ -33,9 +33,23 @@ module _ (cell : Cell) where
       let more = added_by cell grants ask in
       let rest = since cell (grants ++ more) first in
       let count : number + 1 + length first ≡ number + length (ask ∷ first) = omega arith in
-      ap (λ (ls : List (List ℕ)). answer cell grants number ask ∷ ls) (answers-append (grants ++ more) (number + 1) first then)
-      ∙ (λ i. answer cell grants number ask ∷ answers cell (grants ++ more) (number + 1) first
+      let line = answer cell grants (line_number number) ask in
+      ap (λ (ls : List (List ℕ)). line ∷ ls) (answers-append (grants ++ more) (number + 1) first then)
+      ∙ (λ i. line ∷ answers cell (grants ++ more) (number + 1) first
       ++ answers cell (append_assoc grants more rest i) (count i) then)
+
+  -- numbers that are known alike give the same answers
+  pub answers-known : (grants : List Grant) (number known : ℕ) (asks : List Ask) → line_number known ≡ line_number number
+      → answers cell grants (known + 1) asks ≡ answers cell grants (number + 1) asks
+  answers-known grants number known asks is = each grants (known + 1) (number + 1) asks (λ n. omega (arith, is))
+    where
+      each : (grants : List Grant) (one other : ℕ) (asks : List Ask) → ((n : ℕ) → line_number (one + n) ≡ line_number (other + n))
+          → answers cell grants one asks ≡ answers cell grants other asks
+      each grants one other [] alike = refl
+      each grants one other (ask ∷ asks) alike =
+          let here : line_number one ≡ line_number other = omega (arith, alike 0) in
+          (λ i. answer cell grants (here i) ask
+          ∷ each (grants ++ added_by cell grants ask) (one + 1) (other + 1) asks (λ n. omega (arith, alike (1 + n))) i)
 
   pub length-answers : (grants : List Grant) (number : ℕ) (asks : List Ask) → length (answers cell grants number asks) ≡ length asks
   length-answers grants number [] = refl
@@ -89,7 +103,7 @@ module _ (cell : Cell) where
     group_goes ask new answered goes =
         let behind = grants ++ since cell grants group in
         let more = added_by cell behind ask in
-        let count : mid.asked + 1 ≡ number + 1 + length group = omega (arith, is.asked) in
+        let count : line_number (mid.asked + 1) ≡ line_number (number + 1 + length group) = omega (arith, is.asked) in
         let long : length mid.replies ≡ length group = ap (λ (ls : List (List ℕ)). length ls) is.replies
         ∙ length-answers grants (number + 1) group in
         record {

@@ -18,7 +18,7 @@ use Rattle.record_text.specs.Lines.{head_words, line_of}
 use Rattle.serve_command.specs.Answers.{added_by, answers, count_of, entry_of, reply_after, session_grant, since}
 use Rattle.serve_command.specs.Laws.{EachOnce, IsAskedStep, IsBlock, IsServedHistory, history_of, is_told_granted}
 use Rattle.serve_command.specs.declared.asks.Ask.{Ask}
-use Rattle.serve_command.specs.declared.asks.Ask.TheVariants.{Step, Count, Why, Left, Nothing}
+use Rattle.serve_command.specs.declared.asks.Ask.TheVariants.{Step}
 use Rattle.cell_texts.specs.Blocks.{entry_line}
 use Rattle.durable_cell.proofs.Replaying.{after_more}
 use Rattle.serve_command.proofs.Counting.{count-push}
@@ -38,10 +38,7 @@ module _ (cell : Cell) where
           ≡ count_of session behind + cond (granted && (asking == session)) 1 0
       by_reply true = count-push session behind (session_grant asking request)
       by_reply false = count_none behind session
-  one_ask behind session (Count asking) = count_none behind session
-  one_ask behind session (Why request) = count_none behind session
-  one_ask behind session Left = count_none behind session
-  one_ask behind session Nothing = count_none behind session
+  one_ask behind session _ = count_none behind session
 
   pub each_once : EachOnce cell
   each_once opening session [] = count_none opening session
@@ -83,10 +80,7 @@ module _ (cell : Cell) where
           subst (λ (parts : List Part). IsLegal cell parts (history_of cell (behind ++ more) asked))
               (sym (after_step behind session request (reply_after cell behind request) refl)) (legal (behind ++ more) asked),
         )
-    legal behind (Count session ∷ asked) = still behind asked (legal (behind ++ []) asked)
-    legal behind (Why request ∷ asked) = still behind asked (legal (behind ++ []) asked)
-    legal behind (Left ∷ asked) = still behind asked (legal (behind ++ []) asked)
-    legal behind (Nothing ∷ asked) = still behind asked (legal (behind ++ []) asked)
+    legal behind (_ ∷ asked) = still behind asked (legal (behind ++ []) asked)
 
     granted : (behind : List Grant) (asked : List Ask) → grants 0 (history_of cell behind asked) ≡ since cell behind asked
     granted behind [] = refl
@@ -94,10 +88,7 @@ module _ (cell : Cell) where
         let more : List Grant = added_by cell behind (Step session request) in
         granted_step session request (reply_after cell behind request) (history_of cell (behind ++ more) asked)
         ∙ ap (λ (gs : List Grant). more ++ gs) (granted (behind ++ more) asked)
-    granted behind (Count session ∷ asked) = granted (behind ++ []) asked
-    granted behind (Why request ∷ asked) = granted (behind ++ []) asked
-    granted behind (Left ∷ asked) = granted (behind ++ []) asked
-    granted behind (Nothing ∷ asked) = granted (behind ++ []) asked
+    granted behind (_ ∷ asked) = granted (behind ++ []) asked
 
     pub one_history : (opening : List Grant) (asked : List Ask) → IsServedHistory cell opening asked
     one_history opening asked = record { legal = legal opening asked; granted = granted opening asked }
@@ -111,10 +102,7 @@ module _ (cell : Cell) where
       let more : List Grant = added_by cell behind (Step session request) in
       ap (λ (ls : List (List ℕ)). entry_line cell (entry_of session request (Answered (reply_after cell behind request))) ∷ ls)
       (entry_lines (behind ++ more) (number + 1) asked (All-tail IsAskedStep (Step session request) asked steps))
-  entry_lines behind number (Count session ∷ asked) steps = absurd (All-head IsAskedStep (Count session) asked steps)
-  entry_lines behind number (Why request ∷ asked) steps = absurd (All-head IsAskedStep (Why request) asked steps)
-  entry_lines behind number (Left ∷ asked) steps = absurd (All-head IsAskedStep Left asked steps)
-  entry_lines behind number (Nothing ∷ asked) steps = absurd (All-head IsAskedStep Nothing asked steps)
+  entry_lines behind number (ask ∷ asked) steps = absurd (All-head IsAskedStep ask asked steps)
 
   pub is_block : (opening : List Grant) (asked : List Ask) → IsBlock cell opening asked
   is_block opening asked steps =

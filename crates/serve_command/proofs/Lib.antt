@@ -1,5 +1,6 @@
 pub mod Answering
 pub mod Asking
+pub mod Completing
 pub mod Conversing
 pub mod Counting
 pub mod Crashing
@@ -15,3 +16,4 @@ pub mod RoundLives
 pub mod Rounding
 pub mod Standing
 pub mod Taking
+pub mod Wording

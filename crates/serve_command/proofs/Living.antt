@@ -21,7 +21,7 @@ use Rattle.peers.specs.Reads.{IsRead}
 use Rattle.peers.specs.Runs.{RunsTo, call_runs, disk_runs, runs_on, runs_wider}
 use Rattle.serve_command.specs.Answers.{added_by, answers, halted_line, since}
 use Rattle.serve_command.specs.Asks.{ask_of}
-use Rattle.serve_command.specs.Lives.{AreLast, AreSent, Ending, Halting, IsLive, IsServing, Ready, Serving, Start}
+use Rattle.serve_command.specs.Lives.{AreLast, AreSent, Ending, Halting, HasRoom, IsLive, IsServing, Ready, Serving, Start}
 use Rattle.serve_command.specs.Lives.{answers_then, grants_then, put_then}
 use Rattle.serve_command.specs.Serve.{answered_lines}
 use Rattle.serve_command.specs.declared.asks.Ask.{Ask}
@@ -120,25 +120,36 @@ module _ {D T : Type 0} (disk : DiskMeaning D) (peer : PeerMeaning T D) where
 
   module _ (start : Start) where
     -- the asks of what was read
-    pub sent_so : (text : List ℕ) (lines : List (List ℕ)) (state : LinesState) → AreLinesSoFar text lines state → (more : List ℕ) (at : Moment)
-        → at.given ≡ start.given ++ (text ++ more) → AreSent start (map (ask_of start.cell) lines) at
-    sent_so text lines state reads more at is = (
-      text ++ more,
-      map (ask_of start.cell) (lines_after reads.begun (state.ahead ++ more)),
-      is,
-      ap (map (ask_of start.cell)) (reads.goes_on more)
-          ∙ map-append (ask_of start.cell) lines (lines_after reads.begun (state.ahead ++ more)),
-    )
+    pub sent_part : (text : List ℕ) (lines : List (List ℕ)) (state : LinesState) → AreLinesSoFar text lines state → (first then : List Ask)
+        → map (ask_of start.cell) lines ≡ first ++ then → HasRoom start first → (more : List ℕ) (at : Moment)
+        → at.given ≡ start.given ++ (text ++ more) → AreSent start first at
+    sent_part text lines state reads first then parted room more at is =
+        let ahead : List Ask = map (ask_of start.cell) (lines_after reads.begun (state.ahead ++ more)) in (
+          text ++ more,
+          then ++ ahead,
+          is,
+          ap (map (ask_of start.cell)) (reads.goes_on more)
+              ∙ map-append (ask_of start.cell) lines (lines_after reads.begun (state.ahead ++ more))
+              ∙ ap (λ (l : List Ask). l ++ ahead) parted ∙ append_assoc first then ahead,
+          room,
+        )
+
+    pub sent_so : (text : List ℕ) (lines : List (List ℕ)) (state : LinesState) → AreLinesSoFar text lines state
+        → HasRoom start (map (ask_of start.cell) lines) → (more : List ℕ) (at : Moment) → at.given ≡ start.given ++ (text ++ more)
+        → AreSent start (map (ask_of start.cell) lines) at
+    sent_so text lines state reads room more at is =
+        let asks : List Ask = map (ask_of start.cell) lines in
+        sent_part text lines state reads asks [] (sym (append-nil asks)) room more at is
 
     -- the head is put
-    pub head_lives : (rests : D) (a b : T) → IsBeside disk peer rests a b (line_of (head_words 0 (length start.opening)) ∷ [])
+    pub head_lives : HasRoom start [] → (rests : D) (a b : T) → IsBeside disk peer rests a b (line_of (head_words 0 (length start.opening)) ∷ [])
         → peer.given a ≡ Some start.given → peer.taken a ≡ Some start.before → peer.since a ≤ disk.moment rests
         → ((c : List ℕ) → disk.may_leave rests c → StandsFor c start.text start.opening) → RunsTo disk peer a rests b rests (IsLive start)
-    head_lives rests a b beside given_is put_is clock stands =
+    head_lives room rests a b beside given_is put_is clock stands =
         runs_wider disk peer a b rests rests
         (IsPutting disk.may_leave start.given start.before (line_of (head_words 0 (length start.opening)) ∷ []) rests) (IsLive start)
         (beside.runs start.given start.before given_is put_is clock)
-        (λ at put. Ready put.0 put.1 (stands at.image put.2))
+        (λ at put. Ready put.0 room put.1 (stands at.image put.2))
 
     module _ (asked : List Ask) where
       abbrev behind : List Grant

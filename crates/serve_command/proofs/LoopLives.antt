@@ -2,11 +2,15 @@
 use Rattle.std.specs.Prelude.{Option, Some, ⊤}
 use Rattle.std.specs.List.{concat}
 use Rattle.std.specs.Io.KnownBytes.{Appends}
-use Rattle.std.proofs.Common.{◌≡◌, ℕ, ◌≤◌, List, [], ◌∷◌, ◌++◌, length, map, sym, ap, ◌∙◌, subst, append-nil}
+use Rattle.std.proofs.Common.{◌≡◌, ℕ, ◌+◌, ◌≤◌, List, [], ◌∷◌, ◌++◌, length, map, sym, ap, ◌∙◌, subst, arith, append-nil}
+use Rattle.std.proofs.lemmas.List.{length-append}
 use Rattle.outside_io.specs.Disk.{Turns}
 use Rattle.outside_io.specs.Meanings.{DiskMeaning}
+use Rattle.outside_io.specs.Puts.{SinkTold}
+use Rattle.outside_io.specs.Source.{SourceTold}
 use Rattle.outside_io.specs.Telling.{where_told, told, turned}
 use Rattle.cell_base.specs.declared.cells.Cell.{Cell}
+use Rattle.cell_base.specs.declared.shifts.Grant.{Grant}
 use Rattle.admission_core.specs.CoreState.{CoreState}
 use Rattle.cell_base.specs.Histories.{replay}
 use Rattle.cell_base.specs.Plans.{plan_of}
@@ -20,9 +24,10 @@ use Rattle.peers.specs.Runs.{RunsTo, runs_on}
 use Rattle.serve_command.specs.Answers.{since}
 use Rattle.serve_command.specs.Asks.{ask_of}
 use Rattle.serve_command.specs.Conversing.{IsConversing}
-use Rattle.serve_command.specs.Lives.{AreLast, IsLive, IsServedTo, IsStart, LivesTo, Start, grants_then}
+use Rattle.serve_command.specs.Lives.{AreLast, HasRoom, IsLive, IsServedTo, IsStart, LivesTo, Start, grants_then}
 use Rattle.serve_command.specs.Rounds.{StandsAfter}
 use Rattle.serve_command.specs.Serve.{answered_lines}
+use Rattle.serve_command.specs.declared.command.TheConstants.{MAX_SERVED}
 use Rattle.serve_command.specs.declared.server.Server.{Server}
 use Rattle.serve_command.proofs.Living.{head_lives, last_run, read_run, sent_so}
 use Rattle.serve_command.proofs.RoundLives.{grown}
@@ -54,11 +59,12 @@ module _ {D T : Type 0} (disk : DiskMeaning D) (peer : PeerMeaning T D) (start :
 
   -- the head is put
   pub begins_live : (server : Server D) (a b : T) (line : List ℕ) → IsStart disk peer start server a
-      → line ≡ line_of (head_words 0 (length start.opening)) → IsBeside disk peer server.live.disk a b (line ∷ [])
-      → LivesTo disk peer start server.live.disk a server.live.disk b
-  begins_live server a b line is line_is beside = where_told (disk.reads_as server.live.disk)
+      → line ≡ line_of (head_words 0 (length start.opening)) → server.live.len + length server.live.pending ≤ MAX_SERVED
+      → IsBeside disk peer server.live.disk a b (line ∷ []) → LivesTo disk peer start server.live.disk a server.live.disk b
+  begins_live server a b line is line_is fits beside = where_told (disk.reads_as server.live.disk)
       (λ _. RunsTo disk peer a server.live.disk b server.live.disk (IsLive start))
-      (λ file here. head_lives disk peer start server.live.disk a b
+      (λ file here. head_lives disk peer start
+      (omega (arith, fits, is.stands_after.at.number, length-append start.opening [])) server.live.disk a b
       (subst (λ (l : List ℕ). IsBeside disk peer server.live.disk a b (l ∷ [])) line_is beside) is.given_is is.put_is is.clock
       (told _ _ file here is.stands_after.disk).1)
 
@@ -83,14 +89,25 @@ module _ {D T : Type 0} (disk : DiskMeaning D) (peer : PeerMeaning T D) (start :
     clock = clock;
   }
 
+  -- the journal has room for the grants so far
+  pub has_room : {input : SourceTold} {sink : SinkTold} (server now : Server D) (lines : LinesState) (given : List (List ℕ)) (a : T)
+      → IsStart disk peer start server a
+      → IsConversing disk.reads_as disk.may_leave disk.moment disk.left_since disk.faults input sink server.live.cell start.text start.opening
+      server.live.disk now lines given
+      → HasRoom start (map (ask_of start.cell) given)
+  has_room server now lines given a is so =
+      let added : Cell → List Grant = λ cell. since cell start.opening (map (ask_of cell) given) in
+      subst (λ (cell : Cell). length (start.opening ++ added cell) ≤ MAX_SERVED) is.cell_is
+      (omega (arith, so.room, length-append start.opening (added server.live.cell)))
+
   module _ (now : Server D) (lines : LinesState) (text : List ℕ) (given : List (List ℕ)) (a b : T)
-      (served : IsServedTo disk peer start text given now lines a) where
+      (served : IsServedTo disk peer start text given now lines a) (room : HasRoom start (map (ask_of start.cell) given)) where
     -- a piece of the input is read
     pub read_lives : IsRead disk peer now.live.disk a b → LivesTo disk peer start now.live.disk a now.live.disk b
     read_lives read = where_told (disk.reads_as now.live.disk)
         (λ _. RunsTo disk peer a now.live.disk b now.live.disk (IsLive start))
         (λ file here. read_run disk peer start (map (ask_of start.cell) given) a text served.given_is served.put_is
-        (λ more at is. sent_so disk peer start text given lines served.reads more at is) now.live.disk b served.clock
+        (λ more at is. sent_so disk peer start text given lines served.reads room more at is) now.live.disk b served.clock
         (told _ _ file here served.stands_after.disk).1 read)
 
     -- the last lines are put
@@ -99,7 +116,7 @@ module _ {D T : Type 0} (disk : DiskMeaning D) (peer : PeerMeaning T D) (start :
     last_lives last last_is beside = where_told (disk.reads_as now.live.disk)
         (λ _. RunsTo disk peer a now.live.disk b now.live.disk (IsLive start))
         (λ file here. last_run disk peer start (map (ask_of start.cell) given) a text served.given_is served.put_is last last_is
-        (λ at is. sent_so disk peer start text given lines served.reads [] at
+        (λ at is. sent_so disk peer start text given lines served.reads room [] at
         (is ∙ ap (λ (l : List ℕ). start.given ++ l) (sym (append-nil text)))) now.live.disk b served.clock
         (told _ _ file here served.stands_after.disk).1 beside)
 
@@ -112,8 +129,8 @@ module _ {D T : Type 0} (disk : DiskMeaning D) (peer : PeerMeaning T D) (start :
         (λ file here.
         let stands = (told _ _ file here served.stands_after.disk).1 in
         let first = read_run disk peer start (map (ask_of start.cell) given) a text served.given_is served.put_is
-        (λ more at is. sent_so disk peer start text given lines served.reads more at is) now.live.disk b served.clock stands read in
+        (λ more at is. sent_so disk peer start text given lines served.reads room more at is) now.live.disk b served.clock stands read in
         runs_on disk peer a b c now.live.disk now.live.disk now.live.disk (IsLive start) first
         (last_run disk peer start (map (ask_of start.cell) given) b text (unread ∙ served.given_is) (read.same ∙ served.put_is) last last_is
-        (λ at is. sent_so disk peer start text given lines served.reads [] at
+        (λ at is. sent_so disk peer start text given lines served.reads room [] at
         (is ∙ ap (λ (l : List ℕ). start.given ++ l) (sym (append-nil text)))) now.live.disk c first.clock stands beside))

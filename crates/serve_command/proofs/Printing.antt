@@ -16,9 +16,7 @@ use Rattle.lent_peers.proofs.LentRuns.{some_faults, some_took}
 use Rattle.peers.specs.Meanings.{PeerMeaning, peer_took}
 use Rattle.peers.specs.Moments.{Moment, IsDuringPut}
 use Rattle.peers.specs.Runs.{HasMoment}
-use Rattle.cell_walks.specs.Outcomes.{Cut, IsDelivered, Whole, early}
-use Rattle.cell_walks.specs.Statuses.{early_line}
-use Rattle.cell_walks.specs.declared.early_end.EarlyEnd.{EarlyEnd}
+use Rattle.cell_walks.specs.Outcomes.{Cut, IsDelivered, Outcome, Whole}
 use Rattle.cell_walks.specs.declared.status.Status.{Status}
 use Rattle.cell_walks.specs.declared.status.Status.TheVariants.{SinkFault}
 
@@ -128,19 +126,20 @@ module _ {D T : Type 0} (disk : DiskMeaning D) (peer : PeerMeaning T D) where
       pub some_handed_part : TookSome (lent_told disk peer a b) lines → TookSome (peer_took peer first last) lines
       some_handed_part some = some_still peer.taken peer.was_put peer.faults mid last of_put same first lines (failed_took some)
 
--- ---- an early end
+-- ---- an outcome that is put
 
 module _ {D T : Type 0} (disk : DiskMeaning D) (peer : PeerMeaning T D) (a b : Lent D T) (rests : D) (first mid last : T)
     (disk_is : a.disk.now ≡ rests) (first_is : a.peer.now ≡ first) (mid_is : b.peer.ghost_name ≡ a.peer.ghost_name → mid ≡ b.peer.now)
     (flush : WentOn disk peer rests mid last) (same : peer.taken last ≡ peer.taken mid)
-    (of_put : (t : T) (piece : List ℕ) → peer.was_put t piece mid → peer.was_put t piece last) (end : EarlyEnd) where
+    (of_put : (t : T) (piece : List ℕ) → peer.was_put t piece mid → peer.was_put t piece last) (outcome : Outcome)
+    (some_lines : 0 < length outcome.pieces) where
   abbrev lines : Lines
-  lines = early_line end ∷ []
+  lines = outcome.pieces
 
   risen : (x y z : ℕ) → Rose x y → y ≤ z → Rose x z
   risen x y z rose later = omega (arith, rose, later)
 
-  pub finished_beside : (status : Status) → IsDelivered (lent_told disk peer a b) (early end) status
+  pub finished_beside : (status : Status) → IsDelivered (lent_told disk peer a b) outcome status
       → IsBeside disk peer rests first last lines
   finished_beside status (Whole is taken all kept) =
       handed_on_beside disk peer a b rests first mid disk_is first_is mid_is lines last flush same of_put all
@@ -148,11 +147,11 @@ module _ {D T : Type 0} (disk : DiskMeaning D) (peer : PeerMeaning T D) (a b : L
       some_handed_beside disk peer a b rests first mid disk_is first_is mid_is lines last flush same of_put some
 
   -- what was put is handed on
-  pub finished : (status : Status) → IsDelivered (lent_told disk peer a b) (early end) status → peer.faults last ≡ peer.faults mid
-      → IsDelivered (peer_took peer first last) (early end) status
+  pub finished : (status : Status) → IsDelivered (lent_told disk peer a b) outcome status → peer.faults last ≡ peer.faults mid
+      → IsDelivered (peer_took peer first last) outcome status
   finished status (Whole is taken all kept) still =
       Whole is taken
-      (handed_whole disk peer a b rests first mid disk_is first_is mid_is lines last flush same of_put (omega arith) all)
+      (handed_whole disk peer a b rests first mid disk_is first_is mid_is lines last flush same of_put some_lines all)
       (still ∙ handed_still disk peer a b rests first mid disk_is first_is mid_is lines last flush same of_put all kept)
   finished status (Cut is some rose) still =
       Cut is (some_handed_part disk peer a b rests first mid disk_is first_is mid_is lines last flush same of_put some)
@@ -160,11 +159,11 @@ module _ {D T : Type 0} (disk : DiskMeaning D) (peer : PeerMeaning T D) (a b : L
       (failed_faults disk peer a b rests first mid disk_is first_is mid_is lines some Rose rose))
 
   -- .. or it is not
-  pub not_finished : (status : Status) → IsDelivered (lent_told disk peer a b) (early end) status
+  pub not_finished : (status : Status) → IsDelivered (lent_told disk peer a b) outcome status
       → Rose (peer.faults mid) (peer.faults last) → peer.faults mid ≤ peer.faults last
-      → IsDelivered (peer_took peer first last) (early end) SinkFault
+      → IsDelivered (peer_took peer first last) outcome SinkFault
   not_finished status (Whole is taken all kept) rose later =
-      Cut refl (handed_part disk peer a b rests first mid disk_is first_is mid_is lines last flush same of_put (omega arith) all)
+      Cut refl (handed_part disk peer a b rests first mid disk_is first_is mid_is lines last flush same of_put some_lines all)
       (subst (λ (n : ℕ). Rose n (peer.faults last))
       (handed_still disk peer a b rests first mid disk_is first_is mid_is lines last flush same of_put all kept) rose)
   not_finished status (Cut is some earlier) rose later =

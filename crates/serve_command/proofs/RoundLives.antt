@@ -21,22 +21,19 @@ use Rattle.lent_peers.specs.Beside.{IsBeside}
 use Rattle.peers.specs.Meanings.{PeerMeaning, peer_took}
 use Rattle.peers.specs.Moments.{Moment}
 use Rattle.peers.specs.Runs.{RunsTo, runs_on}
-use Rattle.serve_command.specs.Answers.{answers, since}
+use Rattle.serve_command.specs.Answers.{answers, line_number, since}
 use Rattle.serve_command.specs.Asks.{ask_of}
-use Rattle.serve_command.specs.Lives.{AreSent, IsLive, IsServedTo, LivesTo, Start, answers_then, grants_then, put_then}
+use Rattle.serve_command.specs.Lives.{AreSent, HasRoom, IsLive, IsServedTo, LivesTo, Start, answers_then, grants_then, put_then}
 use Rattle.serve_command.specs.Rounds.{AreGroupLines, IsGroupOfLines, Stays}
 use Rattle.serve_command.specs.Serve.{full_line}
 use Rattle.serve_command.specs.Serving.{IsFirstGrant}
 use Rattle.serve_command.specs.declared.asks.Ask.{Ask}
+use Rattle.serve_command.specs.declared.command.TheConstants.{MAX_SERVED}
 use Rattle.serve_command.specs.declared.replies.TheConstants.{GROUP_LINES}
 use Rattle.serve_command.specs.declared.server.FirstGrant.{FirstGrant}
 use Rattle.serve_command.specs.declared.server.Server.{Server}
-use Rattle.serve_command.proofs.Grouping.{answers-append, length-answers}
-use Rattle.serve_command.proofs.Living.{answers_run, group_runs, halts_run, last_run, put_more, grants_more, sent_so}
-
--- what was sent, up to a first part of it
-pub sent_first : (start : Start) (first then : List Ask) (at : Moment) → AreSent start (first ++ then) at → AreSent start first at
-sent_first start first then at sent = (sent.0, then ++ sent.1, sent.2, sent.3 ∙ append_assoc first then sent.1)
+use Rattle.serve_command.proofs.Grouping.{answers-append, answers-known, length-answers}
+use Rattle.serve_command.proofs.Living.{answers_run, group_runs, halts_run, last_run, put_more, grants_more, sent_part}
 
 pub grown : (old : List ℕ) (new : Option (List ℕ)) (bytes : List ℕ) → Appends (Some old) new bytes → new ≡ Some (old ++ bytes)
 grown old None bytes is = absurd is
@@ -46,7 +43,7 @@ module _ {D T : Type 0} (disk : DiskMeaning D) (peer : PeerMeaning T D) (start :
     (old mid : Server D) (before lines : LinesState) (t : T) (served : IsServedTo disk peer start text given old before t)
     (stays : Stays old mid) (full : Bool)
     (taken : IsGroupOfLines old.live.cell (grants_then start (map (ask_of start.cell) given)) old.asked text given mid lines full)
-    (few : mid.asked ≤ old.asked + GROUP_LINES) where
+    (few : length mid.replies ≤ GROUP_LINES) (fits : mid.live.len + length mid.live.pending ≤ MAX_SERVED) where
   abbrev asked : List Ask
   asked = map (ask_of start.cell) given
 
@@ -60,22 +57,36 @@ module _ {D T : Type 0} (disk : DiskMeaning D) (peer : PeerMeaning T D) (start :
   group = map (ask_of start.cell) group_is.0
 
   group_few : length group ≤ 512
-  group_few = omega (arith, few, group_is.1.asked)
+  group_few = omega (
+    arith,
+    few,
+    ap (λ (ls : List (List ℕ)). length ls) group_is.1.replies,
+    length-answers start.cell grants (old.asked + 1) group,
+  )
 
-  number : old.asked + 1 ≡ length asked + 1
-  number = omega (arith, served.asked, length-map given (ask_of start.cell))
+  -- the answers to asks of the group come next
+  numbered : (asks : List Ask) → answers start.cell grants (old.asked + 1) asks ≡ answers_then start asked asks
+  numbered asks =
+      answers-known start.cell grants (length asked) old.asked asks
+      (served.asked ∙ ap line_number (sym (length-map given (ask_of start.cell))))
+
+  room : HasRoom start (asked ++ group)
+  room = omega (
+    arith,
+    fits,
+    group_is.1.at.number,
+    ap (λ (gs : List Grant). length gs) (grants_more disk peer start asked group),
+  )
 
   all_sent : (how : Bool) → AreGroupLines start.cell grants text given group_is.0 lines how → (more : List ℕ) (at : Moment)
       → at.given ≡ start.given ++ (text ++ more) → AreSent start (asked ++ group) at
   all_sent false reads more at is =
-      subst (λ (asks : List Ask). AreSent start asks at) (map-append (ask_of start.cell) given group_is.0)
-      (sent_so disk peer start text (given ++ group_is.0) lines reads more at is)
+      sent_part disk peer start text (given ++ group_is.0) lines reads (asked ++ group) []
+      (map-append (ask_of start.cell) given group_is.0 ∙ sym (append-nil (asked ++ group))) room more at is
   all_sent true (line, reads, at_full) more at is =
-      sent_first start (asked ++ group) (ask_of start.cell line ∷ []) at
-      (subst (λ (asks : List Ask). AreSent start asks at)
+      sent_part disk peer start text (given ++ group_is.0 ++ line ∷ []) lines reads (asked ++ group) (ask_of start.cell line ∷ [])
       (map-append (ask_of start.cell) (given ++ group_is.0) (line ∷ [])
-      ∙ ap (λ (asks : List Ask). asks ++ ask_of start.cell line ∷ []) (map-append (ask_of start.cell) given group_is.0))
-      (sent_so disk peer start text (given ++ group_is.0 ++ line ∷ []) lines reads more at is))
+      ∙ ap (λ (asks : List Ask). asks ++ ask_of start.cell line ∷ []) (map-append (ask_of start.cell) given group_is.0)) room more at is
 
   sent : (at : Moment) → at.given ≡ start.given ++ text → AreSent start (asked ++ group) at
   sent at is = all_sent full group_is.2 [] at (is ∙ ap (λ (l : List ℕ). start.given ++ l) (sym (append-nil text)))
@@ -113,7 +124,7 @@ module _ {D T : Type 0} (disk : DiskMeaning D) (peer : PeerMeaning T D) (start :
           group_is.1.pending stored
 
       replies_are : mid.replies ≡ answers_then start asked group
-      replies_are = group_is.1.replies ∙ ap (λ (n : ℕ). answers start.cell grants n group) number
+      replies_are = group_is.1.replies ∙ numbered group
 
       answered_there : (file : List ℕ) → disk.reads_as old.live.disk ≡ Some file → RunsTo disk peer t old.live.disk last new (IsLive start)
       answered_there file is =
@@ -171,7 +182,7 @@ module _ {D T : Type 0} (disk : DiskMeaning D) (peer : PeerMeaning T D) (start :
           ∙ ap (take (length (answers start.cell grants (old.asked + 1) ahead)))
           (answers-append start.cell grants (old.asked + 1) ahead (next ∷ rest))
           ∙ take-append_seam (answers start.cell grants (old.asked + 1) ahead) _
-          ∙ ap (λ (n : ℕ). answers start.cell grants n ahead) number in
+          ∙ numbered ahead in
           where_told (disk.reads_as old.live.disk) (λ _. RunsTo disk peer t old.live.disk last new (IsLive start))
           (λ file is.
           let begun = written file is in

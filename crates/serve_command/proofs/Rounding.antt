@@ -11,6 +11,7 @@ use Rattle.outside_io.specs.Disk.{LeavesOnly, Turns}
 use Rattle.outside_io.specs.Puts.{SinkTold, TookAll, TookSome}
 use Rattle.cell_base.specs.declared.cells.Cell.{Cell}
 use Rattle.cell_base.specs.declared.shifts.Grant.{Grant}
+use Rattle.cell_base.specs.Fits.{RequestFits}
 use Rattle.cell_base.specs.Histories.{replay}
 use Rattle.input_lines.specs.Reading.{AreLinesSoFar, LinesState}
 use Rattle.live_cell.specs.LiveState.{LiveState, committed}
@@ -19,9 +20,9 @@ use Rattle.move_journal.specs.Journals.{IsBeforeOrAfterAll, StandsFor}
 use Rattle.cell_walks.specs.Outcomes.{Cut, IsDelivered, Outcome, printed}
 use Rattle.cell_walks.specs.declared.status.Status.{Status}
 use Rattle.cell_walks.specs.declared.status.Status.TheVariants.{DeviceFault, JournalRefused, SinkFault}
-use Rattle.serve_command.specs.Answers.{added_by, answers, halted_line, since}
+use Rattle.serve_command.specs.Answers.{added_by, answers, halted_line, line_number, since}
 use Rattle.serve_command.specs.Asks.{ask_of}
-use Rattle.serve_command.specs.Rounds.{AreGroupLines, IsLastRound, IsRound, IsGroupOfLines, Moves, Stays}
+use Rattle.serve_command.specs.Rounds.{AreGroupLines, GROUP_LINES, IsLastRound, IsRound, IsGroupOfLines, MAX_SERVED, Moves, Stays}
 use Rattle.serve_command.specs.Serve.{FailedDevice, FailedSink, FullJournal, Stops, full_line}
 use Rattle.serve_command.specs.Serving.{HasCounts, IsFirstGrant, IsAnsweredGroup, HasNoGroup, StandsAt}
 use Rattle.serve_command.specs.declared.asks.Ask.{Ask}
@@ -38,7 +39,8 @@ each P p (x ∷ xs) = All-cons (λ y. P) x xs p (each P p xs)
 module _ {D : Type 0} (reads_as : D → Option (List ℕ)) (may_leave : D → List ℕ → Type 0) (moment : D → ℕ)
     (left_since : D → ℕ → List ℕ → Type 0) (faults : D → ℕ) (sink : SinkTold) (cell_text : List ℕ) (grants : List Grant) (text : List ℕ)
     (given : List (List ℕ)) (old mid new : Server D) (lines : LinesState) (stays : Stays old mid) (full : Bool)
-    (taken : IsGroupOfLines old.live.cell grants old.asked text given mid lines full) where
+    (taken : IsGroupOfLines old.live.cell grants old.asked text given mid lines full)
+    (fits : mid.live.len + length mid.live.pending ≤ MAX_SERVED) (short : length mid.replies ≤ GROUP_LINES) where
   abbrev cell : Cell
   cell = old.live.cell
 
@@ -50,6 +52,18 @@ module _ {D : Type 0} (reads_as : D → Option (List ℕ)) (may_leave : D → Li
 
   is_group : IsAnsweredGroup cell grants old.asked asks mid
   is_group = taken.1
+
+  -- the journal has room for the grants of the group, which is no longer than one
+  within : length grants + length more ≤ MAX_SERVED
+  within = omega (arith, fits, is_group.at.number, length-append grants more)
+
+  group_few : length asks ≤ GROUP_LINES
+  group_few = omega (
+    arith,
+    short,
+    ap (λ (ls : List (List ℕ)). length ls) is_group.replies,
+    length-answers cell grants (old.asked + 1) asks,
+  )
 
   -- the lines that were taken, and what they ask
   abbrev Lines : Type 0
@@ -89,6 +103,8 @@ module _ {D : Type 0} (reads_as : D → Option (List ℕ)) (may_leave : D → Li
 
       at : StandsAt (grants ++ more) new
       at = record {
+        fit = subst (λ (c : Cell). All (λ (grant : Grant). RequestFits c grant.request) (grants ++ more))
+            (sym (ap (λ (l : LiveState D). l.cell) live_is)) is_group.at.fit;
         parts = ap (λ (l : LiveState D). l.parts) live_is ∙ is_group.at.parts
             ∙ ap (λ (c : Cell). replay c (grants ++ more)) (sym (ap (λ (l : LiveState D). l.cell) live_is));
         counts = subst (HasCounts (grants ++ more)) (sym counts_is) is_group.at.counts;
@@ -106,9 +122,10 @@ module _ {D : Type 0} (reads_as : D → Option (List ℕ)) (may_leave : D → Li
         cell_is = same_cell;
         stands_after = record { at = at; disk = stands };
         moves = moves_by more is_group.pending;
-        asked = asked_is ∙ is_group.asked ∙ ap (λ (n : ℕ). old.asked + n) (length-map taken.0 (ask_of cell));
+        asked = ap line_number asked_is ∙ is_group.asked ∙ ap (λ (n : ℕ). line_number (old.asked + n)) (length-map taken.0 (ask_of cell));
         reads = subst (AreGroupLines cell grants text given taken.0 lines) none taken.2;
         took = subst (TookAll sink) is_group.replies took;
+        room = within;
       }
 
       pub is_ready : HasNoGroup old → new.replies ≡ [] → new.first ≡ None → HasNoGroup new
@@ -142,6 +159,12 @@ module _ {D : Type 0} (reads_as : D → Option (List ℕ)) (may_leave : D → Li
             (is_group.pending ∙ sym (append-nil more) ∙ (λ i. sym added i ++ sym unsure i));
         cause = subst (λ (gs : List Grant). All (λ (grant : Grant). Rose (faults old.live.disk) (faults new.live.disk)) gs) (sym unsure)
             (All-nil (λ grant. Rose (faults old.live.disk) (faults new.live.disk)));
+        room = omega (
+          arith,
+          within,
+          ap (λ (gs : List Grant). length gs) added,
+          ap (λ (gs : List Grant). length gs) unsure,
+        );
       }
         where
           either : Shows reads_as may_leave new.live.disk (λ file. IsBeforeOrAfterAll cell_text (grants ++ more) outcome.unsure file)
@@ -199,7 +222,7 @@ module _ {D : Type 0} (reads_as : D → Option (List ℕ)) (may_leave : D → Li
           let behind : grants ++ since cell grants before ≡ grants =
           ap (λ (gs : List Grant). grants ++ gs) none ∙ append-nil grants in
           let others : List Ask = next ∷ (rest ++ all.1) in
-          let unsure : List Grant = since cell (grants ++ since cell grants before) (next ∷ take (length rest) (rest ++ all.1)) in
+          let unsure : List Grant = since cell (grants ++ since cell grants before) (next ∷ rest) in
           let outcome : Outcome = record {
             status = DeviceFault;
             pieces = answers cell grants number before ++ halted_line cell next ∷ [];
@@ -207,9 +230,7 @@ module _ {D : Type 0} (reads_as : D → Option (List ℕ)) (may_leave : D → Li
             unsure = unsure;
           } in
           let pending : mid.live.pending ≡ since cell grants before ++ unsure =
-          is_group.pending ∙ ap (since cell grants) parted ∙ since-append cell grants before (next ∷ rest)
-          ∙ ap (λ (r : List Ask). since cell grants before ++ since cell (grants ++ since cell grants before) (next ∷ r))
-          (sym (take-append_seam rest all.1)) in
+          is_group.pending ∙ ap (since cell grants) parted ∙ since-append cell grants before (next ∷ rest) in
           let alone : mid.live.pending ≡ unsure = pending ∙ ap (λ (gs : List Grant). gs ++ unsure) none in
           let first_answers : take first.at mid.replies ≡ answers cell grants number before =
           (λ i. take (place i) (is_group.replies i))
@@ -223,7 +244,13 @@ module _ {D : Type 0} (reads_as : D → Option (List ℕ)) (may_leave : D → Li
             parted = all.2 ∙ ap (λ (asked : List Ask). asked ++ all.1) parted ∙ append_assoc before (next ∷ rest) all.1;
             reads = all.3;
             outcome = outcome;
-            stops = FailedDevice next (rest ++ all.1) (length rest) refl
+            stops = FailedDevice next rest all.1 refl
+                (omega (
+                  arith,
+                  group_few,
+                  ap (λ (l : List Ask). length l) parted,
+                  length-append before (next ∷ rest),
+                ))
                 (subst (λ (gs : List Grant). 0 < length (added_by cell gs next)) (sym behind) some) refl;
             delivered = same_delivered sink status (printed DeviceFault (take first.at mid.replies ++ first.line ∷ [])) outcome refl
                 (λ i. first_answers i ++ halts i ∷ []) delivered;
@@ -231,6 +258,12 @@ module _ {D : Type 0} (reads_as : D → Option (List ℕ)) (may_leave : D → Li
                 (λ i. (sym behind i, alone i)) kept;
             moves = moves_by (since cell grants before ++ unsure) pending;
             cause = each (Rose (faults old.live.disk) (faults new.live.disk)) rose unsure;
+            room = omega (
+              arith,
+              within,
+              ap (λ (gs : List Grant). length gs) (sym is_group.pending ∙ pending),
+              length-append (since cell grants before) unsure,
+            );
           }
 
       -- there is a first grant, since without one the device is not called

@@ -12,19 +12,18 @@ use Rattle.outside_io.specs.Moments.{followed, started, widened}
 use Rattle.outside_io.specs.Telling.{told, turned, where_told}
 use Rattle.cell_base.specs.declared.shifts.Grant.{Grant}
 use Rattle.move_journal.specs.Journals.{StandsForPrefix, IsBeforeOrAfterAll, StandsFor}
-use Rattle.live_cell.specs.Moments.{opened_since}
 use Rattle.live_cell.specs.Openings.{IsOpened}
 use Rattle.move_journal.specs.Disks.{Shows}
 use Rattle.cell_walks.specs.Allowed.{StandsForAdded}
 use Rattle.cell_walks.specs.DiskTold.{disk_told}
-use Rattle.journal_texts.proofs.Disks.{now_told}
+use Rattle.journal_texts.proofs.Disks.{now_told, since_entry}
 use Rattle.serve_command.specs.Conversing.{IsLeftWith}
 use Rattle.serve_command.specs.Rounds.{Moves}
 
 -- ---- prefixes
 
 -- a prefix is a prefix of more
-pub first_of_more : {X : Type 0} (n : ℕ) (xs ys : List X) → (m : ℕ) × (take n xs ≡ take m (xs ++ ys))
+first_of_more : {X : Type 0} (n : ℕ) (xs ys : List X) → (m : ℕ) × (take n xs ≡ take m (xs ++ ys))
 first_of_more n xs ys = elim (cases_lt (length xs) n) [
   | inl past ↦ (length xs, take_all n xs (omega (arith, past)) ∙ sym (take-append_seam xs ys))
   | inr within ↦ (n, sym (take-append-le n xs ys within))
@@ -139,23 +138,20 @@ module _ {D : Type 0} (reads_as : D → Option (List ℕ)) (may_leave : D → Li
         (λ file. IsBeforeOrAfterAll text (opening ++ added) unsure file)
         (λ file. StandsFor file text (opening ++ added) ⊎ StandsFor file text (opening ++ added ++ unsure))
         (λ file is. is) (turns_both (reads_as entry) (reads_as first) (reads_as last) opened.tells left.tells) left.stands;
-    any_moment = where_told (reads_as entry)
-        (λ _. (c : List ℕ) → left_since last (moment entry) c → may_leave entry c ⊎ StandsForPrefix text opening (added ++ unsure) c)
+    any_moment = since_entry reads_as may_leave moment left_since faults entry opened.found last First opened.read
+        (where_told (reads_as entry) (λ _. LeavesOnly moment left_since opened.found last First)
         (λ file is.
         let at_first = turned (reads_as entry) (reads_as first) (λ _ _. ⊤) file is opened.tells in
-        (followed moment left_since entry first last Then
-        (widened moment left_since entry first (λ f. may_leave entry f ⊎ StandsFor f text opening) Then
-        (told (reads_as entry) (λ _. LeavesOnly moment left_since entry first (λ f. may_leave entry f ⊎ StandsFor f text opening)) file is
-        (opened_since reads_as may_leave moment left_since entry first text opening opened)) begun)
-        (widened moment left_since first last (StandsForPrefix text opening (added ++ unsure)) Then
-        (told (reads_as first) (λ _. LeavesOnly moment left_since first last (StandsForPrefix text opening (added ++ unsure))) at_first.0
-        at_first.1 left.any_moment) (λ c some. inr some))).each);
+        followed moment left_since opened.found first last First
+        (widened moment left_since opened.found first (λ f. StandsFor f text opening) First
+        (told (reads_as entry) (λ _. LeavesOnly moment left_since opened.found first (λ f. StandsFor f text opening)) file is
+        opened.any_moment) begun)
+        (told (reads_as first) (λ _. LeavesOnly moment left_since first last First) at_first.0 at_first.1 left.any_moment)));
     cause = subst (λ (n : ℕ). All (λ (grant : Grant). Rose n (faults last)) unsure) fed left.cause;
   }
     where
-      Then : List ℕ → Type 0
-      Then file = may_leave entry file ⊎ StandsForPrefix text opening (added ++ unsure) file
+      First : List ℕ → Type 0
+      First file = StandsForPrefix text opening (added ++ unsure) file
 
-      begun : (file : List ℕ) → may_leave entry file ⊎ StandsFor file text opening → Then file
-      begun file (inl was) = inl was
-      begun file (inr stands) = inr (0, subst (StandsFor file text) (sym (append-nil opening)) stands)
+      begun : (file : List ℕ) → StandsFor file text opening → First file
+      begun file stands = (0, subst (StandsFor file text) (sym (append-nil opening)) stands)

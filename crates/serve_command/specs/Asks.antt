@@ -1,38 +1,48 @@
 -- What a line asks.
 use Rattle.std.specs.Prelude.{codes, ℕ, Bool, false, if◌then◌else◌, nat_le, List, []}
 use Rattle.std.specs.Prelude.{◌∷◌, length, map, Option, Some, None, Result, Ok, Err, ⊤}
+use Rattle.std.specs.Option.{option_map_or, option_or}
+use Rattle.std.specs.Result.{result_ok}
 use Rattle.std.specs.Str.{bytes_eq}
 use Rattle.cell_base.specs.declared.cells.Cell.{Cell}
 use Rattle.cell_base.specs.declared.requests.Request.{Request}
+use Rattle.cell_base.specs.Fits.{RequestFits}
 use Rattle.input_lines.specs.Lines.{whole_lines}
 use Rattle.step_text.specs.declared.faults.StepFault.{StepFault}
 use Rattle.step_text.specs.Steps.{IsStep, step_of_words}
 use Rattle.step_text.specs.Words.{number_of, words}
 use Rattle.serve_command.specs.declared.asks.Ask.{Ask}
-use Rattle.serve_command.specs.declared.asks.Ask.TheVariants.{Step, Count, Why, Left, Nothing}
-use Rattle.serve_command.specs.declared.asks.TheConstants.{MAX_ASK_BYTES, MAX_SESSION}
+use Rattle.record_text.specs.Reading.{placing_of}
+use Rattle.serve_command.specs.declared.asks.Ask.TheVariants.{Step, Count, Last, Why, Job, Next, Room, Left, Nothing}
+use Rattle.serve_command.specs.declared.asks.TheConstants.{MAX_ASK_BYTES, MAX_JOB, MAX_SESSION}
 
--- | Line          | Ask                                |
--- | `K STEP`      | session K asks for a step          |
--- | `K grants`    | how many grants session K has      |
--- | `why STEP`    | what the step would be told        |
--- | `left`        | how many parts are left            |
--- | any other     | nothing                            |
+-- | Line           | Ask                                               |
+-- | `K STEP`       | session K asks for a step                         |
+-- | `K place ..`   | it says that it has put a part in, as a step does |
+-- | `K grants`     | how many grants session K has                     |
+-- | `K last`       | the same, and the last of them                    |
+-- | `why STEP`     | what the step would be told                       |
+-- | `job J`        | where the part of a job stands                    |
+-- | `next`         | the next step of the plan                         |
+-- | `room`         | how many grants more the journal takes            |
+-- | `left`         | how many parts are left                           |
+-- | any other      | nothing                                           |
 
 -- these words are this one
 abbrev pub is_word : List ℕ → List (List ℕ) → Bool
 is_word word (first ∷ []) = bytes_eq first word
 is_word word _ = false
 
--- the step that is asked, where there is one
-abbrev pub step_asked : ℕ → Result Request StepFault → Ask
-step_asked session (Ok request) = Step session request
-step_asked session (Err fault) = Nothing
+-- the request that words are: a step, or the place of a part
+abbrev pub request_of : Cell → List (List ℕ) → Option Request
+request_of cell words = option_or (result_ok (step_of_words cell words)) (placing_of cell words)
 
 -- what a session asks in these words
 abbrev pub ask_of_session : Cell → ℕ → List (List ℕ) → Ask
 ask_of_session cell session rest =
-    if is_word (codes "grants") rest then Count session else step_asked session (step_of_words cell rest)
+    if is_word (codes "grants") rest then Count session
+    else (if is_word (codes "last") rest then Last session
+    else option_map_or (Step session) (request_of cell rest) Nothing)
 
 -- the same of a number that a word is
 abbrev pub ask_of_number : Cell → Option ℕ → List (List ℕ) → Ask
@@ -47,28 +57,43 @@ asked_why (Err fault) = Nothing
 abbrev pub why_asked : Cell → List (List ℕ) → Ask
 why_asked cell rest = asked_why (step_of_words cell rest)
 
--- what is asked in two words or more
-abbrev pub ask_of_several : Cell → List (List ℕ) → Ask
-ask_of_several cell (word ∷ next ∷ rest) =
-    if bytes_eq word (codes "why") then why_asked cell (next ∷ rest)
-    else ask_of_number cell (number_of 1 MAX_SESSION word) (next ∷ rest)
-ask_of_several cell _ = Nothing
+-- the job of which a word asks where its part stands
+abbrev pub job_asked : List (List ℕ) → Ask
+job_asked (word ∷ []) = option_map_or (λ job. Job (record { 0 = job })) (number_of 0 MAX_JOB word) Nothing
+job_asked _ = Nothing
+
+-- what is asked in one word
+abbrev pub ask_of_one : List ℕ → Ask
+ask_of_one word =
+    if bytes_eq word (codes "left") then Left
+    else (if bytes_eq word (codes "next") then Next
+    else (if bytes_eq word (codes "room") then Room
+    else Nothing))
+
+-- what is asked in a word and those after it
+abbrev pub ask_of_several : Cell → List ℕ → List (List ℕ) → Ask
+ask_of_several cell word rest =
+    if bytes_eq word (codes "why") then why_asked cell rest
+    else (if bytes_eq word (codes "job") then job_asked rest
+    else ask_of_number cell (number_of 1 MAX_SESSION word) rest)
+
+-- what words ask
+abbrev pub ask_of_words : Cell → List (List ℕ) → Ask
+ask_of_words cell [] = Nothing
+ask_of_words cell (word ∷ []) = ask_of_one word
+ask_of_words cell (word ∷ rest) = ask_of_several cell word rest
 
 -- what a line asks; a longer one asks nothing
 unfoldable pub ask_of : Cell → List ℕ → Ask
 ask_of cell line =
-    if nat_le (length line) MAX_ASK_BYTES
-    then (if is_word (codes "left") (words line) then Left else ask_of_several cell (words line))
-    else Nothing
+    if nat_le (length line) MAX_ASK_BYTES then ask_of_words cell (words line) else Nothing
 
 -- what the whole lines of a text ask, in turn
 abbrev pub asks_in : Cell → List ℕ → List Ask
 asks_in cell text = map (ask_of cell) (whole_lines text)
 
--- a step that is asked fits the cell
+-- what is asked of a cell fits it, and a step of which it is asked what it would be told is one
 abbrev pub AskFits : Cell → Ask → Type 0
-AskFits cell (Step session request) = IsStep cell request
-AskFits cell (Count session) = ⊤
+AskFits cell (Step session request) = RequestFits cell request
 AskFits cell (Why request) = IsStep cell request
-AskFits cell Left = ⊤
-AskFits cell Nothing = ⊤
+AskFits cell _ = ⊤

@@ -1,5 +1,5 @@
 -- A conversation as it goes on, and how it ends.
-use Rattle.std.specs.Prelude.{◌≡◌, ℕ, IfSome, List, [], ◌++◌, length, map, Option, Result, Ok, Err, ⊤}
+use Rattle.std.specs.Prelude.{◌≡◌, ℕ, ◌+◌, ◌≤◌, IfSome, List, [], ◌++◌, length, map, Option, Result, Ok, Err, ⊤}
 use Rattle.std.specs.Io.KnownBytes.{Appends}
 use Rattle.std.specs.List.{All}
 use Rattle.outside_io.specs.Causes.{Rose}
@@ -17,7 +17,7 @@ use Rattle.cell_walks.specs.Outcomes.{IsDelivered, Outcome, early}
 use Rattle.cell_walks.specs.declared.status.Status.{Status}
 use Rattle.cell_texts.specs.Tests.{KnownCell}
 use Rattle.journal_texts.specs.Tests.{to_add}
-use Rattle.serve_command.specs.Answers.{since}
+use Rattle.serve_command.specs.Answers.{line_number, since}
 use Rattle.serve_command.specs.Asks.{ask_of}
 use Rattle.serve_command.specs.Rounds.{StandsAfter}
 use Rattle.serve_command.specs.Serve.{IsServed, answered_lines}
@@ -55,13 +55,14 @@ module _ {D : Type 0} (reads_as : D → Option (List ℕ)) (may_leave : D → Li
       pub came : Appends input.given input.given_after text
       pub reads : AreLinesSoFar text given lines
       pub cell_is : server.live.cell ≡ cell
-      pub asked : server.asked ≡ length given
+      pub asked : line_number server.asked ≡ line_number (length given)
       pub stands_after : StandsAfter reads_as may_leave cell_text (opening ++ since cell opening (map (ask_of cell) given)) server
       pub left : IsLeftWith cell_text opening (since cell opening (map (ask_of cell) given)) [] first server.live.disk
       pub took : TookAll sink (answered_lines cell opening (map (ask_of cell) given))
       pub sink_still : sink.faults_after ≡ sink.faults
       pub input_still : input.faults_after ≡ input.faults
       pub disk_still : faults server.live.disk ≡ faults first
+      pub room : length opening + length (since cell opening (map (ask_of cell) given)) ≤ MAX_SERVED
 
     -- It has ended.
     pub record IsServedAfter (last : D) (status : Status) : Type 0 where

@@ -10,17 +10,14 @@ use Rattle.cell_texts.specs.Blocks.{history_lines}
 use Rattle.serve_command.specs.Answers.{added_by, count_of, entry_of, reply_after, since}
 use Rattle.serve_command.specs.Serve.{answered_lines}
 use Rattle.serve_command.specs.declared.asks.Ask.{Ask}
-use Rattle.serve_command.specs.declared.asks.Ask.TheVariants.{Step, Count, Why, Left, Nothing}
+use Rattle.serve_command.specs.declared.asks.Ask.TheVariants.{Step}
 
 -- ---- exactly once
 
 -- the ask is a step of this session, and it is told that it is granted
 abbrev pub is_told_granted : Cell → List Grant → ℕ → Ask → Bool
 is_told_granted cell earlier session (Step asking request) = is_granted (reply_after cell earlier request) && (asking == session)
-is_told_granted cell earlier session (Count asking) = false
-is_told_granted cell earlier session (Why request) = false
-is_told_granted cell earlier session Left = false
-is_told_granted cell earlier session Nothing = false
+is_told_granted cell earlier session _ = false
 
 -- how often a session is told so, by asks in turn
 abbrev pub told_granted : Cell → List Grant → ℕ → List Ask → ℕ
@@ -38,10 +35,7 @@ EachOnce cell = (opening : List Grant) (session : ℕ) (asked : List Ask)
 -- the entries of an ask: one of a step, and else none
 abbrev pub entries_of_ask : Cell → List Grant → Ask → List Entry
 entries_of_ask cell earlier (Step session request) = entry_of session request (Answered (reply_after cell earlier request)) ∷ []
-entries_of_ask cell earlier (Count session) = []
-entries_of_ask cell earlier (Why request) = []
-entries_of_ask cell earlier Left = []
-entries_of_ask cell earlier Nothing = []
+entries_of_ask cell earlier _ = []
 
 -- the history of asks in turn
 abbrev pub history_of : Cell → List Grant → List Ask → List Entry
@@ -58,10 +52,7 @@ pub record IsServedHistory (cell : Cell) (opening : List Grant) (asked : List As
 -- it is a step
 abbrev pub IsAskedStep : Ask → Type 0
 IsAskedStep (Step session request) = ⊤
-IsAskedStep (Count session) = ⊥
-IsAskedStep (Why request) = ⊥
-IsAskedStep Left = ⊥
-IsAskedStep Nothing = ⊥
+IsAskedStep _ = ⊥
 
 -- where steps alone are asked, what is put is a block of a record
 abbrev pub IsBlock : Cell → List Grant → List Ask → Type 0

@@ -8,4 +8,6 @@ pub mod Lives
 pub mod LivesThrough
 pub mod Rounds
 pub mod Serve
+pub mod ServesAll
 pub mod Serving
+pub mod Sessions

@@ -15,11 +15,12 @@ use Rattle.peers.specs.Runs.{RunsTo}
 use Rattle.cell_walks.specs.Statuses.{early_line}
 use Rattle.cell_walks.specs.declared.early_end.EarlyEnd.TheVariants.{NotRead}
 use Rattle.cell_texts.specs.Blocks.{Lines, left_lines}
-use Rattle.serve_command.specs.Answers.{added_by, answers, halted_line, since}
+use Rattle.serve_command.specs.Answers.{added_by, answers, halted_line, line_number, since}
 use Rattle.serve_command.specs.Asks.{ask_of, asks_in}
 use Rattle.serve_command.specs.Rounds.{StandsAfter}
 use Rattle.serve_command.specs.Serve.{answered_lines, full_line}
 use Rattle.serve_command.specs.declared.asks.Ask.{Ask}
+use Rattle.serve_command.specs.declared.command.TheConstants.{MAX_SERVED}
 use Rattle.serve_command.specs.declared.server.Server.{Server}
 
 -- What was given and put before; the cell with its text; and the grants of the opening.
@@ -42,9 +43,15 @@ put_then start asks = start.before ++ concat (answered_lines start.cell start.op
 abbrev pub answers_then : Start → List Ask → List Ask → Lines
 answers_then start earlier asks = answers start.cell (grants_then start earlier) (length earlier + 1) asks
 
--- these asks, in turn, were sent by then, and maybe more
+-- the journal has room for the grants of these asks
+abbrev pub HasRoom : Start → List Ask → Type 0
+HasRoom start asks = length (grants_then start asks) ≤ MAX_SERVED
+
+-- these asks, in turn, were sent by then, and maybe more; the journal has room for their grants
 abbrev pub AreSent : Start → List Ask → Moment → Type 0
-AreSent start asks at = (text : List ℕ) × (later : List Ask) × (at.given ≡ start.given ++ text) × (asks_in start.cell text ≡ asks ++ later)
+AreSent start asks at =
+    (text : List ℕ) × (later : List Ask) × (at.given ≡ start.given ++ text) × (asks_in start.cell text ≡ asks ++ later)
+    × HasRoom start asks
 
 -- Groups are made stable and answered. Those of the earlier asks are answered; of the last group the answers to the shown asks are put
 -- whole, and maybe a front of the next. The file stands for all of the grants; until the first answer of the last group it may also be
@@ -93,7 +100,7 @@ pub record IsEnding (start : Start) (at : Moment) : Type 0 where
 -- A moment of a conversation since its journal is open. Each file that a crash then may leave stands for the grants of the opening and of
 -- whole groups of at most 512 lines, the last of them all or not at all, with each grant whose answer was put.
 pub data IsLive (start : Start) (at : Moment) : Type 0 where
-  Ready : at.given ≡ start.given → IsAmong start.before (line_of (head_words 0 (length start.opening)) ∷ []) at.put
+  Ready : at.given ≡ start.given → HasRoom start [] → IsAmong start.before (line_of (head_words 0 (length start.opening)) ∷ []) at.put
       → StandsFor at.image start.text start.opening → IsLive start at
   Serving : IsServing start at → IsLive start at
   Halting : IsHalting start at → IsLive start at
@@ -123,7 +130,7 @@ module _ {D T : Type 0} (disk : DiskMeaning D) (peer : PeerMeaning T D) where
       : Type 0 where
     pub cell_is : server.live.cell ≡ start.cell
     pub stands_after : StandsAfter disk.reads_as disk.may_leave start.text (grants_then start (map (ask_of start.cell) given)) server
-    pub asked : server.asked ≡ length given
+    pub asked : line_number server.asked ≡ line_number (length given)
     pub reads : AreLinesSoFar text given lines
     pub given_is : peer.given t ≡ Some (start.given ++ text)
     pub put_is : peer.taken t ≡ Some (put_then start (map (ask_of start.cell) given))

@@ -1,5 +1,5 @@
 -- One round of a conversation.
-use Rattle.std.specs.Prelude.{◌≡◌, ℕ, ◌+◌, Bool, true, false, IfSome, List, [], ◌∷◌, ◌++◌, length, map, Option, Result, Ok, Err, ⊤}
+use Rattle.std.specs.Prelude.{◌≡◌, ℕ, ◌+◌, ◌≤◌, Bool, true, false, IfSome, List, [], ◌∷◌, ◌++◌, length, map, Option, Result, Ok, Err, ⊤}
 use Rattle.std.specs.List.{All}
 use Rattle.outside_io.specs.Disk.{LeavesOnly, Turns}
 use Rattle.outside_io.specs.Causes.{Rose}
@@ -11,11 +11,12 @@ use Rattle.move_journal.specs.Disks.{Shows}
 use Rattle.move_journal.specs.Journals.{IsBeforeOrAfterAll, StandsFor}
 use Rattle.cell_walks.specs.Outcomes.{IsDelivered, Outcome}
 use Rattle.cell_walks.specs.declared.status.Status.{Status}
-use Rattle.serve_command.specs.Answers.{answers, since}
+use Rattle.serve_command.specs.Answers.{answers, line_number, since}
 use Rattle.serve_command.specs.Asks.{ask_of}
 pub use Rattle.serve_command.specs.Serve.{Stops, full_line}
 pub use Rattle.serve_command.specs.Serving.{IsJournalFull, IsAnsweredGroup, HasNoGroup, StandsAt}
 use Rattle.serve_command.specs.declared.asks.Ask.{Ask}
+pub use Rattle.serve_command.specs.declared.command.TheConstants.{MAX_SERVED}
 pub use Rattle.serve_command.specs.declared.replies.TheConstants.{GROUP_LINES}
 use Rattle.serve_command.specs.declared.server.Server.{Server}
 
@@ -63,9 +64,10 @@ module _ {D : Type 0} (reads_as : D → Option (List ℕ)) (may_leave : D → Li
         StandsAfter reads_as may_leave cell_text (grants ++ more) new
     pub moves : let more = since cell grants (map (ask_of cell) group) in
         Moves reads_as moment left_since cell_text grants more old.live.disk new.live.disk
-    pub asked : new.asked ≡ old.asked + length group
+    pub asked : line_number new.asked ≡ line_number (old.asked + length group)
     pub reads : AreLinesSoFar text (given ++ group) lines
     pub took : TookAll sink (answers cell grants (old.asked + 1) (map (ask_of cell) group))
+    pub room : length grants + length (since cell grants (map (ask_of cell) group)) ≤ MAX_SERVED
 
   -- The conversation stops: of what these lines ask, the first asks were answered, and the others were not.
   pub record IsLastRound (status : Status) : Type 0 where
@@ -81,6 +83,7 @@ module _ {D : Type 0} (reads_as : D → Option (List ℕ)) (may_leave : D → Li
     pub disk : Shows reads_as may_leave new.live.disk (λ file. IsBeforeOrAfterAll cell_text (grants ++ outcome.added) outcome.unsure file)
     pub moves : Moves reads_as moment left_since cell_text grants (outcome.added ++ outcome.unsure) old.live.disk new.live.disk
     pub cause : All (λ grant. Rose (faults old.live.disk) (faults new.live.disk)) outcome.unsure
+    pub room : length grants + length outcome.added + length outcome.unsure ≤ MAX_SERVED
 
   -- one of the two
   abbrev pub Rounds : Result ⊤ Status → Type 0

@@ -1,5 +1,5 @@
 -- `serve CELL JOURNAL`: the lines of the input, each answered after the grants of the journal and of the lines before it.
-use Rattle.std.specs.Prelude.{◌≡◌, ◌<◌, ℕ, ◌+◌, List, [], ◌∷◌, ◌++◌, length, take}
+use Rattle.std.specs.Prelude.{◌≡◌, ◌<◌, ◌≤◌, ℕ, ◌+◌, List, [], ◌∷◌, ◌++◌, length}
 use Rattle.std.specs.Io.KnownBytes.{Appends}
 use Rattle.outside_io.specs.Causes.{Rose}
 use Rattle.cell_base.specs.declared.cells.Cell.{Cell}
@@ -22,6 +22,7 @@ use Rattle.serve_command.specs.Serving.{IsJournalFull}
 use Rattle.serve_command.specs.Asks.{asks_in}
 use Rattle.serve_command.specs.declared.asks.Ask.{Ask}
 use Rattle.serve_command.specs.declared.command.TheConstants.{MAX_SERVED}
+use Rattle.serve_command.specs.declared.replies.TheConstants.{GROUP_LINES}
 
 -- the head, and the answers to these asks
 abbrev pub answered_lines : Cell → List Grant → List Ask → Lines
@@ -37,14 +38,14 @@ pub data Stops (cell : Cell) (grants : List Grant) (put : Lines) (added : List G
   FullJournal : (next : Ask) (rest : List Ask) → others ≡ next ∷ rest → IsJournalFull cell grants next
       → outcome ≡ record { status = JournalRefused; pieces = put ++ full_line ∷ []; added = added; unsure = [] }
       → Stops cell grants put added others outcome
-  -- The device failed at the grant of the next ask, which is told to have halted, and at those of the asks after it that were decided
-  -- with it.
-  FailedDevice : (next : Ask) (rest : List Ask) (count : ℕ) → others ≡ next ∷ rest → 0 < length (added_by cell grants next)
+  -- The device failed at the grant of the next ask, which is told to have halted, and at those of the asks after it in its group.
+  FailedDevice : (next : Ask) (group rest : List Ask) → others ≡ next ∷ group ++ rest → length (next ∷ group) ≤ GROUP_LINES
+      → 0 < length (added_by cell grants next)
       → outcome ≡ record {
         status = DeviceFault;
         pieces = put ++ halted_line cell next ∷ [];
         added = added;
-        unsure = since cell grants (next ∷ take count rest);
+        unsure = since cell grants (next ∷ group);
       }
       → Stops cell grants put added others outcome
   -- The sink failed at an answer.
@@ -70,7 +71,8 @@ pub data EndsServing (cell : Cell) (grants : List Grant) (input : SourceTold) (p
   -- It stops before.
   Stopped : Stops cell grants put added others outcome → EndsServing cell grants input put added others outcome
 
--- The source gave this text. What its whole lines ask was answered in turn, up to the end of the conversation.
+-- The source gave this text. What its whole lines ask was answered in turn, up to the end of the conversation. The journal has room for
+-- all grants.
 pub record IsServed (cell : Cell) (opening : List Grant) (input : SourceTold) (outcome : Outcome) : Type 0 where
   pub text : List ℕ
   pub came : Appends input.given input.given_after text
@@ -79,6 +81,7 @@ pub record IsServed (cell : Cell) (opening : List Grant) (input : SourceTold) (o
   pub split : asks_in cell text ≡ asked ++ others
   pub ends : EndsServing cell (opening ++ since cell opening asked) input (answered_lines cell opening asked) (since cell opening asked)
       others outcome
+  pub room : length opening + length outcome.added + length outcome.unsure ≤ MAX_SERVED
 
 -- the walk of `serve`
 abbrev pub serve : List ℕ → Walk

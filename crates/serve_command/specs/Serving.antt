@@ -1,10 +1,13 @@
 -- What the server keeps while it answers.
-use Rattle.std.specs.Prelude.{◌≡◌, ◌<◌, ◌≤◌, ℕ, ◌+◌, false, List, [], ◌∷◌, ◌++◌, length, slice_index, Option, None, Some}
+use Rattle.std.specs.Prelude.{◌≡◌, ◌<◌, ◌≤◌, ℕ, ◌+◌, false, List, [], ◌∷◌, ◌++◌, length, slice_get, slice_index, Option, None, Some}
+use Rattle.std.specs.List.{All}
 use Rattle.cell_base.specs.declared.cells.Cell.{Cell}
 use Rattle.cell_base.specs.declared.requests.Request.{Request}
 use Rattle.cell_base.specs.declared.shifts.Grant.{Grant}
+use Rattle.cell_base.specs.Fits.{RequestFits}
 use Rattle.cell_base.specs.Histories.{replay}
-use Rattle.serve_command.specs.Answers.{added_by, answer, answers, count_of, halted_line, session_grant, since}
+use Rattle.serve_command.specs.Answers.{added_by, answer, answers, count_of, halted_line, last_of, line_number, session_grant, since}
+use Rattle.serve_command.specs.Sessions.{SessionTable}
 use Rattle.serve_command.specs.declared.asks.Ask.{Ask}
 use Rattle.serve_command.specs.declared.asks.Ask.TheVariants.{Step}
 use Rattle.serve_command.specs.declared.command.TheConstants.{MAX_SERVED}
@@ -12,12 +15,14 @@ use Rattle.serve_command.specs.declared.replies.TheConstants.{GROUP_LINES}
 use Rattle.serve_command.specs.declared.server.FirstGrant.{FirstGrant}
 use Rattle.serve_command.specs.declared.server.Server.{Server}
 
--- each session has so many of these grants
-abbrev pub HasCounts : List Grant → List ℕ → Type 0
-HasCounts grants counts = (session : ℕ) → session < 65536 → slice_index counts session ≡ count_of session grants
+-- each session has so many of these grants, and this is the last of them
+pub record HasCounts (grants : List Grant) (table : SessionTable) : Type 0 where
+  pub count : (session : ℕ) → session < 65536 → slice_index table.counts session ≡ count_of session grants
+  pub last : (session : ℕ) → session < 65536 → slice_get table.last session ≡ Some (last_of session grants)
 
 -- It stands after these grants, of which the last ones may be pending.
 pub record StandsAt {D : Type 0} (grants : List Grant) (server : Server D) : Type 0 where
+  pub fit : All (λ (grant : Grant). RequestFits server.live.cell grant.request) grants
   pub parts : server.live.parts ≡ replay server.live.cell grants
   pub counts : HasCounts grants server.counts
   pub number : server.live.len + length server.live.pending ≡ length grants
@@ -43,7 +48,7 @@ pub record CountsGrant {D : Type 0} (old : Server D) (session : ℕ) (request : 
 -- An ask was answered after these grants of this cell.
 pub record IsAskAnswered {D : Type 0} (cell : Cell) (grants : List Grant) (old : Server D) (ask : Ask) (new : Server D) : Type 0 where
   pub at : StandsAt (grants ++ added_by cell grants ask) new
-  pub replies : new.replies ≡ old.replies ++ answer cell grants (old.asked + 1) ask ∷ []
+  pub replies : new.replies ≡ old.replies ++ answer cell grants (line_number (old.asked + 1)) ask ∷ []
   pub pending : new.live.pending ≡ old.live.pending ++ added_by cell grants ask
   pub first : new.first ≡ first_after old.first (length old.replies) (halted_line cell ask) (added_by cell grants ask)
 
@@ -57,7 +62,7 @@ pub record TakesOneLine {D : Type 0} (old new : Server D) : Type 0 where
   pub spare : new.live.spare + length new.live.pending ≡ old.live.spare + length old.live.pending
   pub few : length new.live.pending ≤ length old.live.pending + 1
   pub replies : length new.replies ≡ length old.replies + 1
-  pub asked : new.asked ≡ old.asked + 1
+  pub asked : new.asked ≡ line_number (old.asked + 1)
 
 -- an ask would be granted after these grants, and they are as many as the journal may have
 abbrev pub IsJournalFull : Cell → List Grant → Ask → Type 0
@@ -89,4 +94,4 @@ pub record IsAnsweredGroup {D : Type 0} (cell : Cell) (grants : List Grant) (num
   pub replies : new.replies ≡ answers cell grants (number + 1) group
   pub pending : new.live.pending ≡ since cell grants group
   pub first : IsFirstGrant cell grants group new.first
-  pub asked : new.asked ≡ number + length group
+  pub asked : line_number new.asked ≡ line_number (number + length group)

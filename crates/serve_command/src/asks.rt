@@ -1,33 +1,55 @@
 //! What a line asks.
-ghost use Rattle.std.specs.Prelude.{◌≡◌, Ok, Err};
-ghost use Rattle.cell_base.specs.Fits.{CellFits};
-ghost use Rattle.serve_command.specs.Asks.{AskFits, ask_of, ask_of_session, is_word, why_asked};
+ghost use Rattle.std.specs.Prelude.{◌≡◌, ◌∷◌, [], Ok, Err, IfSome};
+ghost use Rattle.cell_base.specs.declared.cells.Cell.{Cell};
+ghost use Rattle.cell_base.specs.Fits.{CellFits, RequestFits};
+ghost use Rattle.serve_command.specs.Asks.{AskFits, ask_of, ask_of_one, ask_of_several, ask_of_session, ask_of_words};
+ghost use Rattle.serve_command.specs.Asks.{is_word, job_asked, request_of, why_asked};
 ghost use Rattle.step_text.specs.Words.{words};
 
-use cell_base::{Cell, Request};
+use cell_base::{Cell, JobId, Request};
+use record_text::read_place;
 use step_text::{cut, number_of, read_step};
 
-/// The most bytes of a line that asks something; the longest ask has 54.
-pub const MAX_ASK_BYTES: usize = 64;
+/// The most bytes of a line that asks something: the longest places a part.
+pub const MAX_ASK_BYTES: usize = 66;
 
 /// The highest number of a session.
 pub const MAX_SESSION: u64 = 65_535;
 
+// The highest number of a job.
+const MAX_JOB: u64 = 4_294_967_295;
+
 const LEFT: &[u8] = b"left";
+
+const NEXT: &[u8] = b"next";
+
+const ROOM: &[u8] = b"room";
 
 const WHY: &[u8] = b"why";
 
+const JOB: &[u8] = b"job";
+
 const GRANTS: &[u8] = b"grants";
+
+const LAST: &[u8] = b"last";
 
 /// What a line asks for.
 #[derive(Clone, Copy)]
 pub enum Ask {
-    /// A session asks for a step.
+    /// A session asks for a step, or says that it has put a part in.
     Step { session: u16, request: Request },
     /// How many grants of a session are on the disk.
     Count { session: u16 },
+    /// The same, and the last of them.
+    Last { session: u16 },
     /// What a step would be told.
     Why { request: Request },
+    /// Where the part of a job stands.
+    Job { job: JobId },
+    /// The next step of the plan that empties the cell.
+    Next,
+    /// How many grants more the journal takes.
+    Room,
     /// How many parts are left in the cell.
     Left,
     /// The line asks nothing.
@@ -44,28 +66,52 @@ pub fn read_ask(cell: &Cell, line: &[u8]) -> Ask
     if line.len() > MAX_ASK_BYTES {
         return Ask::Nothing;
     }
-    if is_word(line, LEFT) {
-        return Ask::Left;
-    }
+    ask_of_words(cell, line)
+}
+
+// The same, however long the line is.
+fn ask_of_words(cell: &Cell, line: &[u8]) -> Ask
+    requires { CellFits cell.now }
+    ensures ask { result ≡ ask_of_words cell.now (words line.now) }
+    ensures fits { AskFits cell.now result }
+{
     let (word, rest) = cut(line);
-    let Some(rest) = rest else {
-        return Ask::Nothing;
-    };
+    match rest {
+        Some(rest) => ask_of_several(cell, word, rest),
+        None => ask_of_one(word),
+    }
+}
+
+fn ask_of_one(word: &[u8]) -> Ask
+    ensures ask { result ≡ ask_of_one word.now }
+    ensures fits { (cell : Cell) → AskFits cell result }
+{
+    if word == LEFT {
+        Ask::Left
+    } else if word == NEXT {
+        Ask::Next
+    } else if word == ROOM {
+        Ask::Room
+    } else {
+        Ask::Nothing
+    }
+}
+
+fn ask_of_several(cell: &Cell, word: &[u8], rest: &[u8]) -> Ask
+    requires { CellFits cell.now }
+    ensures ask { result ≡ ask_of_several cell.now word.now (words rest.now) }
+    ensures fits { AskFits cell.now result }
+{
     if word == WHY {
         return why_of(cell, rest);
+    }
+    if word == JOB {
+        return job_of(rest);
     }
     match number_of(1, MAX_SESSION, word) {
         Some(session) => ask_of_session(cell, session as u16, rest),
         None => Ask::Nothing,
     }
-}
-
-// A text that is this one word.
-fn is_word(text: &[u8], word: &[u8]) -> bool
-    ensures { result ≡ is_word word.now (words text.now) }
-{
-    let (first, rest) = cut(text);
-    rest.is_none() && first == word
 }
 
 fn why_of(cell: &Cell, text: &[u8]) -> Ask
@@ -79,6 +125,30 @@ fn why_of(cell: &Cell, text: &[u8]) -> Ask
     }
 }
 
+fn job_of(text: &[u8]) -> Ask
+    ensures ask { result ≡ job_asked (words text.now) }
+    ensures fits { (cell : Cell) → AskFits cell result }
+{
+    let (word, rest) = cut(text);
+    match rest {
+        Some(_) => Ask::Nothing,
+        None => job_of_word(word),
+    }
+}
+
+// The same of a text that is one word.
+fn job_of_word(word: &[u8]) -> Ask
+    ensures ask { result ≡ job_asked (word.now ∷ []) }
+    ensures fits { (cell : Cell) → AskFits cell result }
+{
+    match number_of(0, MAX_JOB, word) {
+        Some(job) => Ask::Job {
+            job: JobId(job as u32),
+        },
+        None => Ask::Nothing,
+    }
+}
+
 fn ask_of_session(cell: &Cell, session: u16, text: &[u8]) -> Ask
     requires { CellFits cell.now }
     ensures ask { result ≡ ask_of_session cell.now session (words text.now) }
@@ -87,8 +157,31 @@ fn ask_of_session(cell: &Cell, session: u16, text: &[u8]) -> Ask
     if is_word(text, GRANTS) {
         return Ask::Count { session };
     }
+    if is_word(text, LAST) {
+        return Ask::Last { session };
+    }
+    match request_of(cell, text) {
+        Some(request) => Ask::Step { session, request },
+        None => Ask::Nothing,
+    }
+}
+
+// A text that is this one word.
+fn is_word(text: &[u8], word: &[u8]) -> bool
+    ensures { result ≡ is_word word.now (words text.now) }
+{
+    let (first, rest) = cut(text);
+    rest.is_none() && first == word
+}
+
+// A step, or the place of a part.
+fn request_of(cell: &Cell, text: &[u8]) -> Option<Request>
+    requires { CellFits cell.now }
+    ensures request { result ≡ request_of cell.now (words text.now) }
+    ensures fits { IfSome result (RequestFits cell.now) }
+{
     match read_step(cell, text) {
-        Ok(request) => Ask::Step { session, request },
-        Err(_) => Ask::Nothing,
+        Ok(request) => Some(request),
+        Err(_) => read_place(cell, text),
     }
 }

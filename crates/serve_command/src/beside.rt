@@ -4,12 +4,13 @@ ghost use Rattle.outside_io.specs.Causes.{HasCause};
 ghost use Rattle.outside_io.specs.Puts.{TookAll, TookSome};
 ghost use Rattle.peers.specs.Meanings.{peer_took};
 ghost use Rattle.lent_peers.specs.Beside.{IsBeside};
-ghost use Rattle.cell_walks.specs.Outcomes.{IsDelivered, early};
+ghost use Rattle.cell_walks.specs.Outcomes.{IsDelivered, early, printed};
 ghost use Rattle.cell_walks.specs.Statuses.{early_line};
+ghost use Rattle.cell_walks.specs.declared.status.Status.TheVariants.{NoCommand};
 ghost use Rattle.cell_texts.specs.Blocks.{left_in_core};
 
 use admission_core::Core;
-use cell_texts::{print_left, print_lines};
+use cell_texts::{print_left, print_lines, print_usage};
 use cell_walks::{EarlyEnd, Status, finish_early};
 use lent_peers::Lent;
 use outside_io::{Disk, Failed};
@@ -61,6 +62,17 @@ pub fn finish_beside<D: Disk, T: Peer<D>>(peer: &mut T, disk: &D, end: EarlyEnd)
     ensures beside { IsBeside D.Disk T.Peer disk.now peer.old peer.new (early_line end ∷ []) }
 {
     let status = finish_early(&mut Lent::new(peer, disk), end);
+    match peer.flush(disk) {
+        Ok(()) => status,
+        Err(_) => Status::SinkFault,
+    }
+}
+
+/// Puts the commands with their words, has the peer hand them on, and answers the status of words that are no command.
+pub fn print_usage_beside<D: Disk, T: Peer<D>>(peer: &mut T, disk: &D, usage: &[u8]) -> Status
+    ensures { IsDelivered (peer_took T.Peer peer.old peer.new) (printed NoCommand (usage.now ∷ [])) result }
+{
+    let status = print_usage(&mut Lent::new(peer, disk), usage);
     match peer.flush(disk) {
         Ok(()) => status,
         Err(_) => Status::SinkFault,

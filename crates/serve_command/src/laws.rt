@@ -1,7 +1,7 @@
 //! What follows of the answers, each law the contract of a function that does nothing.
 ghost use Rattle.std.specs.Prelude.{List};
 ghost use Rattle.cell_base.specs.declared.shifts.Grant.{Grant};
-ghost use Rattle.serve_command.specs.ExactlyOnce.{Acknowledged, ExactlyOnce, GoesOn};
+ghost use Rattle.serve_command.specs.ExactlyOnce.{Acknowledged, ExactlyOnce, GoesOn, OneGroup};
 ghost use Rattle.serve_command.specs.Laws.{EachOnce, IsBlock, IsServedHistory};
 ghost use Rattle.serve_command.specs.Lives.{Start};
 ghost use Rattle.serve_command.specs.declared.asks.Ask.{Ask};
@@ -30,6 +30,11 @@ pub fn steps_are_a_record(cell: &Cell)
 /// At each moment of a conversation each file that a crash then may leave has each grant whose answer was put.
 pub fn acknowledged()
     ensures { (start : Start) → Acknowledged start }
+{}
+
+/// At each moment at most one group, of 512 lines, is on the disk and not yet answered: all of it or nothing.
+pub fn at_most_one_group_is_unanswered()
+    ensures { (start : Start) → OneGroup start }
 {}
 
 /// A session that has at most one step without an answer finds after a crash at any moment the count of grants that it was told, or one

@@ -18,10 +18,12 @@ mod beside;
 mod command;
 mod counts;
 pub mod laws;
+mod questions;
 mod replies;
 mod rounds;
 mod server;
 mod serving;
 
 pub use asks::{Ask, MAX_ASK_BYTES, MAX_SESSION, read_ask};
+pub use beside::print_usage_beside;
 pub use command::{MAX_SERVED, run_serve};

@@ -1,5 +1,5 @@
 //! One round of a conversation: the lines at hand are answered as a group.
-ghost use Rattle.std.specs.Prelude.{◌≡◌, ◌<◌, ◌+◌, ◌^◌, List, ℕ, Ok, IfSome, OnOk, take, length, ◌≤◌, ◌++◌, ◌∷◌, []};
+ghost use Rattle.std.specs.Prelude.{◌≡◌, List, ℕ, Ok, IfSome, OnOk, take, length, ◌≤◌, ◌++◌, ◌∷◌, []};
 ghost use Rattle.cell_base.specs.declared.shifts.Grant.{Grant};
 ghost use Rattle.input_lines.specs.Reading.{AreLinesSoFar};
 ghost use Rattle.peers.specs.Meanings.{peer_took};
@@ -17,6 +17,7 @@ use crate::server::Server;
 use cell_walks::Status;
 use input_lines::InputLines;
 use journal_texts::at_journal_fault;
+use live_cell::live_law;
 use outside_io::Disk;
 use peers::Peer;
 use shift_recovery::JournalFault;
@@ -27,12 +28,11 @@ impl<D: Disk> Server<D> {
     /// journal was full at a line after these, which is taken too.
     pub fn take_group(&mut self, lines: &mut InputLines) -> bool
         requires ready { HasNoGroup self.old }
-        requires few { self.old.asked + GROUP_LINES < 2 ^ 64 }
         ensures taken { (grants : List Grant) (text : List ℕ) (given : List (List ℕ)) → StandsAt grants self.old
             → AreLinesSoFar text given lines.old
             → IsGroupOfLines self.old.live.cell grants self.old.asked text given self.new lines.new result }
         ensures stays { Stays self.old self.new }
-        ensures few { self.new.asked ≤ self.old.asked + GROUP_LINES }
+        ensures few { length self.new.replies ≤ GROUP_LINES }
     {
         for _i in 0..GROUP_LINES {
             if !lines.next_line() {
@@ -50,14 +50,12 @@ impl<D: Disk> Server<D> {
     /// the conversation stops.
     pub fn round<T: Peer<D>>(&mut self, lines: &mut InputLines, peer: &mut T) -> Result<(), Status>
         requires ready { HasNoGroup self.old }
-        requires few { self.old.asked + GROUP_LINES < 2 ^ 64 }
         ensures round { (cell_text : List ℕ) (grants : List Grant) (text : List ℕ) (given : List (List ℕ))
             → StandsAfter D.reads_as D.may_leave cell_text grants self.old → AreLinesSoFar text given lines.old
             → Rounds D.reads_as D.may_leave D.moment D.left_since D.faults self.old.live.cell
             (peer_took T.Peer peer.old peer.new)
             cell_text grants text given self.old self.new lines.new result }
         ensures ready { OnOk result (HasNoGroup self.new) }
-        ensures few { OnOk result (self.new.asked ≤ self.old.asked + GROUP_LINES) }
         ensures still { OnOk result (T.faults peer.new ≡ T.faults peer.old) }
         ensures fed { OnOk result (D.faults self.new.live.disk ≡ D.faults self.old.live.disk) }
         ensures lives { LivesOn D.Disk T.Peer self.old lines.old peer.old self.new.live.disk peer.new }
@@ -66,6 +64,7 @@ impl<D: Disk> Server<D> {
         ensures handed { OnOk result (T.handed_on peer.old ≡ T.taken peer.old → T.handed_on peer.new ≡ T.taken peer.new) }
     {
         let full = self.take_group(lines);
+        live_law(&self.live);
         if let Err(_) = self.live.commit() {
             return Err(self.put_halted(peer));
         }

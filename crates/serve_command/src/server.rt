@@ -1,17 +1,18 @@
 //! A live cell that answers asks, in groups.
-ghost use Rattle.std.specs.Prelude.{◌≡◌, ◌<◌, ◌+◌, ◌^◌, ◌-◌, ◌++◌, ◌∷◌, false, [], List, length, codes, OnOk, OnErr};
-ghost use Rattle.std.specs.Fmt.{decimal};
+ghost use Rattle.std.specs.Prelude.{◌≡◌, ◌<◌, ◌+◌, ◌++◌, ◌∷◌, false, [], List, length, codes, IfSome, OnOk, OnErr};
 ghost use Rattle.cell_base.specs.declared.shifts.Grant.{Grant};
 ghost use Rattle.record_text.specs.Fitting.{EntryFits};
 ghost use Rattle.record_text.specs.Lines.{line_of, told_words};
 ghost use Rattle.step_text.specs.Steps.{request_words};
 ghost use Rattle.serve_command.specs.Clauses.{Answered, AskFits, CountsGrant, GROUP_LINES, TakesOneLine, IsAskAnswered, IsJournalFull};
-ghost use Rattle.serve_command.specs.Clauses.{IsStep, MAX_SERVED, StandsAt, Step, entry_of, reply_to, step_words};
+ghost use Rattle.serve_command.specs.Clauses.{IsStep, MAX_SERVED, RequestFits, StandsAt, Step, count_of, entry_of, last_of};
+ghost use Rattle.serve_command.specs.Clauses.{last_words, line_number, reply_to, step_words};
 
 use crate::asks::Ask;
 use crate::counts::SessionCounts;
+use crate::questions::{count_line, job_line, last_line, next_line, refused_line, room_line};
 use crate::replies::Replies;
-use cell_base::{Cell, Entry, Grant, Reply, Request, Told};
+use cell_base::{Cell, Entry, Grant, Reply, Request, Told, request_fits};
 use live_cell::{JournalFull, LiveCell};
 use outside_io::Disk;
 use policy_laws::refusal_law;
@@ -24,8 +25,8 @@ pub struct FirstGrant {
     pub line: Line,
 }
 
-/// A live cell, the number of each session's grants, and how many lines were asked. Of the group that is under way, the answers, which are
-/// put once its grants are stable, and its first grant.
+/// A live cell, the number of each session's grants, and how many lines were asked, as far as 64 bits count. Of the group that is under
+/// way, the answers, which are put once its grants are stable, and its first grant.
 #[derive(Drop)]
 pub struct Server<D: Disk> {
     pub live: LiveCell<D>,
@@ -43,7 +44,6 @@ impl<D: Disk> Server<D> {
         requires room { self.old.live.room ≡ MAX_SERVED }
         requires spare { 0 < self.old.live.spare }
         requires short { length self.old.replies < GROUP_LINES }
-        requires few { self.old.asked < 2 ^ 64 - 1 }
         ensures answered { (grants : List Grant) → StandsAt grants self.old
             → OnOk result (IsAskAnswered self.old.live.cell grants self.old ask.now self.new) }
         ensures goes_on { OnOk result (TakesOneLine self.old self.new) }
@@ -56,8 +56,24 @@ impl<D: Disk> Server<D> {
                 let line = count_line(*session, self.counts.of(*session));
                 self.keep(line);
             }
+            Ask::Last { session } => {
+                let line = self.look_back(*session);
+                self.keep(line);
+            }
             Ask::Why { request } => {
                 let line = self.look(request);
+                self.keep(line);
+            }
+            Ask::Job { job } => {
+                let line = job_line(self.live.core(), *job);
+                self.keep(line);
+            }
+            Ask::Next => {
+                let line = next_line(self.live.core());
+                self.keep(line);
+            }
+            Ask::Room => {
+                let line = room_line(self.live.room_left());
                 self.keep(line);
             }
             Ask::Left => {
@@ -65,7 +81,7 @@ impl<D: Disk> Server<D> {
                 self.keep(line);
             }
             Ask::Nothing => {
-                let line = refused_line(self.asked + 1);
+                let line = refused_line(self.asked.saturating_add(1));
                 self.keep(line);
             }
         }
@@ -74,12 +90,11 @@ impl<D: Disk> Server<D> {
 
     // Answers a step of a session.
     fn answer_step(&mut self, session: u16, request: &Request) -> Result<(), JournalFull>
-        requires fits { IsStep self.old.live.cell request.now }
+        requires fits { RequestFits self.old.live.cell request.now }
         requires runs { self.old.live.is_halted ≡ false }
         requires room { self.old.live.room ≡ MAX_SERVED }
         requires spare { 0 < self.old.live.spare }
         requires short { length self.old.replies < GROUP_LINES }
-        requires few { self.old.asked < 2 ^ 64 - 1 }
         ensures answered { (grants : List Grant) → StandsAt grants self.old
             → OnOk result (IsAskAnswered self.old.live.cell grants self.old (Step session request.now) self.new) }
         ensures goes_on { OnOk result (TakesOneLine self.old self.new) }
@@ -114,7 +129,7 @@ impl<D: Disk> Server<D> {
 
     // Counts a grant, and keeps its halted line where it is the first of the group.
     fn count_grant(&mut self, session: u16, request: &Request)
-        requires { IsStep self.old.live.cell request.now }
+        requires { RequestFits self.old.live.cell request.now }
         ensures counted { CountsGrant self.old session request.now self.new }
     {
         self.counts.add(&Grant {
@@ -143,14 +158,34 @@ impl<D: Disk> Server<D> {
         why_line(core.cell(), request, &reply)
     }
 
+    // The line of how many grants a session has, and of the last of them. Nothing changes.
+    fn look_back(&self, session: u16) -> Line
+        ensures { (grants : List Grant) → StandsAt grants self.now
+            → result ≡ line_of (last_words self.now.live.cell session (count_of session grants) (last_of session grants)) }
+    {
+        let cell = self.live.core().cell();
+        let last = fitting(cell, self.counts.last_of(session));
+        last_line(cell, session, self.counts.of(session), last)
+    }
+
     // Keeps an answer.
     fn keep(&mut self, line: Line)
         requires short { length self.old.replies < GROUP_LINES }
-        requires few { self.old.asked < 2 ^ 64 - 1 }
-        ensures { self.new ≡ record self.old { replies = self.old.replies ++ line ∷ []; asked = self.old.asked + 1 } }
+        ensures { self.new ≡ record self.old { replies = self.old.replies ++ line ∷ []; asked = line_number (self.old.asked + 1) } }
     {
         self.replies.push(line);
-        self.asked += 1;
+        self.asked = self.asked.saturating_add(1);
+    }
+}
+
+// A request that fits a cell. Each one that was granted does; but that is a fact of the grants, of which the table of sessions has no cell.
+fn fitting(cell: &Cell, request: Option<Request>) -> Option<Request>
+    ensures fits { IfSome result (RequestFits cell.now) }
+    ensures same { IfSome request (RequestFits cell.now) → result ≡ request }
+{
+    match request {
+        Some(request) if request_fits(cell, &request) => Some(request),
+        _ => None,
     }
 }
 
@@ -167,25 +202,4 @@ fn told_line(cell: &Cell, session: u16, request: &Request, told: Told) -> Line
             told,
         },
     )
-}
-
-// How many grants a session has.
-fn count_line(session: u16, count: u32) -> Line
-    ensures { result ≡ line_of (decimal session ∷ codes "grants" ∷ decimal count ∷ []) }
-{
-    let mut line = Line::new();
-    line.begin_number(session);
-    line.word(b"grants");
-    line.number(count);
-    line.end()
-}
-
-// The line of this number asks nothing.
-fn refused_line(number: u64) -> Line
-    ensures { result ≡ line_of (codes "line" ∷ codes "refused" ∷ decimal number ∷ []) }
-{
-    let mut line = Line::of_word(b"line");
-    line.word(b"refused");
-    line.number(number);
-    line.end()
 }

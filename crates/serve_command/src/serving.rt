@@ -11,15 +11,12 @@ use crate::server::Server;
 use cell_texts::CommandEnd;
 use cell_walks::{EarlyEnd, Status};
 use input_lines::InputLines;
-use live_cell::LiveParts;
+use live_cell::{LiveParts, live_law};
 use outside_io::Disk;
 use peers::Peer;
 use record_text::head_line;
 use std::slice;
 use std::sync::Wait;
-
-// More rounds than a conversation has, so that the number of a line fits 64 bits.
-const MAX_ROUNDS: u64 = 18_014_398_509_481_984;
 
 /// Answers the lines of a peer after what a live cell has, and puts the plan once they have ended.
 pub fn serve_live<R: Wait, D: Disk, T: Peer<D>>(
@@ -39,7 +36,7 @@ pub fn serve_live<R: Wait, D: Disk, T: Peer<D>>(
 {
     match converse(rt, &mut server, &mut lines, peer) {
         Ok(()) => {
-            let _core = server.live.core();
+            live_law(&server.live);
             let LiveParts { core, disk } = server.live.finish();
             match print_left_beside(peer, &disk, core) {
                 Ok(()) => CommandEnd {
@@ -75,11 +72,12 @@ fn converse<R: Wait, D: Disk, T: Peer<D>>(
         server.old.live.cell cell_text opening server.old.live.disk server.new result }
     ensures lives { LivesFrom D.Disk T.Peer server.old peer.old server.new.live.disk peer.new }
 {
+    let _core = server.live.core();
     let head = head_line(0, server.live.len());
     if let Err(_) = print_beside(peer, server.live.disk(), slice::from_ref(&head)) {
         return Err(Status::SinkFault);
     }
-    for _round in 0..MAX_ROUNDS {
+    for _round in rt.forever() {
         if let Err(status) = server.round(lines, peer) {
             return Err(status);
         }
@@ -93,6 +91,5 @@ fn converse<R: Wait, D: Disk, T: Peer<D>>(
             }
         }
     }
-    for _ in rt.forever() {}
     unreachable!()
 }

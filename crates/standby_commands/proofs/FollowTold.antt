@@ -15,7 +15,7 @@ use Rattle.cell_base.specs.Outcomes.{reply_to}
 use Rattle.move_journal.specs.Journals.{StandsForPrefix, StandsFor}
 use Rattle.durable_cell.specs.declared.replays.TheConstants.{MAX_ROOM}
 use Rattle.cell_walks.specs.Allowed.{StandsForAdded}
-use Rattle.cell_walks.specs.DiskTold.{DiskTold, IsAlways, IsNow}
+use Rattle.cell_walks.specs.DiskTold.{DiskTold, IsNow, SinceEntry}
 use Rattle.cell_walks.specs.Observed.{Observed, shown}
 use Rattle.cell_walks.specs.Outcomes.{Outcome}
 use Rattle.cell_walks.specs.Promises.{DiskServes, IsAnswered, Promises, Refuses}
@@ -71,16 +71,13 @@ module _ (disk : DiskTold) (cell : Cell) (text : List ℕ) (frames : List (List 
       )
 
   -- a crash at any moment left the opening grants and a prefix of these
-  moments : (more : List Grant) → outcome.unsure ≡ more
-      → IsAlways disk (λ file. disk.leaves file ⊎ StandsForPrefix text opening (outcome.added ++ more) file)
+  moments : (more : List Grant) → outcome.unsure ≡ more → SinceEntry disk (StandsForPrefix text opening (outcome.added ++ more))
   moments more is =
-      subst (λ (u : List Grant). IsAlways disk (λ file. disk.leaves file ⊎ StandsForPrefix text opening (outcome.added ++ u) file)) is
-      left.any_moment
+      subst (λ (u : List Grant). SinceEntry disk (StandsForPrefix text opening (outcome.added ++ u))) is left.any_moment
 
-  sure_moments : outcome.unsure ≡ [] → IsAlways disk (λ file. disk.leaves file ⊎ StandsForPrefix text opening outcome.added file)
+  sure_moments : outcome.unsure ≡ [] → SinceEntry disk (StandsForPrefix text opening outcome.added)
   sure_moments none =
-      subst (λ (gs : List Grant). IsAlways disk (λ file. disk.leaves file ⊎ StandsForPrefix text opening gs file))
-      (append-nil outcome.added) (moments [] none)
+      subst (λ (gs : List Grant). SinceEntry disk (StandsForPrefix text opening gs)) (append-nil outcome.added) (moments [] none)
 
   whole : IsFollowed cell opening frames outcome → IsFollowedWhole disk cell text frames opening outcome
   whole is = record {

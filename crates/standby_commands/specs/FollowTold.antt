@@ -10,7 +10,7 @@ use Rattle.shift_recovery.specs.Replayed.{AreDue}
 use Rattle.durable_cell.specs.declared.replays.TheConstants.{MAX_ROOM}
 use Rattle.move_journal.specs.Journals.{StandsForPrefix, StandsFor}
 use Rattle.cell_walks.specs.Allowed.{IsOpenedAs}
-use Rattle.cell_walks.specs.DiskTold.{DiskTold, IsAlways, IsNow, StoodFor}
+use Rattle.cell_walks.specs.DiskTold.{DiskTold, IsNow, SinceEntry, StoodFor}
 use Rattle.cell_walks.specs.Observed.{Observed, ShowsFile}
 use Rattle.cell_walks.specs.Outcomes.{Outcome}
 use Rattle.cell_walks.specs.Promises.{Accepts, DiskServes, IsCut, KeepsGrants, Promises, ReadsAll, TakesAll}
@@ -30,14 +30,14 @@ pub record IsFollowedWhole (disk : DiskTold) (cell : Cell) (text : List ℕ) (fr
     (outcome : Outcome) : Type 0 where
   pub is : IsFollowed cell opening frames outcome
   pub stands : IsNow disk (λ file. StandsFor file text (delivered_all opening frames))
-  pub any_moment : IsAlways disk (λ file. disk.leaves file ⊎ StandsForPrefix text opening outcome.added file)
+  pub any_moment : SinceEntry disk (StandsForPrefix text opening outcome.added)
 
 -- A frame is refused: the disk stands for the grants of the frames before it.
 pub record IsRefusedFollow (disk : DiskTold) (cell : Cell) (text : List ℕ) (frames : List (List ℕ)) (opening : List Grant)
     (outcome : Outcome) : Type 0 where
   pub is : IsRefusedAt cell opening frames outcome
   pub stands : IsNow disk (λ file. StandsFor file text (delivered_all opening is.first))
-  pub any_moment : IsAlways disk (λ file. disk.leaves file ⊎ StandsForPrefix text opening outcome.added file)
+  pub any_moment : SinceEntry disk (StandsForPrefix text opening outcome.added)
 
 -- The writing of a grant failed: the disk stands for the grants of the frames before it, or for these and that one.
 pub record IsHaltedFollow (disk : DiskTold) (cell : Cell) (text : List ℕ) (frames : List (List ℕ)) (opening : List Grant)
@@ -45,7 +45,7 @@ pub record IsHaltedFollow (disk : DiskTold) (cell : Cell) (text : List ℕ) (fra
   pub is : IsHaltedAt cell opening frames outcome
   pub stands : IsNow disk (λ file. StandsFor file text (delivered_all opening is.first)
       ⊎ StandsFor file text (delivered_all opening is.first ++ is.grant ∷ []))
-  pub any_moment : IsAlways disk (λ file. disk.leaves file ⊎ StandsForPrefix text opening (outcome.added ++ is.grant ∷ []) file)
+  pub any_moment : SinceEntry disk (StandsForPrefix text opening (outcome.added ++ is.grant ∷ []))
   pub cause : Rose disk.faults disk.faults_after
 
 -- one of the three

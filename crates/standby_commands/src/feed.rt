@@ -40,7 +40,7 @@ pub fn run_feed<F: Files, K: Sink, D: Disk>(
     }
 }
 
-/// The command, from the grant of this index on.
+/// The command `feed`, from the grant of this index on.
 #[derive(Drop)]
 pub struct Feed {
     first: u64,

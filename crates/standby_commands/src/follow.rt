@@ -10,11 +10,12 @@ use crate::frames::{FRAME_BYTES, read_frames};
 use crate::printing::print_acks;
 use crate::refusals::follow_refused;
 use admission_core::Core;
+use admission_core::laws::core_law;
 use cell_base::{NoMemory, Shelf};
 use cell_driver::Command;
 use cell_texts::{CellFile, Made};
 use cell_walks::{EarlyEnd, Status};
-use durable_cell::{Durable, Finished, MAX_ROOM};
+use durable_cell::{Durable, Finished, MAX_ROOM, durable_law};
 use journal_texts::{give_back, open_journal};
 use outside_io::{Disk, Files, Sink};
 use printer::Printer;
@@ -22,7 +23,7 @@ use record_text::left_line;
 use standby_link::{Follower, TakeFault};
 use std::alloc::Global;
 
-/// The command, with the name of the frames. All frames are taken before the first answer is printed.
+/// The command `follow`, with the name of the frames. All frames are taken before the first answer is printed.
 #[derive(Drop)]
 pub struct Follow<'a> {
     pub frames: &'a str,
@@ -122,7 +123,7 @@ fn follow_opened<D: Disk>(
     ensures due { AreDue durable.cell durable.opening }
     ensures fits { IfOk result.made StopFits }
 {
-    let _kept = durable.core();
+    durable_law(&durable);
     match Follower::open(alloc, durable, bytes.len() as u64 / FRAME_BYTES) {
         Ok(mut follower) => {
             let stop = take_frames(&mut follower, bytes, &mut acks);
@@ -132,7 +133,7 @@ fn follow_opened<D: Disk>(
                 history: _,
                 after: _,
             } = follower.into_durable().finish();
-            let _admitted = core.cell();
+            core_law(&core);
             Made {
                 made: Ok(Followed { core, acks, stop }),
                 disk,

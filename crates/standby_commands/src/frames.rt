@@ -4,9 +4,10 @@ ghost use Rattle.cell_walks.specs.Clauses.{IsEndedAt, ShowsFile, files_told};
 ghost use Rattle.standby_commands.specs.FrameFiles.{frames_file, frames_in, frames_reads, have_room};
 
 use crate::refusals::frames_refused;
+use cell_texts::read_named;
 use cell_walks::EarlyEnd;
 use durable_cell::MAX_ROOM;
-use outside_io::{FileFail, Files};
+use outside_io::Files;
 use standby_link::index_in;
 use std::alloc::Global;
 
@@ -24,12 +25,10 @@ pub fn read_frames<F: Files>(alloc: Global, files: &mut F, name: &str) -> Result
     ensures short { IfOk result (λ bytes. length bytes.items ≤ MAX_FRAMES_BYTES) }
     ensures ended { IfErr result (IsEndedAt (files_told F.holds F.is_sound F.faults files.old files.new) (frames_file name.now)) }
 {
-    let mut bytes = Vec::new(alloc);
-    match files.read_file(alloc, name, MAX_FRAMES_BYTES, &mut bytes) {
-        Ok(()) => {}
-        Err(FileFail::Failed) => return Err(EarlyEnd::NotRead),
-        Err(FileFail::Memory) => return Err(EarlyEnd::WantOfMemory),
-    }
+    let bytes = match read_named(alloc, files, name, MAX_FRAMES_BYTES as u32) {
+        Ok(bytes) => bytes,
+        Err(end) => return Err(end),
+    };
     let len = bytes.len() as u64;
     if len > MAX_FRAMES_BYTES || len % FRAME_BYTES != 0 {
         return Err(frames_refused());

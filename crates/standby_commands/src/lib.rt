@@ -4,7 +4,8 @@
 //! repeated or in another order, are all taken.
 //!
 //! ```text
-//! let CommandEnd { status, disk } = run_follow(alloc, &mut files, &mut out, "cell.toml", "frames", disk);
+//! let follow = Follow { frames: "frames" };
+//! let CommandEnd { status, disk } = drive(&follow, alloc, &mut files, &mut out, "cell.toml", disk);
 //! ```
 #![tactic(auto)]
 
@@ -14,8 +15,6 @@ mod following;
 mod frames;
 mod printing;
 mod refusals;
-mod running;
 
 pub use feed::run_feed;
 pub use follow::Follow;
-pub use running::run_follow;

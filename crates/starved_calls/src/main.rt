@@ -8,7 +8,7 @@
 
 use anyhow::{Context, Result, bail};
 use cell_base::List;
-use cell_program::{Ended, Served, cell_main, serve_main, served_in};
+use cell_program::{Ended, cell_main, serve_main, served_in};
 use outside_io::{FreePace, MemDisk, MemFiles, MemSink, MemSource};
 use peers::Silent;
 use std::io::{ErrorKind, Read};
@@ -42,9 +42,10 @@ fn play<R: Env + Files + Input + Print + AllocGlobal + Threads + Wait + Sync>(
     let bytes = fs::read(rt, journal.as_str())?;
     let disk = MemDisk::new(rt.alloc(), bytes.as_slice(), List::new(rt.alloc()));
     let disk = disk.ok().context("no memory")?;
-    match served_in(words) {
-        Some(served) => serve(rt, words, &served, disk),
-        None => call(rt, words, disk),
+    if served_in(words).is_some() {
+        serve(rt, words, disk)
+    } else {
+        call(rt, words, disk)
     }
 }
 
@@ -66,7 +67,6 @@ fn call<R: Files + Print + AllocGlobal + Threads + Wait + Sync>(
 fn serve<R: Files + Input + Print + AllocGlobal + Wait>(
     rt: &R,
     words: &[String],
-    served: &Served<'_>,
     disk: MemDisk,
 ) -> Result<()> {
     let alloc = rt.alloc();
@@ -79,7 +79,7 @@ fn serve<R: Files + Input + Print + AllocGlobal + Wait>(
         sink: MemSink::new(alloc, List::new(alloc)),
     };
     println!(rt; "called")?;
-    let Ended { status, disk } = serve_main(rt, alloc, &mut files, &mut peer, served.cell, disk);
+    let Ended { status, disk } = serve_main(rt, alloc, words, &mut files, &mut peer, disk);
     print_end(rt, status, &peer.sink, &disk)
 }
 

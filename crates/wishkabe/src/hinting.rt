@@ -1,7 +1,10 @@
 //! The line on standard error after a refusal.
 use cell_program::usage;
+use hint_texts::HintLine;
 use hints::{Ended, hint};
 use real_outside::{DirFiles, Failure, FileDisk, OutSink, RegularFiles};
+use record_hints::owed;
+use std::alloc::Global;
 use std::fs::File;
 use std::io::Write;
 use std::rt::{Clock, Files};
@@ -48,7 +51,29 @@ pub fn tell<'a, R: AllocGlobal + Files + Clock + Eprint>(
         failure,
     };
     let mut files = RegularFiles::new(rt);
-    if let Some(hint) = hint(rt.alloc(), &mut files, &ended) {
-        let _ = eprintln!(rt; "{hint}");
+    let Some(hint) = hint(rt.alloc(), &mut files, &ended) else {
+        return;
+    };
+    let hint = hint.as_str();
+    match owed_line(rt.alloc(), &mut files, &ended) {
+        Some(owed) => {
+            let owed = owed.as_str();
+            let _ = eprintln!(rt; "{hint}: {owed}");
+        }
+        None => {
+            let _ = eprintln!(rt; "{hint}");
+        }
+    }
+}
+
+// What is right at the line of a record that is wrong.
+fn owed_line<F: outside_io::Files>(
+    alloc: Global,
+    files: &mut F,
+    ended: &Ended<'_>,
+) -> Option<HintLine> {
+    match ended.status {
+        1 => owed(alloc, files, ended.words, ended.line),
+        _ => None,
     }
 }

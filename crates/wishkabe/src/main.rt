@@ -1,15 +1,20 @@
 //! The program `wishkabe`: runs the command that its words name, over the files of the current folder, a journal's file, standard
-//! input and standard output. A person at a terminal is told on standard error how far a long command is, and why one was refused.
+//! input and standard output. A person at a terminal is told on standard error how far a long command is, and why one was refused; whoever
+//! calls it is told there of a journal that is not there.
 #![tactic(auto)]
 
+mod absence;
+mod gathered;
 mod hinting;
 mod manner;
 
-use cell_program::{Journal, Served, cell_main, journal_in, serve_main, served_in};
+use absence::absence_line;
+use cell_program::{Journal, cell_main, journal_in, serve_main, served_in};
+use gathered::Gathered;
+use hint_texts::HintLine;
 use hinting::{Fails, failure_of, tell};
 use manner::Manner;
 use outside_io::{Disk, Pace};
-use peers::Silent;
 use real_outside::{
     DirFiles, FileDisk, InSource, OUT_BUFFER, OutSink, Purpose, RestPace, SeenSink,
     words_after_name,
@@ -25,10 +30,24 @@ use std::thread::Threads;
 fn main(rt: HostRuntime) -> ExitCode {
     let words = words_after_name(&rt);
     let manner = Manner::of(&rt, rt.stderr().is_terminal());
-    if let Some(served) = served_in(&words) {
-        return ExitCode::from(serve(&rt, &words, &served, manner));
+    let (name, purpose) = journal_of(&words);
+    let absence = if manner.tells_absence {
+        absence_line(rt.alloc(), name, purpose)
+    } else {
+        None
+    };
+    let is_served = served_in(&words).is_some();
+    let shows_progress = manner.shows_progress && !is_served;
+    let disk = FileDisk::new(&rt, rt.alloc(), name, purpose, shows_progress).telling(
+        absence.as_ref().map(HintLine::as_str),
+    );
+    if is_served {
+        let status = match BufWriter::with_capacity(rt.alloc(), OUT_BUFFER, io::writer(&rt)) {
+            Ok(writer) => serve(&rt, &words, writer, disk, manner),
+            Err(_) => serve(&rt, &words, io::writer(&rt), disk, manner),
+        };
+        return ExitCode::from(status);
     }
-    let disk = disk_for(&rt, &words, manner);
     let pace = RestPace::new(&rt);
     let status = match BufWriter::with_capacity(rt.alloc(), OUT_BUFFER, io::writer(&rt)) {
         Ok(writer) => run_over(&rt, &words, writer, disk, &pace, manner),
@@ -37,21 +56,20 @@ fn main(rt: HostRuntime) -> ExitCode {
     ExitCode::from(status)
 }
 
-// Serves the lines of standard input: each answer is one write. Nothing is told of how far it is, since its lines are read as they come.
-fn serve<R: AllocGlobal + Clock + Eprint + Files<File = File> + Input + Print + Wait>(
-    rt: &R,
-    words: &[String],
-    served: &Served<'_>,
-    manner: Manner,
-) -> u8 {
+// Serves the lines of standard input: the answers of a group are one write. Nothing is told of how far it is, since its lines are read as
+// they come.
+fn serve<
+    R: AllocGlobal + Clock + Eprint + Files<File = File> + Input + Wait,
+    W: Write + Drop,
+    D: Disk + Fails + Drop,
+>(rt: &R, words: &[String], writer: W, disk: D, manner: Manner) -> u8 {
     let alloc = rt.alloc();
     let mut files = DirFiles::new(rt, false);
-    let mut peer = Silent {
+    let mut peer = Gathered {
         source: InSource::new(rt.reader()),
-        sink: SeenSink::new(rt, OutSink::new(io::writer(rt)), manner.seen()),
+        sink: SeenSink::new(rt, OutSink::new(writer), manner.seen()),
     };
-    let disk = FileDisk::new(rt, alloc, served.journal, Purpose::ToAdd, false);
-    let ended = serve_main(rt, alloc, &mut files, &mut peer, served.cell, disk);
+    let ended = serve_main(rt, alloc, words, &mut files, &mut peer, disk);
     if manner.gives_hints {
         let failure = failure_of(ended.status, &files, &ended.disk, peer.sink.inner());
         tell(rt, words, ended.status, peer.sink.line(), failure);
@@ -81,16 +99,11 @@ fn run_over<
     status
 }
 
-// The disk of the command that the words are. Without a journal it is on the empty name, which no file has.
-fn disk_for<'a, R: Files<File = File> + Clock + Eprint + AllocGlobal>(
-    rt: &'a R,
-    words: &'a [String],
-    manner: Manner,
-) -> FileDisk<'a, R> {
-    let (name, purpose) = match journal_in(words) {
+// The journal that the words name, and what it is opened for. Words without one have the empty name, which no file has.
+fn journal_of(words: &[String]) -> (&str, Purpose) {
+    match journal_in(words) {
         Some(Journal::Read(name)) => (name, Purpose::ToRead),
         Some(Journal::Added(name)) => (name, Purpose::ToAdd),
         None => ("", Purpose::ToRead),
-    };
-    FileDisk::new(rt, rt.alloc(), name, purpose, manner.shows_progress)
+    }
 }

@@ -2,7 +2,7 @@
 use real_outside::Seen;
 use std::rt::Env;
 
-/// The variable that puts it off by 0, and hints on by 1.
+/// The variable that puts all of it off by 0, and hints on by 1.
 const VARIABLE: &str = "WISHKABE_HINTS";
 
 /// What is told on standard error.
@@ -12,6 +12,8 @@ pub struct Manner {
     pub shows_progress: bool,
     /// A line in plain words after a refusal.
     pub gives_hints: bool,
+    /// That a journal is not there. It is told terminal or not, since a program may have got a mistyped name.
+    pub tells_absence: bool,
 }
 
 impl Manner {
@@ -26,6 +28,7 @@ impl Manner {
         Manner {
             shows_progress,
             gives_hints: shows_progress || wanted == b'1',
+            tells_absence: wanted != b'0',
         }
     }
 

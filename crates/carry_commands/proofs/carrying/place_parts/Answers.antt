@@ -19,7 +19,7 @@ returns-in-Err-clause-ended c =
     let loop = c.loop-part in
     let old = c.args.old.now.cell in
     let parts = c.args.parts.now in
-    refused_at old _ c.args.core.now.cell c.args.old.now.parts c.cell-admitted.ensures.admitted.state.distinct _ c.at_carry_fault.result
+    refused_at old _ c.args.core.now.cell c.args.old.now.parts c.core_law.ensures.admitted.state.distinct _ c.at_carry_fault.result
     (loop.invariant.so_far
     ∙ ap (λ (ps : List Part). behind loop.requests (carried_after old loop.core.cell loop.core.parts ps))
     (drop_more parts loop.part-index _ (omega (arith, c.loop-part-test.true)))
@@ -68,7 +68,7 @@ returns-clause-carried c =
         loop.invariant.count,
         loop.invariant.within,
         ap (λ (ps : List Part). length ps) c.requires.parts,
-        units_law old.cell c.cell-admitted.ensures.fits old.parts c.cell-admitted.ensures.admitted,
-        c.cell-admitted.ensures.fits.units,
+        units_law old.cell c.core_law.ensures.fits old.parts c.core_law.ensures.admitted,
+        c.core_law.ensures.fits.units,
       );
     }

@@ -3,4 +3,4 @@ use Rattle.carry_commands.proofs.SameCell.{same_cell}
 use Rattle.carry_commands.proofs.laws.the_same_cell_takes_all.Goals as goal
 
 pub returns : goal.returns
-returns c = same_cell c.args.core.now.cell c.cell-admitted.ensures.fits c.args.core.now.parts c.cell-admitted.ensures.admitted
+returns c = same_cell c.args.core.now.cell c.core_law.ensures.fits c.args.core.now.parts c.core_law.ensures.admitted

@@ -28,5 +28,5 @@ returns-in-Err-clause-drained g c =
     let next = sym (c.in-Some.ensures.step ∙ ap (λ (core : CoreState). plan_step core.cell core.parts) c.core.ensures.core) in
     inr (halts c.args.durable.now c.loop-step.durable c.ask.new.self c.loop-step.invariant.so_far law c.in-Some.step next
     c.core.ensures.kept
-    (has_room c.args.durable.now c.core-admitted.ensures.kept c.requires.fresh c.requires.limit c.core-admitted.ensures.admitted)
+    (has_room c.args.durable.now c.durable_law.ensures.kept c.requires.fresh c.requires.limit c.durable_law.ensures.admitted)
     c.in-Err.field-0 c.in-Err.ensures.answer)

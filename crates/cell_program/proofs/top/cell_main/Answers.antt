@@ -2,7 +2,9 @@
 use Rattle.carry_commands.proofs.BeginTold.{begin_tells}
 use Rattle.cell_commands.proofs.DrainTold.{drain_tells}
 use Rattle.run_command.proofs.RunTold.{run_tells}
+use Rattle.std.proofs.Common.{sym, ◌∙◌}
 use Rattle.cell_program.proofs.Promised.{command_promises, no_journal, none_promises}
+use Rattle.cell_program.proofs.ServeWords.{no_task}
 use Rattle.standby_commands.proofs.FollowTold.{completes, follow_tells}
 use Rattle.cell_program.proofs.Statuses.{causes, numbered}
 use Rattle.cell_program.specs.Words.{Begin, Drain, Follow, Run}
@@ -20,6 +22,14 @@ returns-clause-none g c none = (
   c.run_command-status.result.status,
   c.number.ensures,
   none_promises _ _ c.run_command-status.result.status _ c.reads_an_image.ensures c.run_command-status.ensures.ends none,
+)
+
+pub returns-clause-serve : goal.returns-clause-serve
+returns-clause-serve g c cell journal so = (
+  c.run_command-status.result.status,
+  c.number.ensures,
+  none_promises _ _ c.run_command-status.result.status _ c.reads_an_image.ensures c.run_command-status.ensures.ends
+      (λ task same. no_task cell journal task (same ∙ sym so)),
 )
 
 pub returns-clause-untouched : goal.returns-clause-untouched

@@ -22,27 +22,33 @@ returns-in-Some-Run-clause-ends g c =
 
 pub returns-in-Some-Plan-clause-ends : goal.returns-in-Some-Plan-clause-ends
 returns-in-Some-Plan-clause-ends g c =
-    ends_as _ _ c.run_plan.result.status _ c.in-Some-Plan.field-0 _ c.in-Some-Plan.ensures.written c.in-Some-Plan.field-0-is
-    c.run_plan.ensures
+    ends_as _ _ c.drive.result.status _ c.in-Some-Plan.field-0 _ c.in-Some-Plan.ensures.written c.in-Some-Plan.field-0-is
+    c.drive.ensures.ends
 
 pub returns-in-Some-Drain-clause-ends : goal.returns-in-Some-Drain-clause-ends
 returns-in-Some-Drain-clause-ends g c =
-    ends_as _ _ c.run_drain.result.status _ c.in-Some-Drain.field-0 _ c.in-Some-Drain.ensures.written c.in-Some-Drain.field-0-is
-    c.run_drain.ensures
+    ends_as _ _ c.drive-in-Some-Drain.result.status _ c.in-Some-Drain.field-0 _ c.in-Some-Drain.ensures.written c.in-Some-Drain.field-0-is
+    c.drive-in-Some-Drain.ensures.ends
 
 pub returns-in-Some-Why-clause-ends : goal.returns-in-Some-Why-clause-ends
 returns-in-Some-Why-clause-ends g c =
-    ends_as _ _ c.run_why.result.status _ c.in-Some-Why.field-0 _ c.in-Some-Why.ensures.written c.in-Some-Why.field-0-is c.run_why.ensures
+    ends_as _ _ c.drive-in-Some-Why.result.status _ c.in-Some-Why.field-0 _ c.in-Some-Why.ensures.written c.in-Some-Why.field-0-is c.drive-in-Some-Why.ensures.ends
 
 pub returns-in-Some-Check-clause-ends : goal.returns-in-Some-Check-clause-ends
 returns-in-Some-Check-clause-ends g c =
-    ends_as _ _ c.run_check.result.status _ c.in-Some-Check.field-0 _ c.in-Some-Check.ensures.written c.in-Some-Check.field-0-is
-    c.run_check.ensures.ends
+    ends_as _ _ c.drive-in-Some-Check.result.status _ c.in-Some-Check.field-0 _ c.in-Some-Check.ensures.written c.in-Some-Check.field-0-is
+    c.drive-in-Some-Check.ensures.ends
+
+pub returns-in-Some-Check-clause-same : goal.returns-in-Some-Check-clause-same
+returns-in-Some-Check-clause-same g c none = c.drive-in-Some-Check.ensures.same tt
 
 pub returns-in-Some-Show-clause-ends : goal.returns-in-Some-Show-clause-ends
 returns-in-Some-Show-clause-ends g c =
-    ends_as _ _ c.run_show.result.status _ c.in-Some-Show.field-0 _ c.in-Some-Show.ensures.written c.in-Some-Show.field-0-is
-    c.run_show.ensures.ends
+    ends_as _ _ c.drive-in-Some-Show.result.status _ c.in-Some-Show.field-0 _ c.in-Some-Show.ensures.written c.in-Some-Show.field-0-is
+    c.drive-in-Some-Show.ensures.ends
+
+pub returns-in-Some-Show-clause-same : goal.returns-in-Some-Show-clause-same
+returns-in-Some-Show-clause-same g c none = c.drive-in-Some-Show.ensures.same tt
 
 pub returns-in-Some-Make-clause-ends : goal.returns-in-Some-Make-clause-ends
 returns-in-Some-Make-clause-ends g c =
@@ -51,43 +57,55 @@ returns-in-Some-Make-clause-ends g c =
 
 pub returns-in-Some-Carry-clause-ends : goal.returns-in-Some-Carry-clause-ends
 returns-in-Some-Carry-clause-ends g c =
-    ends_as _ _ c.run_carry.result.status _ c.in-Some-Carry.field-0 _ c.in-Some-Carry.ensures.written c.in-Some-Carry.field-0-is
-    c.run_carry.ensures
+    ends_as _ _ c.drive-in-Some-Carry.result.status _ c.in-Some-Carry.field-0 _ c.in-Some-Carry.ensures.written c.in-Some-Carry.field-0-is
+    c.drive-in-Some-Carry.ensures.ends
 
 pub returns-in-Some-Begin-clause-ends : goal.returns-in-Some-Begin-clause-ends
 returns-in-Some-Begin-clause-ends g c =
-    ends_as _ _ c.run_begin.result.status _ c.in-Some-Begin.field-0 _ c.in-Some-Begin.ensures.written c.in-Some-Begin.field-0-is
-    c.run_begin.ensures
+    ends_as _ _ c.drive-in-Some-Begin.result.status _ c.in-Some-Begin.field-0 _ c.in-Some-Begin.ensures.written c.in-Some-Begin.field-0-is
+    c.drive-in-Some-Begin.ensures.ends
 
 pub returns-in-Some-Hybrid-clause-ends : goal.returns-in-Some-Hybrid-clause-ends
 returns-in-Some-Hybrid-clause-ends g c =
-    ends_as _ _ c.run_hybrid.result.status _ c.in-Some-Hybrid.field-0 _ c.in-Some-Hybrid.ensures.written c.in-Some-Hybrid.field-0-is
-    c.run_hybrid.ensures.ends
+    ends_as _ _ c.drive-in-Some-Hybrid.result.status _ c.in-Some-Hybrid.field-0 _ c.in-Some-Hybrid.ensures.written c.in-Some-Hybrid.field-0-is
+    c.drive-in-Some-Hybrid.ensures.ends
+
+pub returns-in-Some-Hybrid-clause-same : goal.returns-in-Some-Hybrid-clause-same
+returns-in-Some-Hybrid-clause-same g c none = c.drive-in-Some-Hybrid.ensures.same tt
 
 pub returns-in-Some-Queue-clause-ends : goal.returns-in-Some-Queue-clause-ends
 returns-in-Some-Queue-clause-ends g c =
-    ends_as _ _ c.run_queue.result.status _ c.in-Some-Queue.field-0 _ c.in-Some-Queue.ensures.written c.in-Some-Queue.field-0-is
-    c.run_queue.ensures.ends
+    ends_as _ _ c.drive-in-Some-Queue.result.status _ c.in-Some-Queue.field-0 _ c.in-Some-Queue.ensures.written c.in-Some-Queue.field-0-is
+    c.drive-in-Some-Queue.ensures.ends
+
+pub returns-in-Some-Queue-clause-same : goal.returns-in-Some-Queue-clause-same
+returns-in-Some-Queue-clause-same g c none = c.drive-in-Some-Queue.ensures.same tt
 
 pub returns-in-Some-Advise-clause-ends : goal.returns-in-Some-Advise-clause-ends
 returns-in-Some-Advise-clause-ends g c =
-    ends_as _ _ c.run_advise.result.status _ c.in-Some-Advise.field-0 _ c.in-Some-Advise.ensures.written c.in-Some-Advise.field-0-is
-    c.run_advise.ensures.ends
+    ends_as _ _ c.drive-in-Some-Advise.result.status _ c.in-Some-Advise.field-0 _ c.in-Some-Advise.ensures.written c.in-Some-Advise.field-0-is
+    c.drive-in-Some-Advise.ensures.ends
+
+pub returns-in-Some-Advise-clause-same : goal.returns-in-Some-Advise-clause-same
+returns-in-Some-Advise-clause-same g c none = c.drive-in-Some-Advise.ensures.same tt
 
 pub returns-in-Some-Arrange-clause-ends : goal.returns-in-Some-Arrange-clause-ends
 returns-in-Some-Arrange-clause-ends g c =
-    ends_as _ _ c.run_arrange.result.status _ c.in-Some-Arrange.field-0 _ c.in-Some-Arrange.ensures.written c.in-Some-Arrange.field-0-is
-    c.run_arrange.ensures.ends
+    ends_as _ _ c.drive-in-Some-Arrange.result.status _ c.in-Some-Arrange.field-0 _ c.in-Some-Arrange.ensures.written c.in-Some-Arrange.field-0-is
+    c.drive-in-Some-Arrange.ensures.ends
+
+pub returns-in-Some-Arrange-clause-same : goal.returns-in-Some-Arrange-clause-same
+returns-in-Some-Arrange-clause-same g c none = c.drive-in-Some-Arrange.ensures.same tt
 
 pub returns-in-Some-Grants-clause-ends : goal.returns-in-Some-Grants-clause-ends
 returns-in-Some-Grants-clause-ends g c =
-    ends_as _ _ c.run_grants.result.status _ c.in-Some-Grants.field-0 _ c.in-Some-Grants.ensures.written c.in-Some-Grants.field-0-is
-    c.run_grants.ensures
+    ends_as _ _ c.drive-in-Some-Grants.result.status _ c.in-Some-Grants.field-0 _ c.in-Some-Grants.ensures.written c.in-Some-Grants.field-0-is
+    c.drive-in-Some-Grants.ensures.ends
 
 pub returns-in-Some-Parts-clause-ends : goal.returns-in-Some-Parts-clause-ends
 returns-in-Some-Parts-clause-ends g c =
-    ends_as _ _ c.run_parts.result.status _ c.in-Some-Parts.field-0 _ c.in-Some-Parts.ensures.written c.in-Some-Parts.field-0-is
-    c.run_parts.ensures
+    ends_as _ _ c.drive-in-Some-Parts.result.status _ c.in-Some-Parts.field-0 _ c.in-Some-Parts.ensures.written c.in-Some-Parts.field-0-is
+    c.drive-in-Some-Parts.ensures.ends
 
 pub returns-in-Some-Feed-clause-ends : goal.returns-in-Some-Feed-clause-ends
 returns-in-Some-Feed-clause-ends g c =
@@ -96,5 +114,5 @@ returns-in-Some-Feed-clause-ends g c =
 
 pub returns-in-Some-Follow-clause-ends : goal.returns-in-Some-Follow-clause-ends
 returns-in-Some-Follow-clause-ends g c =
-    ends_as _ _ c.run_follow.result.status _ c.in-Some-Follow.field-0 _ c.in-Some-Follow.ensures.written c.in-Some-Follow.field-0-is
-    c.run_follow.ensures
+    ends_as _ _ c.drive-in-Some-Follow.result.status _ c.in-Some-Follow.field-0 _ c.in-Some-Follow.ensures.written c.in-Some-Follow.field-0-is
+    c.drive-in-Some-Follow.ensures.ends

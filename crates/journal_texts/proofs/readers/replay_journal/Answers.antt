@@ -20,7 +20,7 @@ returns-in-Ok-clause-replayed g c =
             (λ file. opened_as c.args.held.cell file text MAX_ROOM ≡ Ok after.grants)) c.deref.ensures.value after.opened,
       );
       core = after.core.state;
-      count = c.count.ensures c.deref.result.now after.grants after.holds;
+      count = c.count-count.ensures c.deref.result.now after.grants after.holds;
     }
 
 pub returns-in-Refused-clause-ended : goal.returns-in-Refused-clause-ended

@@ -1,9 +1,10 @@
 -- The journal is opened and served, or the command ends.
 use Rattle.std.specs.Prelude.{IfSome, Ok, Err}
-use Rattle.std.proofs.Common.{◌≡◌, ◌⊎◌, inl, List, ℕ, ap, arith, length, refl, subst, sym, ◌∙◌}
+use Rattle.std.proofs.Common.{◌≡◌, ◌⊎◌, All, inl, List, ℕ, ap, arith, length, refl, subst, sym, ◌∙◌}
 use Rattle.outside_io.specs.Telling.{told, where_told}
 use Rattle.cell_base.specs.declared.cells.Cell.{Cell}
 use Rattle.cell_base.specs.declared.shifts.Grant.{Grant}
+use Rattle.cell_base.specs.Fits.{RequestFits}
 use Rattle.cell_base.specs.Histories.{replay}
 use Rattle.durable_cell.specs.Made.{IsUnmade}
 use Rattle.shift_recovery.specs.Replayed.{opened_as}
@@ -42,6 +43,8 @@ returns-in-Ok-clause-served g c =
     c.serve_live.result.status after.state after.due exact opened c.in-Ok.ensures.cause
     (c.serve_live.ensures.serves c.args.held.text.items opening (record {
       at = record {
+        fit = subst (λ (cell : Cell). All (λ (grant : Grant). RequestFits cell grant.request) opening)
+            (sym (ap (λ (l : LiveState _). l.cell) after.state)) after.due.fit;
         parts = ap (λ (l : LiveState _). l.parts) after.state
             ∙ ap (λ (cell : Cell). replay cell opening) (sym (ap (λ (l : LiveState _). l.cell) after.state));
         counts = after.taken.1 c.requires.desk.counts (omega (arith, after.few));
@@ -107,10 +110,12 @@ returns-in-Ok-clause-moments g c = λ given before given_is put_is clock.
     let exact = subst (λ (text : List ℕ). IfSome (g.D.Disk.reads_as disk)
     (λ file. opened_as c.args.held.cell file text MAX_SERVED ≡ Ok opening)) c.deref.ensures.value after.exact in
     where_told (g.D.Disk.reads_as disk) _ (λ file is. Opened opening (told _ _ file is exact)
-    (lives_since g.D.Disk g.T.Peer given before disk c.args.peer.now given_is put_is clock (known c.args.held) opening _
+    (lives_since g.D.Disk g.T.Peer given before disk c.args.peer.now given_is put_is clock (known c.args.held) opening after.few _
     c.serve_live.result.disk c.serve_live.new.peer file is (ap (λ (l : LiveState _). l.cell) after.state)
     (record {
       at = record {
+        fit = subst (λ (cell : Cell). All (λ (grant : Grant). RequestFits cell grant.request) opening)
+            (sym (ap (λ (l : LiveState _). l.cell) after.state)) after.due.fit;
         parts = ap (λ (l : LiveState _). l.parts) after.state
             ∙ ap (λ (cell : Cell). replay cell opening) (sym (ap (λ (l : LiveState _). l.cell) after.state));
         counts = after.taken.1 c.requires.desk.counts (omega (arith, after.few));

@@ -17,8 +17,7 @@ use Rattle.serve_command.specs.Lives.{LivesTo}
 use Rattle.serve_command.specs.Rounds.{IsLastRound, IsRound}
 use Rattle.serve_command.proofs.Conversing.{begins, head_is, input_kept, is_lost, none_is_ahead, not_begun, piece_comes, round_goes}
 use Rattle.serve_command.proofs.Conversing.{sink_kept, stops}
-use Rattle.serve_command.proofs.LoopLives.{begins_live, lives_then, lost_lives, read_lives, served_to}
-use Rattle.serve_command.proofs.serving.converse.Goals.{then-is_spent+in-Ok, else-is_spent}
+use Rattle.serve_command.proofs.LoopLives.{begins_live, has_room, lives_then, lost_lives, read_lives, served_to}
 use Rattle.serve_command.proofs.serving.converse.Goals as goal
 
 pub returns-in-Err-clause-converses : goal.returns-in-Err-clause-converses
@@ -29,6 +28,7 @@ returns-in-Err-clause-converses g c = λ cell_text opening behind.
     c.print_beside.ensures.beside.unread c.print_beside.ensures.beside.no_read
     g.T.Peer.taken g.T.Peer.was_put g.T.Peer.faults c.args.peer.now c.print_beside.new.peer c.head_line-head.result
     (c.head_line-head.ensures ∙ ap (λ (n : ℕ). line_of (head_words 0 n)) c.len.ensures)
+    (omega (arith, c.core-core.ensures.room, c.requires.ready.room))
     (subst (TookSome (peer_took g.T.Peer c.args.peer.now c.print_beside.new.peer)) c.from_ref.ensures.value c.in-Err.ensures.part)
     c.in-Err.ensures.cause.failed
 
@@ -40,7 +40,9 @@ returns-in-Err-clause-lives g c = λ start is.
     g.T.Peer.given g.T.Peer.has_ended g.T.Peer.read_faults c.args.peer.now c.print_beside.new.peer
     c.print_beside.ensures.beside.unread c.print_beside.ensures.beside.no_read
     g.T.Peer.taken g.T.Peer.was_put g.T.Peer.faults c.args.peer.now c.print_beside.new.peer c.head_line-head.result
-    (c.head_line-head.ensures ∙ ap (λ (n : ℕ). line_of (head_words 0 n)) c.len.ensures))
+    (c.head_line-head.ensures ∙ ap (λ (n : ℕ). line_of (head_words 0 n)) c.len.ensures)
+    (omega (arith, c.core-core.ensures.room, c.requires.ready.room)))
+    (omega (arith, c.core-core.ensures.room, c.requires.ready.room))
     (subst (λ (d : _). IsBeside g.D.Disk g.T.Peer d c.args.peer.now c.print_beside.new.peer (c.head_line-head.result ∷ [])) c.disk.ensures
     (subst (IsBeside g.D.Disk g.T.Peer c.disk.result.now c.args.peer.now c.print_beside.new.peer) c.from_ref.ensures.value
     c.print_beside.ensures.beside))
@@ -48,7 +50,6 @@ returns-in-Err-clause-lives g c = λ start is.
 pub loop-round-init : goal.loop-round-init
 loop-round-init g c = record {
   ready = c.requires.ready;
-  few = omega (arith, c.requires.first);
   handed = c.in_default.ensures.handed (inr (subst (λ (ls : _). 0 < length ls) (sym c.from_ref.ensures.value) (omega arith)));
   goes_on = λ cell_text opening behind. (
     [],
@@ -64,6 +65,7 @@ loop-round-init g c = record {
         c.print_beside.ensures.beside.unread c.print_beside.ensures.beside.no_read
         g.T.Peer.taken g.T.Peer.was_put g.T.Peer.faults c.args.peer.now c.print_beside.new.peer c.head_line-head.result
         (c.head_line-head.ensures ∙ ap (λ (n : ℕ). line_of (head_words 0 n)) c.len.ensures)
+        (omega (arith, c.core-core.ensures.room, c.requires.ready.room))
         (subst (TookAll (peer_took g.T.Peer c.args.peer.now c.print_beside.new.peer)) c.from_ref.ensures.value c.in_default.ensures.whole)
         c.in_default.ensures.cause.kept),
   );
@@ -74,7 +76,9 @@ loop-round-init g c = record {
       g.T.Peer.given g.T.Peer.has_ended g.T.Peer.read_faults c.args.peer.now c.print_beside.new.peer
       c.print_beside.ensures.beside.unread c.print_beside.ensures.beside.no_read
       g.T.Peer.taken g.T.Peer.was_put g.T.Peer.faults c.args.peer.now c.print_beside.new.peer c.head_line-head.result
-      (c.head_line-head.ensures ∙ ap (λ (n : ℕ). line_of (head_words 0 n)) c.len.ensures))
+      (c.head_line-head.ensures ∙ ap (λ (n : ℕ). line_of (head_words 0 n)) c.len.ensures)
+      (omega (arith, c.core-core.ensures.room, c.requires.ready.room)))
+      (omega (arith, c.core-core.ensures.room, c.requires.ready.room))
       (subst (λ (d : _). IsBeside g.D.Disk g.T.Peer d c.args.peer.now c.print_beside.new.peer (c.head_line-head.result ∷ [])) c.disk.ensures
       (subst (IsBeside g.D.Disk g.T.Peer c.disk.result.now c.args.peer.now c.print_beside.new.peer) c.from_ref.ensures.value
       c.print_beside.ensures.beside));
@@ -176,6 +180,7 @@ returns-in-Ok-eq0-clause-lives g c = λ start is.
     c.fill.new.peer
     (served_to g.D.Disk g.T.Peer start server c.round.new.self c.args.peer.now c.round.new.peer c.round.new.lines (so.0 ++ said.0) is conv
     clock)
+    (has_room g.D.Disk g.T.Peer start server c.round.new.self c.round.new.lines (so.0 ++ said.0) c.args.peer.now is conv)
     (subst (λ (d : _). IsRead g.D.Disk g.T.Peer d c.round.new.peer c.fill.new.peer) c.disk-then-is_spent.ensures c.fill.ensures.read))
 
 pub returns-in-Err-fill-clause-converses : goal.returns-in-Err-fill-clause-converses
@@ -236,24 +241,17 @@ returns-in-Err-fill-clause-lives g c = λ start is.
     c.fill.new.peer
     (served_to g.D.Disk g.T.Peer start server c.round.new.self c.args.peer.now c.round.new.peer c.round.new.lines (so.0 ++ said.0) is conv
     clock)
+    (has_room g.D.Disk g.T.Peer start server c.round.new.self c.round.new.lines (so.0 ++ said.0) c.args.peer.now is conv)
     c.finish_beside.new.peer (early_line NotRead ∷ []) (inr (inl refl))
     (subst (λ (d : _). IsRead g.D.Disk g.T.Peer d c.round.new.peer c.fill.new.peer) c.disk-then-is_spent.ensures c.fill.ensures.read)
     c.in-Err-fill.ensures.nothing.0
     (subst (λ (d : _). IsBeside g.D.Disk g.T.Peer d c.fill.new.peer c.finish_beside.new.peer (early_line NotRead ∷ [])) c.disk-in-Err-fill.ensures
     c.finish_beside.ensures.beside))
 
-pub loop-round-preserved : goal.loop-round-preserved
-loop-round-preserved g c = record {
+pub loop-round-preserved-in-Ok : goal.loop-round-preserved-in-Ok
+loop-round-preserved-in-Ok g c = record {
   ready = c.in_default-round.ensures.ready;
-  few = omega (arith, c.loop-round.invariant.few, c.in_default-round.ensures.few);
-  handed =
-      let handed = c.in_default-round.ensures.handed c.loop-round.invariant.handed in
-      elim c.if-is_spent.branch [
-        | then-is_spent+in-Ok w ↦
-            subst (λ (t : _). g.T.Peer.handed_on t ≡ g.T.Peer.taken t) (sym w.peer-is)
-            (w.fill.ensures.read.still ∙ handed ∙ sym w.fill.ensures.read.same)
-        | else-is_spent w ↦ subst (λ (t : _). g.T.Peer.handed_on t ≡ g.T.Peer.taken t) (sym w.peer-is) handed
-      ];
+  handed = c.fill.ensures.read.still ∙ c.in_default-round.ensures.handed c.loop-round.invariant.handed ∙ sym c.fill.ensures.read.same;
   goes_on = λ cell_text opening behind.
       let server = c.args.server.now in
       let cell = server.live.cell in
@@ -272,28 +270,14 @@ loop-round-preserved g c = record {
       c.round.new.peer c.round.new.self c.round.new.lines said.0 round c.in_default-round.ensures.still
       c.in_default-round.ensures.fed in (
         so.0 ++ said.0,
-        elim c.if-is_spent.branch [
-          | then-is_spent+in-Ok w ↦
-              subst (λ (ls : LinesState). IsConversing g.D.Disk.reads_as g.D.Disk.may_leave g.D.Disk.moment g.D.Disk.left_since g.D.Disk.faults (peer_gave g.T.Peer c.args.peer.now c.if-is_spent.peer) (peer_took g.T.Peer c.args.peer.now c.if-is_spent.peer) cell cell_text opening
-              server.live.disk c.round.new.self ls (so.0 ++ said.0))
-              (sym w.lines-is)
-              (subst (λ (t : _). IsConversing g.D.Disk.reads_as g.D.Disk.may_leave g.D.Disk.moment g.D.Disk.left_since g.D.Disk.faults (peer_gave g.T.Peer c.args.peer.now t) (peer_took g.T.Peer c.args.peer.now t) cell cell_text opening
-              server.live.disk c.round.new.self w.fill.new.self (so.0 ++ said.0)) (sym w.peer-is)
-              (piece_comes g.D.Disk.reads_as g.D.Disk.may_leave g.D.Disk.moment g.D.Disk.left_since g.D.Disk.faults cell cell_text opening
-              server.live.disk c.round.new.self c.round.new.lines w.fill.new.self (so.0 ++ said.0)
-              (peer_took g.T.Peer c.args.peer.now w.fill.new.peer) g.T.Peer.given g.T.Peer.has_ended g.T.Peer.read_faults
-              c.args.peer.now c.round.new.peer w.fill.new.peer
-              (sink_kept g.D.Disk.reads_as g.D.Disk.may_leave g.D.Disk.moment g.D.Disk.left_since g.D.Disk.faults cell cell_text opening server.live.disk c.round.new.self c.round.new.lines (so.0 ++ said.0)
-              (peer_gave g.T.Peer c.args.peer.now c.round.new.peer) g.T.Peer.taken g.T.Peer.was_put g.T.Peer.faults c.args.peer.now c.round.new.peer w.fill.new.peer conv
-              w.fill.ensures.read.of_put w.fill.ensures.read.same w.fill.ensures.read.no_put)
-              w.in-Ok.field-0 w.in-Ok.ensures.goes_on w.in-Ok.ensures.cause.kept))
-          | else-is_spent w ↦
-              subst (λ (ls : LinesState). IsConversing g.D.Disk.reads_as g.D.Disk.may_leave g.D.Disk.moment g.D.Disk.left_since g.D.Disk.faults (peer_gave g.T.Peer c.args.peer.now c.if-is_spent.peer) (peer_took g.T.Peer c.args.peer.now c.if-is_spent.peer) cell cell_text opening
-              server.live.disk c.round.new.self ls (so.0 ++ said.0))
-              (sym w.lines-is)
-              (subst (λ (t : _). IsConversing g.D.Disk.reads_as g.D.Disk.may_leave g.D.Disk.moment g.D.Disk.left_since g.D.Disk.faults (peer_gave g.T.Peer c.args.peer.now t) (peer_took g.T.Peer c.args.peer.now t) cell cell_text opening
-              server.live.disk c.round.new.self c.round.new.lines (so.0 ++ said.0)) (sym w.peer-is) conv)
-        ],
+        piece_comes g.D.Disk.reads_as g.D.Disk.may_leave g.D.Disk.moment g.D.Disk.left_since g.D.Disk.faults cell cell_text opening
+            server.live.disk c.round.new.self c.round.new.lines c.fill.new.self (so.0 ++ said.0)
+            (peer_took g.T.Peer c.args.peer.now c.fill.new.peer) g.T.Peer.given g.T.Peer.has_ended g.T.Peer.read_faults
+            c.args.peer.now c.round.new.peer c.fill.new.peer
+            (sink_kept g.D.Disk.reads_as g.D.Disk.may_leave g.D.Disk.moment g.D.Disk.left_since g.D.Disk.faults cell cell_text opening server.live.disk c.round.new.self c.round.new.lines (so.0 ++ said.0)
+            (peer_gave g.T.Peer c.args.peer.now c.round.new.peer) g.T.Peer.taken g.T.Peer.was_put g.T.Peer.faults c.args.peer.now c.round.new.peer c.fill.new.peer conv
+            c.fill.ensures.read.of_put c.fill.ensures.read.same c.fill.ensures.read.no_put)
+            c.in-Ok.field-0 c.in-Ok.ensures.goes_on c.in-Ok.ensures.cause.kept,
       );
   lives = λ start is.
       let server = c.args.server.now in
@@ -316,18 +300,42 @@ loop-round-preserved g c = record {
       c.args.peer.now c.loop-round.peer c.round.new.peer (c.loop-round.invariant.lives start is) so.1.left.tells
       (λ clock. c.round.ensures.lives start so.1.text so.0
       (served_to g.D.Disk g.T.Peer start server c.loop-round.server c.args.peer.now c.loop-round.peer c.loop-round.lines so.0 is so.1 clock)) in
-      elim c.if-is_spent.branch [
-        | then-is_spent+in-Ok w ↦
-            subst (λ (t : _). LivesTo g.D.Disk g.T.Peer start server.live.disk c.args.peer.now c.round.new.self.live.disk t) (sym w.peer-is)
-            (lives_then g.D.Disk g.T.Peer start server.live.disk c.round.new.self.live.disk c.round.new.self.live.disk
-            c.args.peer.now c.round.new.peer w.fill.new.peer lived conv.left.tells
-            (λ clock. read_lives g.D.Disk g.T.Peer start c.round.new.self c.round.new.lines conv.text (so.0 ++ said.0) c.round.new.peer
-            w.fill.new.peer
-            (served_to g.D.Disk g.T.Peer start server c.round.new.self c.args.peer.now c.round.new.peer c.round.new.lines (so.0 ++ said.0) is conv
-            clock)
-            (subst (λ (d : _). IsRead g.D.Disk g.T.Peer d c.round.new.peer w.fill.new.peer) w.disk-then-is_spent.ensures w.fill.ensures.read)))
-        | else-is_spent w ↦
-            subst (λ (t : _). LivesTo g.D.Disk g.T.Peer start server.live.disk c.args.peer.now c.round.new.self.live.disk t) (sym w.peer-is)
-            lived
-      ];
+      lives_then g.D.Disk g.T.Peer start server.live.disk c.round.new.self.live.disk c.round.new.self.live.disk
+      c.args.peer.now c.round.new.peer c.fill.new.peer lived conv.left.tells
+      (λ clock. read_lives g.D.Disk g.T.Peer start c.round.new.self c.round.new.lines conv.text (so.0 ++ said.0) c.round.new.peer
+      c.fill.new.peer
+      (served_to g.D.Disk g.T.Peer start server c.round.new.self c.args.peer.now c.round.new.peer c.round.new.lines (so.0 ++ said.0) is conv
+      clock)
+      (has_room g.D.Disk g.T.Peer start server c.round.new.self c.round.new.lines (so.0 ++ said.0) c.args.peer.now is conv)
+      (subst (λ (d : _). IsRead g.D.Disk g.T.Peer d c.round.new.peer c.fill.new.peer) c.disk-then-is_spent.ensures c.fill.ensures.read));
+}
+
+pub loop-round-preserved : goal.loop-round-preserved
+loop-round-preserved g c = record {
+  ready = c.in_default-round.ensures.ready;
+  handed = c.in_default-round.ensures.handed c.loop-round.invariant.handed;
+  goes_on = λ cell_text opening behind.
+      let server = c.args.server.now in
+      let cell = server.live.cell in
+      let so = c.loop-round.invariant.goes_on cell_text opening behind in
+      let front = opening ++ since cell opening (map (ask_of cell) so.0) in
+      let said = c.in_default-round.ensures.round cell_text front so.1.text so.0 so.1.stands_after so.1.reads in
+      let round = subst (λ (x : Cell). IsRound g.D.Disk.reads_as g.D.Disk.may_leave g.D.Disk.moment g.D.Disk.left_since g.D.Disk.faults x
+      (peer_took g.T.Peer c.loop-round.peer c.round.new.peer) cell_text front so.1.text so.0
+      c.loop-round.server c.round.new.self c.round.new.lines said.0) so.1.cell_is said.1 in
+      let conv = round_goes g.D.Disk.reads_as g.D.Disk.may_leave g.D.Disk.moment g.D.Disk.left_since g.D.Disk.faults cell cell_text opening
+      server.live.disk c.loop-round.server c.loop-round.lines so.0 (peer_gave g.T.Peer c.args.peer.now c.round.new.peer)
+      g.T.Peer.taken g.T.Peer.was_put g.T.Peer.faults c.args.peer.now c.loop-round.peer
+      (input_kept g.D.Disk.reads_as g.D.Disk.may_leave g.D.Disk.moment g.D.Disk.left_since g.D.Disk.faults cell cell_text opening server.live.disk c.loop-round.server c.loop-round.lines so.0
+      (peer_took g.T.Peer c.args.peer.now c.loop-round.peer) g.T.Peer.given g.T.Peer.has_ended g.T.Peer.read_faults
+      c.args.peer.now c.loop-round.peer c.round.new.peer so.1 c.round.ensures.unread c.round.ensures.no_read)
+      c.round.new.peer c.round.new.self c.round.new.lines said.0 round c.in_default-round.ensures.still
+      c.in_default-round.ensures.fed in (so.0 ++ said.0, conv);
+  lives = λ start is.
+      let server = c.args.server.now in
+      let so = c.loop-round.invariant.goes_on start.text start.opening is.stands_after in
+      lives_then g.D.Disk g.T.Peer start server.live.disk c.loop-round.server.live.disk c.round.new.self.live.disk
+      c.args.peer.now c.loop-round.peer c.round.new.peer (c.loop-round.invariant.lives start is) so.1.left.tells
+      (λ clock. c.round.ensures.lives start so.1.text so.0
+      (served_to g.D.Disk g.T.Peer start server c.loop-round.server c.args.peer.now c.loop-round.peer c.loop-round.lines so.0 is so.1 clock));
 }

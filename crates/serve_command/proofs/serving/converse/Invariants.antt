@@ -1,6 +1,5 @@
 -- The conversation goes on.
-use Rattle.std.specs.Prelude.{⊤}
-use Rattle.std.proofs.Common.{◌≡◌, ◌≤◌, ◌*◌, ℕ, List}
+use Rattle.std.proofs.Common.{◌≡◌, ℕ, List}
 use Rattle.cell_base.specs.declared.shifts.Grant.{Grant}
 use Rattle.peers.specs.Meanings.{peer_gave, peer_took}
 use Rattle.serve_command.specs.Conversing.{IsConversing}
@@ -11,7 +10,6 @@ use Rattle.serve_command.proofs.serving.converse.Given as goal
 abbrev pub invariant-loop-round : goal.invariant-loop-round
 invariant-loop-round g l = record {
   ready : HasNoGroup l.server;
-  few : l.server.asked ≤ 512 * l._round;
   handed : g.T.Peer.handed_on l.peer ≡ g.T.Peer.taken l.peer;
   goes_on : (cell_text : List ℕ) (opening : List Grant)
       → StandsAfter g.D.Disk.reads_as g.D.Disk.may_leave cell_text opening l.fn.server
@@ -20,7 +18,3 @@ invariant-loop-round g l = record {
       l.fn.server.live.cell cell_text opening l.fn.server.live.disk l.server l.lines given;
   lives : LivesFrom g.D.Disk g.T.Peer l.fn.server l.fn.peer l.server.live.disk l.peer;
 }
-
--- nothing is known of rounds that no conversation has
-abbrev pub invariant-loop : goal.invariant-loop
-invariant-loop g l = ⊤

@@ -7,7 +7,7 @@ use Rattle.cell_walks.specs.declared.status.Status.TheVariants.{Done, SinkFault}
 use Rattle.serve_command.specs.Conversing.{IsServedAfter}
 use Rattle.serve_command.specs.Lives.{LivesTo}
 use Rattle.serve_command.proofs.Conversing.{ends_cut, ends_whole, input_kept}
-use Rattle.serve_command.proofs.LoopLives.{last_lives, left_lines_are, lives_then, served_to}
+use Rattle.serve_command.proofs.LoopLives.{has_room, last_lives, left_lines_are, lives_then, served_to}
 use Rattle.serve_command.proofs.serving.serve_live.Goals as goal
 
 pub returns-in-Ok-print_left_beside-clause-serves : goal.returns-in-Ok-print_left_beside-clause-serves
@@ -25,8 +25,8 @@ returns-in-Ok-print_left_beside-clause-serves g c = λ cell_text opening behind.
     (sym c.finish-core.ensures.disk)
     (ends_whole g.D.Disk.reads_as g.D.Disk.may_leave g.D.Disk.moment g.D.Disk.left_since g.D.Disk.faults input g.T.Peer.taken g.T.Peer.was_put g.T.Peer.faults c.args.peer.now c.converse.new.peer c.print_left_beside.new.peer server.live.cell cell_text opening
     server.live.disk
-    c.converse.new.server so.0 so.1 kept so.3 (c.print_left_beside.ensures.beside.ended so.4) c.core-core.ensures.fits
-    c.core-core.ensures.admitted c.finish-core.result.core
+    c.converse.new.server so.0 so.1 kept so.3 (c.print_left_beside.ensures.beside.ended so.4) c.live_law.ensures.fits
+    c.live_law.ensures.admitted c.finish-core.result.core
     c.finish-core.ensures.core c.in-Ok-print_left_beside.ensures.whole c.in-Ok-print_left_beside.ensures.cause.kept)
 
 pub returns-in-Ok-print_left_beside-clause-lives : goal.returns-in-Ok-print_left_beside-clause-lives
@@ -39,6 +39,7 @@ returns-in-Ok-print_left_beside-clause-lives g c = λ start is.
     c.args.peer.now c.converse.new.peer c.print_left_beside.new.peer (c.in-Ok.ensures.lives start is) so.2.left.tells
     (λ clock. last_lives g.D.Disk g.T.Peer start c.converse.new.server so.0 so.2.text so.1 c.converse.new.peer c.print_left_beside.new.peer
     (served_to g.D.Disk g.T.Peer start server c.converse.new.server c.args.peer.now c.converse.new.peer so.0 so.1 is so.2 clock)
+    (has_room g.D.Disk g.T.Peer start server c.converse.new.server so.0 so.1 c.args.peer.now is so.2)
     (left_in_core c.finish-core.result.core)
     (inr (inr (left_lines_are start server c.converse.new.server so.1 is.cell_is so.2.cell_is so.2.stands_after.at.parts
     c.finish-core.result.core c.finish-core.ensures.core)))
@@ -60,8 +61,8 @@ returns-in-Ok-clause-serves g c = λ cell_text opening behind.
     (sym c.finish-core.ensures.disk)
     (ends_cut g.D.Disk.reads_as g.D.Disk.may_leave g.D.Disk.moment g.D.Disk.left_since g.D.Disk.faults input g.T.Peer.taken g.T.Peer.was_put g.T.Peer.faults c.args.peer.now c.converse.new.peer c.print_left_beside.new.peer server.live.cell cell_text opening
     server.live.disk
-    c.converse.new.server so.0 so.1 kept so.3 (c.print_left_beside.ensures.beside.ended so.4) c.core-core.ensures.fits
-    c.core-core.ensures.admitted c.finish-core.result.core
+    c.converse.new.server so.0 so.1 kept so.3 (c.print_left_beside.ensures.beside.ended so.4) c.live_law.ensures.fits
+    c.live_law.ensures.admitted c.finish-core.result.core
     c.finish-core.ensures.core c.in-Err-print_left_beside.ensures.part c.in-Err-print_left_beside.ensures.cause.failed)
 
 pub returns-in-Ok-clause-lives : goal.returns-in-Ok-clause-lives
@@ -74,6 +75,7 @@ returns-in-Ok-clause-lives g c = λ start is.
     c.args.peer.now c.converse.new.peer c.print_left_beside.new.peer (c.in-Ok.ensures.lives start is) so.2.left.tells
     (λ clock. last_lives g.D.Disk g.T.Peer start c.converse.new.server so.0 so.2.text so.1 c.converse.new.peer c.print_left_beside.new.peer
     (served_to g.D.Disk g.T.Peer start server c.converse.new.server c.args.peer.now c.converse.new.peer so.0 so.1 is so.2 clock)
+    (has_room g.D.Disk g.T.Peer start server c.converse.new.server so.0 so.1 c.args.peer.now is so.2)
     (left_in_core c.finish-core.result.core)
     (inr (inr (left_lines_are start server c.converse.new.server so.1 is.cell_is so.2.cell_is so.2.stands_after.at.parts
     c.finish-core.result.core c.finish-core.ensures.core)))

@@ -34,5 +34,5 @@ returns-in-Ok-clause-fits g c =
     (frames_in c.args.bytes.now)
     (record { core = c.finish-disk.result.core; acks = c.take_frames-stop.new.acks; stop = c.take_frames-stop.result })
     (ap (λ (f : FollowerState _). f.durable) c.in-Ok.ensures.open) c.in-Ok.ensures.none_added c.take_frames-stop.ensures
-    c.into_durable.ensures.durable c.finish-disk.ensures.core c.into_durable.ensures.state c.cell-admitted.ensures.fits
-    c.cell-admitted.ensures.admitted
+    c.into_durable.ensures.durable c.finish-disk.ensures.core c.into_durable.ensures.state c.core_law.ensures.fits
+    c.core_law.ensures.admitted

@@ -66,5 +66,5 @@ returns-in-None-clause-none c = λ same.
       spent,
       λ text given reads. reads_none text given old c.keep-in-None-2.new.self reads none spent
           (ap (λ (s : LinesState). s.begun) c.keep-in-None-2.ensures
-          ∙ ap (λ (l : List ℕ). take 65 (old.begun ++ l)) (take_all (n.end - n.at) old.ahead few)),
+          ∙ ap (λ (l : List ℕ). take 67 (old.begun ++ l)) (take_all (n.end - n.at) old.ahead few)),
     )

@@ -9,7 +9,6 @@ use Rattle.live_cell.specs.LiveState.{LiveState}
 use Rattle.policy_laws.specs.Laws.{RefusalLaw}
 use Rattle.record_text.specs.Fitting.{EntryFits}
 use Rattle.record_text.specs.Lines.{line_of}
-use Rattle.record_text.proofs.Requesting.{step_fits}
 use Rattle.serve_command.specs.Answers.{entry_of, step_words}
 use Rattle.serve_command.proofs.Answering.{answered_fits, granted_answered, granted_goes, refused_answered, refused_goes}
 use Rattle.serve_command.proofs.server.Server.answer_step.Goals as goal
@@ -21,7 +20,7 @@ told_line-line-requires g c =
     ∙ ap (λ (l : LiveState _). l.cell) c.in-Ok.ensures.state in
     subst (λ (cell : Cell). EntryFits cell (entry_of c.args.session c.args.request.now (Answered c.in-Ok.reply))) (sym cell_is)
     (answered_fits old.cell c.core-core.ensures.fits old.parts c.core-core.ensures.admitted c.args.session c.args.request.now
-    (step_fits old.cell c.args.request.now c.requires.fits) c.in-Ok.reply c.in-Ok.ensures.reply)
+    c.requires.fits c.in-Ok.reply c.in-Ok.ensures.reply)
 
 pub returns-in-Granted-clause-answered : goal.returns-in-Granted-clause-answered
 returns-in-Granted-clause-answered g c = λ grants at.
@@ -33,7 +32,7 @@ returns-in-Granted-clause-answered g c = λ grants at.
     let reply_is = c.in-Ok.ensures.reply ∙ ap (λ (parts : List Part). reply_to old.live.cell parts request) at.parts in
     let granted = c.in-Granted.is in
     granted_answered old _ session request c.ask.new.self c.in-Ok.reply c.told_line-line.result c.in-Ok.ensures.state c.in-Ok.ensures.reply
-    c.requires.spare granted c.count_grant.new.self c.count_grant.ensures.counted c.keep.ensures grants at
+    c.requires.spare granted c.count_grant.new.self c.count_grant.ensures.counted c.keep.ensures c.requires.fits grants at
     (omega (arith, at.number, c.in-Ok.ensures.had_room granted, c.requires.room))
     (c.told_line-line.ensures ∙ (λ i. line_of (step_words (cell_is i) session request (Answered (reply_is i)))))
 

@@ -1,5 +1,5 @@
 -- The group is decided, written and answered, or the conversation stops.
-use Rattle.std.proofs.Common.{ap, inl, map, refl, subst, sym, ◌∙◌, ◌∷◌, []}
+use Rattle.std.proofs.Common.{ap, arith, inl, map, refl, subst, sym, ◌∙◌, ◌∷◌, []}
 use Rattle.outside_io.specs.Causes.{Rose}
 use Rattle.outside_io.specs.Puts.{TookAll, TookSome}
 use Rattle.live_cell.specs.LiveState.{LiveState}
@@ -28,6 +28,7 @@ returns-in-Err-clause-round g c = λ cell_text grants text given behind reads.
     behind.disk in
     halts g.D.Disk.reads_as g.D.Disk.may_leave g.D.Disk.moment g.D.Disk.left_since g.D.Disk.faults sink cell_text grants text given old
     mid _ c.take_group-full.new.lines stays c.take_group-full.result taken
+    (omega (arith, c.live_law.ensures.room, stays.room, c.requires.ready.room)) c.take_group-full.ensures.few
     c.commit.ensures.tells (c.commit.ensures.any_moment cell_text grants shows) (c.commit.ensures.kept cell_text grants shows)
     (subst (λ (d : _). Rose (g.D.Disk.faults d) (g.D.Disk.faults c.commit.new.self.disk)) stays.disk c.in-Err.ensures.device)
     c.put_halted.result c.commit.ensures.untouched (stays.runs ∙ c.requires.ready.runs)
@@ -44,6 +45,7 @@ returns-in-Err-print_beside-clause-round g c = λ cell_text grants text given be
     behind.disk in
     cut_off g.D.Disk.reads_as g.D.Disk.may_leave g.D.Disk.moment g.D.Disk.left_since g.D.Disk.faults sink cell_text grants text given old
     mid _ c.take_group-full.new.lines stays c.take_group-full.result taken
+    (omega (arith, c.live_law.ensures.room, stays.room, c.requires.ready.room)) c.take_group-full.ensures.few
     c.commit.ensures.tells (c.commit.ensures.any_moment cell_text grants shows) c.in_default.ensures.ok refl refl
     (c.in_default.ensures.stored cell_text grants shows)
     (subst (TookSome sink) c.as_slice.ensures c.in-Err-print_beside.ensures.part) c.in-Err-print_beside.ensures.cause.failed
@@ -60,6 +62,7 @@ returns-then-full-clause-round g c = λ cell_text grants text given behind reads
     let replies = c.as_slice.ensures ∙ taken.1.replies in
     fills g.D.Disk.reads_as g.D.Disk.may_leave g.D.Disk.moment g.D.Disk.left_since g.D.Disk.faults sink cell_text grants text given old
     mid _ c.take_group-full.new.lines stays c.take_group-full.result taken
+    (omega (arith, c.live_law.ensures.room, stays.room, c.requires.ready.room)) c.take_group-full.ensures.few
     c.commit.ensures.tells (c.commit.ensures.any_moment cell_text grants shows) c.in_default.ensures.ok refl refl
     (c.in_default.ensures.stored cell_text grants shows)
     c.if-full.true c.put_full.result
@@ -80,6 +83,7 @@ returns-clause-round g c = λ cell_text grants text given behind reads.
       taken.0,
       goes_on g.D.Disk.reads_as g.D.Disk.may_leave g.D.Disk.moment g.D.Disk.left_since g.D.Disk.faults sink cell_text grants text given
           old mid _ c.take_group-full.new.lines stays c.take_group-full.result taken
+          (omega (arith, c.live_law.ensures.room, stays.room, c.requires.ready.room)) c.take_group-full.ensures.few
           c.commit.ensures.tells (c.commit.ensures.any_moment cell_text grants shows) c.in_default.ensures.ok refl refl
           (c.in_default.ensures.stored cell_text grants shows) c.if-full.false
           (subst (TookAll sink) c.as_slice.ensures c.in_default-print_beside.ensures.whole),
@@ -95,7 +99,8 @@ returns-in-Err-clause-lives g c = λ start text given served.
     let shows = subst (λ (d : _). Shows g.D.Disk.reads_as g.D.Disk.may_leave d (λ file. StandsFor file start.text grants)) (sym stays.disk)
     served.stands_after.disk in
     halted_at g.D.Disk g.T.Peer start text given old mid c.args.lines.now c.take_group-full.new.lines c.args.peer.now served stays
-    c.take_group-full.result taken c.take_group-full.ensures.few c.commit.new.self.disk c.commit.ensures.tells
+    c.take_group-full.result taken c.take_group-full.ensures.few
+    (omega (arith, c.live_law.ensures.room, stays.room, c.requires.ready.room)) c.commit.new.self.disk c.commit.ensures.tells
     (c.commit.ensures.any_moment start.text grants shows)
     (c.commit.ensures.kept start.text grants shows) c.put_halted.new.peer c.commit.ensures.untouched
     (stays.runs ∙ c.requires.ready.runs) (ap (λ (l : LiveState _). l.is_halted) c.in-Err.ensures.halts) mid.first refl
@@ -111,7 +116,8 @@ returns-in-Err-print_beside-clause-lives g c = λ start text given served.
     let shows = subst (λ (d : _). Shows g.D.Disk.reads_as g.D.Disk.may_leave d (λ file. StandsFor file start.text grants)) (sym stays.disk)
     served.stands_after.disk in
     answered_lives g.D.Disk g.T.Peer start text given old mid c.args.lines.now c.take_group-full.new.lines c.args.peer.now served stays
-    c.take_group-full.result taken c.take_group-full.ensures.few c.commit.new.self.disk c.commit.ensures.tells
+    c.take_group-full.result taken c.take_group-full.ensures.few
+    (omega (arith, c.live_law.ensures.room, stays.room, c.requires.ready.room)) c.commit.new.self.disk c.commit.ensures.tells
     (c.commit.ensures.any_moment start.text grants shows)
     (c.in_default.ensures.stored start.text grants shows) c.print_beside.new.peer
     (subst (λ (d : _). IsBeside g.D.Disk g.T.Peer d c.args.peer.now c.print_beside.new.peer mid.replies) c.disk.ensures
@@ -128,7 +134,8 @@ returns-then-full-clause-lives g c = λ start text given served.
     let shows = subst (λ (d : _). Shows g.D.Disk.reads_as g.D.Disk.may_leave d (λ file. StandsFor file start.text grants)) (sym stays.disk)
     served.stands_after.disk in
     filled_lives g.D.Disk g.T.Peer start text given old mid c.args.lines.now c.take_group-full.new.lines c.args.peer.now served stays
-    c.take_group-full.result taken c.take_group-full.ensures.few c.commit.new.self.disk c.commit.ensures.tells
+    c.take_group-full.result taken c.take_group-full.ensures.few
+    (omega (arith, c.live_law.ensures.room, stays.room, c.requires.ready.room)) c.commit.new.self.disk c.commit.ensures.tells
     (c.commit.ensures.any_moment start.text grants shows)
     (c.in_default.ensures.stored start.text grants shows) c.print_beside.new.peer
     (subst (λ (d : _). IsBeside g.D.Disk g.T.Peer d c.args.peer.now c.print_beside.new.peer mid.replies) c.disk.ensures
@@ -150,7 +157,8 @@ returns-clause-lives g c = λ start text given served.
     let shows = subst (λ (d : _). Shows g.D.Disk.reads_as g.D.Disk.may_leave d (λ file. StandsFor file start.text grants)) (sym stays.disk)
     served.stands_after.disk in
     answered_lives g.D.Disk g.T.Peer start text given old mid c.args.lines.now c.take_group-full.new.lines c.args.peer.now served stays
-    c.take_group-full.result taken c.take_group-full.ensures.few c.commit.new.self.disk c.commit.ensures.tells
+    c.take_group-full.result taken c.take_group-full.ensures.few
+    (omega (arith, c.live_law.ensures.room, stays.room, c.requires.ready.room)) c.commit.new.self.disk c.commit.ensures.tells
     (c.commit.ensures.any_moment start.text grants shows)
     (c.in_default.ensures.stored start.text grants shows) c.print_beside.new.peer
     (subst (λ (d : _). IsBeside g.D.Disk g.T.Peer d c.args.peer.now c.print_beside.new.peer mid.replies) c.disk.ensures

@@ -14,7 +14,6 @@ loop-i-init g c = record {
   stays = stays_same c.args.self.now;
   replies = ap (λ (rs : List (List ℕ)). length rs) c.requires.ready.replies;
   pending = omega (arith, ap (λ (gs : List _). length gs) c.requires.ready.pending);
-  asked = omega arith;
 }
 
 pub returns-then-not-next_line-clause-taken : goal.returns-then-not-next_line-clause-taken
@@ -43,9 +42,6 @@ answer-requires-clause-spare g c = omega (
 
 pub answer-requires-clause-short : goal.answer-requires-clause-short
 answer-requires-clause-short g c = omega (arith, c.loop-i-test.true, c.loop-i.invariant.replies)
-
-pub answer-requires-clause-few : goal.answer-requires-clause-few
-answer-requires-clause-few g c = omega (arith, c.loop-i-test.true, c.loop-i.invariant.asked, c.requires.few)
 
 pub returns-in-Err-clause-taken : goal.returns-in-Err-clause-taken
 returns-in-Err-clause-taken g c = λ grants text given at reads.
@@ -77,7 +73,6 @@ loop-i-preserved g c = record {
   stays = stays_more c.args.self.now _ c.answer.new.self c.loop-i.invariant.stays c.in_default.ensures.goes_on;
   replies = omega (arith, c.loop-i.invariant.replies, c.in_default.ensures.goes_on.replies);
   pending = omega (arith, c.loop-i.invariant.pending, c.in_default.ensures.goes_on.few);
-  asked = omega (arith, c.loop-i.invariant.asked, c.in_default.ensures.goes_on.asked);
 }
 
 pub returns-clause-taken : goal.returns-clause-taken
@@ -87,8 +82,8 @@ pub returns-clause-stays : goal.returns-clause-stays
 returns-clause-stays g c = c.loop-i.invariant.stays
 
 pub returns-then-not-next_line-clause-few : goal.returns-then-not-next_line-clause-few
-returns-then-not-next_line-clause-few g c = omega (arith, c.loop-i.invariant.asked, c.loop-i-test.true)
+returns-then-not-next_line-clause-few g c = omega (arith, c.loop-i.invariant.replies, c.loop-i-test.true)
 
 pub returns-in-Err-clause-few : goal.returns-in-Err-clause-few
 returns-in-Err-clause-few g c =
-    omega (arith, c.loop-i.invariant.asked, c.loop-i-test.true, ap (λ (s : Server _). s.asked) c.in-Err.ensures.same)
+    omega (arith, c.loop-i.invariant.replies, c.loop-i-test.true, ap (λ (s : Server _). length s.replies) c.in-Err.ensures.same)

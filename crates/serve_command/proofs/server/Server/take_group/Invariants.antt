@@ -1,5 +1,5 @@
 -- So many lines were answered.
-use Rattle.std.proofs.Common.{◌≡◌, ◌≤◌, ◌+◌, ℕ, List, ◌++◌, length, map}
+use Rattle.std.proofs.Common.{◌≡◌, ◌≤◌, ℕ, List, ◌++◌, length, map}
 use Rattle.cell_base.specs.declared.shifts.Grant.{Grant}
 use Rattle.input_lines.specs.Reading.{AreLinesSoFar}
 use Rattle.serve_command.specs.Asks.{ask_of}
@@ -16,5 +16,4 @@ invariant-loop-i g l = record {
   stays : Stays l.initial.self l.self;
   replies : length l.self.replies ≡ l._i;
   pending : length l.self.live.pending ≤ l._i;
-  asked : l.self.asked ≡ l.initial.self.asked + l._i;
 }

@@ -1,0 +1,50 @@
+//! Where a fault lies.
+
+/// Where a fault lies in what the line of a refusal is about.
+#[derive(Clone, Copy, Debug, PartialEq, Eq)]
+pub enum Place {
+    /// It is the word of the command line itself.
+    Word,
+    /// The whole file.
+    File,
+    /// Where a file stops being a TOML document.
+    NotToml,
+    /// A section of a TOML document with a key too many, or a key that is missing.
+    Key,
+    /// A value of a TOML document.
+    Value,
+    /// An array of a TOML document with too many elements.
+    Elements,
+    /// A line of a file.
+    Line,
+    /// The first bytes of a journal.
+    Mark,
+    /// A byte of a journal's cell text.
+    CellText,
+    /// A gate of a journal.
+    Gate,
+    /// The length of a file.
+    Length,
+    /// What is counted by this word.
+    Numbered(&'static str),
+}
+
+impl Place {
+    /// The place that a row of the table of texts names.
+    pub fn named(word: &'static str) -> Place {
+        match word {
+            "word" => Place::Word,
+            "file" => Place::File,
+            "toml" => Place::NotToml,
+            "key" => Place::Key,
+            "value" => Place::Value,
+            "elements" => Place::Elements,
+            "line" => Place::Line,
+            "mark" => Place::Mark,
+            "place" => Place::CellText,
+            "gate" => Place::Gate,
+            "length" => Place::Length,
+            _ => Place::Numbered(word),
+        }
+    }
+}

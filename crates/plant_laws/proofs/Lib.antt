@@ -1,0 +1,16 @@
+pub mod Lists
+pub mod Gathering
+pub mod Jobs
+pub mod Splits
+pub mod Standing
+pub mod Working
+pub mod Granting
+pub mod Entering
+pub mod Keeping
+pub mod Reaching
+pub mod Tidying
+pub mod Entry
+pub mod Emptying
+pub mod Living
+pub mod SmallPlant
+pub mod Standstills
