@@ -7,10 +7,10 @@ use cell_walks::Status;
 use outside_io::{MemDisk, MemFiles};
 use peers::MemPeer;
 use serve_command::run_serve;
-use test_fixtures::CROSSING;
 use std::alloc::Global;
 use std::sync::Wait;
 use std::test::Fail;
+use test_fixtures::CROSSING;
 
 // Four groups, each of as many bytes as one read gives.
 const ASKED: &str = "1 load 7 A

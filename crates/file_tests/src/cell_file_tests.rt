@@ -1,8 +1,8 @@
 //! Cell files as they are read and printed.
 use cell_file::{CellFault, print_cell, read_cell};
-use test_fixtures::CROSSING;
 use std::alloc::Global;
 use std::test::Fail;
+use test_fixtures::CROSSING;
 
 const CELL_Y: &str = "version = 2
 [[resource]]

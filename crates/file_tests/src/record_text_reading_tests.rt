@@ -1,9 +1,9 @@
 //! Texts that are read, and the bad lines of others.
 use cell_base::{Cell, JobType, List, Name, NoMemory, ResId, Step, cell_fits};
 use record_text::{RecordFault, read_record};
-use test_fixtures::add_machine;
 use std::alloc::Global;
 use std::test::Fail;
+use test_fixtures::add_machine;
 
 /// Adds a type with one place, on a resource.
 fn add_type(

@@ -6,9 +6,9 @@ use cell_base::{
     Cell, Entry, JobId, List, NoMemory, Refusal, Reply, Request, ResId, Told, TypeId, request_fits,
 };
 use record_text::{Line, head_line, left_line, line_of, plan_line, step_line};
-use test_fixtures::{add_machine, add_type};
 use std::alloc::Global;
 use std::test::Fail;
+use test_fixtures::{add_machine, add_type};
 
 /// Names of as many bytes as a name may have.
 const LONG_RESOURCE: &[u8] = b"a-machine-of-thirty-two-bytes__1";

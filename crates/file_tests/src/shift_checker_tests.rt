@@ -2,9 +2,9 @@
 use cell_base::{NoMemory, ResId, cell_fits};
 use record_text::{RecordFault, read_record};
 use shift_checker::{Verdict, Why, check, check_text};
-use test_fixtures::crossing;
 use std::alloc::Global;
 use std::test::Fail;
+use test_fixtures::crossing;
 
 /// The verdict on a text; nothing where it is no record.
 fn verdict_on(alloc: Global, text: &[u8]) -> Result<Option<Verdict>, NoMemory> {

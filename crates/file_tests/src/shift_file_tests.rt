@@ -3,9 +3,9 @@ use cell_base::{
     Cell, JobId, JobType, List, Name, NoMemory, Request, ResId, Shift, Step, TypeId, cell_fits,
 };
 use shift_file::{StepFault, read_shift, read_step};
-use test_fixtures::{add_machine, add_type};
 use std::alloc::{AllocError, Global};
 use std::test::Fail;
+use test_fixtures::{add_machine, add_type};
 
 // A type whose route has these resources, and these places that may follow each place.
 fn job_type(alloc: Global, name: Name, on: &[u16], next: &[&[u16]]) -> Result<JobType, NoMemory> {

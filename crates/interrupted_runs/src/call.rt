@@ -4,10 +4,10 @@ use anyhow::{Context, Result, bail};
 use cell_base::List;
 use cell_program::{Ended, cell_main};
 use outside_io::{DiskCall, FreePace, MemDisk, MemFiles, MemSink, Pace};
-use test_fixtures::CROSSING;
 use std::alloc::Global;
 use std::sync::Wait;
 use std::thread::Threads;
+use test_fixtures::CROSSING;
 
 /// How a command ended: its status, what it printed, and the disk after it.
 #[derive(Drop)]

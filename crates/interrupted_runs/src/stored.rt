@@ -4,8 +4,8 @@ use anyhow::{Result, bail};
 use cell_base::{Grant, List};
 use outside_io::Disk;
 use shift_recovery::{Opened, recover};
-use test_fixtures::CROSSING;
 use std::alloc::Global;
+use test_fixtures::CROSSING;
 
 // More grants than any shift here has.
 const ROOM: u64 = 100;

@@ -9,9 +9,9 @@ use cell_file::read_cell;
 use cell_lock::{Pass, SharedCell};
 use durable_cell::{AskFault, Durable, Opening};
 use outside_io::Disk;
-use test_fixtures::CROSSING;
 use std::alloc::Global;
 use std::sync::Wait;
+use test_fixtures::CROSSING;
 
 /// Opens a lock of one pass on a disk, looks at the plan's step, asks this request, and closes the lock. The step is to be this one, and
 /// the request is to be granted and to be the one entry of the history.

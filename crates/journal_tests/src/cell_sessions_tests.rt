@@ -6,9 +6,9 @@ use cell_base::{
 };
 use cell_sessions::{BeginFault, Progress, ShiftGrants, begin, solo};
 use shift_recovery::Taker;
-use test_fixtures::cell_of_one;
 use std::alloc::Global;
 use std::test::Fail;
+use test_fixtures::cell_of_one;
 
 fn list_of<T: Drop>(alloc: Global, value: T) -> Result<List<T>, NoMemory> {
     let mut list = List::new(alloc);

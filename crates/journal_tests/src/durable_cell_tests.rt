@@ -4,9 +4,9 @@ use cell_base::{
 };
 use durable_cell::{AskFault, Durable, Opening};
 use outside_io::{CallKind, Disk, DiskCall, MemDisk};
-use test_fixtures::cell_of_one;
 use std::alloc::Global;
 use std::test::Fail;
+use test_fixtures::cell_of_one;
 
 type Answer = Result<Reply, AskFault>;
 

@@ -7,9 +7,9 @@ use cell_base::{
 use live_cell::{JournalFull, LiveCell, LiveParts, OpenedLive};
 use outside_io::{CallKind, Disk, DiskCall, MemDisk};
 use shift_recovery::{OpenError, OpenFault};
-use test_fixtures::cell_of_one;
 use std::alloc::Global;
 use std::test::Fail;
+use test_fixtures::cell_of_one;
 
 type Answer = Result<Reply, JournalFull>;
 

@@ -4,10 +4,10 @@ ghost use Rattle.std.specs.Prelude.{◌≡◌, [], IfOk};
 use cell_base::{Grant, JobId, List, Refusal, Request, ResId, TypeId, cell_fits};
 use durable_cell::{Durable, Opening};
 use outside_io::MemDisk;
-use test_fixtures::cell_of_one;
 use standby_link::{Feeder, Follower, Frame, TakeFault, TooFar};
 use std::alloc::Global;
 use std::test::Fail;
+use test_fixtures::cell_of_one;
 
 const LOAD: Grant = Grant {
     shift: 1,

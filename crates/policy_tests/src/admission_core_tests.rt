@@ -1,9 +1,9 @@
 //! That memory is had, and that each call answers, on a cell of one machine.
 use admission_core::Core;
 use cell_base::{JobId, Part, Refusal, Reply, Request, ResId, TypeId, cell_fits, request_fits};
-use test_fixtures::cell_of_one;
 use std::process::Abort;
 use std::test::Fail;
+use test_fixtures::cell_of_one;
 
 /// What other threads may have.
 fn may_be_shared<T: Send + Sync>(value: T) -> T {

@@ -1,8 +1,8 @@
 //! Two parts on a cell of two machines: in each other's way, and one after the other.
 use banker_check::{Hybrid, HybridReply};
 use cell_base::{JobId, Request, ResId, TypeId, cell_fits, request_fits};
-use test_fixtures::crossing;
 use std::test::Fail;
+use test_fixtures::crossing;
 
 fn load(job: u32, kind: u16) -> Request {
     Request::Load {

@@ -2,9 +2,9 @@
 use admission_core::Core;
 use cell_base::{JobId, Reply, Request, ResId, TypeId, cell_fits, request_fits};
 use drain_planner::{Drainer, plan};
-use test_fixtures::cell_of_one;
 use std::alloc::Global;
 use std::test::Fail;
+use test_fixtures::cell_of_one;
 
 /// A machine of one unit, on which a part of one type has come to its only stage.
 fn loaded_core(alloc: Global) -> Result<Core, Fail> {

@@ -1,9 +1,9 @@
 //! That memory is had, and the advice for small cells.
 use cell_base::{Cell, List, NoMemory, cell_fits};
 use order_advisor::{AdviceFault, advise, arrange};
-use test_fixtures::{add_machine, add_type};
 use std::alloc::Global;
 use std::test::Fail;
+use test_fixtures::{add_machine, add_type};
 
 /// Machines of one unit with these orders, and one type that goes through all of them in turn.
 fn in_a_row(alloc: Global, orders: &[u32]) -> Result<Cell, NoMemory> {

@@ -4,10 +4,10 @@ ghost use Rattle.std.specs.Prelude.{◌≡◌, false};
 use cell_base::{JobId, NoMemory, Part, ResId, TypeId, cell_fits};
 use part_table::{Found, Parts};
 use route_table::StageTable;
-use test_fixtures::cell_of_one;
 use std::alloc::Global;
 use std::process::Abort;
 use std::test::Fail;
+use test_fixtures::cell_of_one;
 
 /// The part of a job at a place.
 fn part(job: u32, place: u16) -> Part

@@ -6,9 +6,9 @@ use cell_base::{
     JobId, List, NoMemory, Refusal, Reply, Request, ResId, TypeId, cell_fits, request_fits,
 };
 use refusal_reason::{explain, laws, show_text};
-use test_fixtures::crossing;
 use std::alloc::Global;
 use std::test::Fail;
+use test_fixtures::crossing;
 
 /// The jobs that stand in the way of a request, if it is refused.
 fn jobs_in_the_way(alloc: Global, core: &Core, request: &Request) -> Result<List<JobId>, NoMemory>

@@ -1,8 +1,8 @@
 //! That memory is had, and that the look-ups answer.
 use cell_base::{ResId, TypeId, cell_fits};
 use route_table::{StageNo, StageTable};
-use test_fixtures::crossing;
 use std::test::Fail;
+use test_fixtures::crossing;
 
 /// What other threads may have.
 fn may_be_shared<T: Send + Sync>(value: T) -> T {

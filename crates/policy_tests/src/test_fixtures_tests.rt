@@ -1,7 +1,7 @@
 //! That the cells fit.
 use cell_base::cell_fits;
-use test_fixtures::{cell_of_one, crossing};
 use std::test::Fail;
+use test_fixtures::{cell_of_one, crossing};
 
 #[test]
 fn the_cells_fit(rt: HostRuntime) -> Result<(), Fail> {

@@ -1,8 +1,8 @@
 //! That memory is had, and the neighborhoods of two machines.
 use cell_base::{ResId, cell_fits};
 use route_table::{StageNo, StageTable};
-use test_fixtures::crossing;
 use std::test::Fail;
+use test_fixtures::crossing;
 use upstream_sets::Upstream;
 
 /// What other threads may have.

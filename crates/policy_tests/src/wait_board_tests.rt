@@ -5,11 +5,11 @@ use admission_core::Core;
 use cell_base::{
     Cell, JobId, List, NoMemory, Refusal, Request, ResId, TypeId, cell_fits, request_fits,
 };
-use test_fixtures::{add_machine, add_type, cell_of_one};
 use std::alloc::Global;
 use std::sync::{Mutex, Wait};
 use std::test::Fail;
 use std::thread;
+use test_fixtures::{add_machine, add_type, cell_of_one};
 use wait_board::{Board, BoardEntry, BoardFault, BoardReply, BoardTold, Waiter};
 
 const FULL: Refusal = Refusal::Saturated {
