@@ -7,8 +7,3 @@ def commands(program):
     line = subprocess.run([program], stdout=subprocess.PIPE, check=False, text=True).stdout
     forms = [form.split() for form in line.removeprefix("usage: ").strip().split(", ")]
     return {verb: words for verb, *words in forms}
-
-
-def unasked(program, verbs):
-    """A line for each command of the program that is not among these."""
-    return [f"{verb} was never called" for verb in commands(program) if verb not in verbs]
