@@ -43,6 +43,6 @@ pub use finished::Finished;
 pub use laws::durable_law;
 pub use opening::{Heard, Opening};
 pub use recalled::{Recall, Recalled};
-pub use replays::MAX_ROOM;
+pub use replays::{MAX_BEFORE_DRAIN, MAX_ROOM};
 pub use resumed::{Resumed, resume};
 pub use stored::Stored;

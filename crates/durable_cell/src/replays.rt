@@ -14,6 +14,9 @@ use shift_recovery::Taker;
 /// The most grants of a journal for which there may be room, and the most entries of a history.
 pub const MAX_ROOM: u64 = 2_097_152;
 
+/// The most grants of a journal to which sessions add: after them it has room for a drain, however many parts stand in the cell.
+pub const MAX_BEFORE_DRAIN: u64 = 1_572_864;
+
 /// A core that takes the steps of a journal's grants, up to the first that does not fit the cell or is not granted in its turn; where
 /// the gate of that one stands; and who else is to have the grants. After a stray what the core holds is not to be used.
 #[derive(Drop)]
