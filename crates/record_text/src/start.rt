@@ -80,12 +80,11 @@ fn next_request(cell: &IndexedCell<'_>, found: &List<Request>, line: &[u8]) -> O
 
 /// The request that a line without its newline places a part by, where it is such a line.
 #[tactic(auto, using(crate::proofs::Placing::placed_fits))]
-pub fn read_place(cell: &Cell, line: &[u8]) -> Option<Request>
-    requires { CellFits cell.now }
+pub fn read_place(cell: &IndexedCell<'_>, line: &[u8]) -> Option<Request>
     ensures request { result ≡ placing_of cell.now (words line.now) }
     ensures fits { IfSome result (RequestFits cell.now) }
 {
-    placing_of(&IndexedCell::new(cell), line)
+    placing_of(cell, line)
 }
 
 /// The line of a request that places a part.

@@ -4,17 +4,25 @@ ghost use Rattle.std.specs.Str.{bytes_eq};
 ghost use Rattle.cell_base.specs.Fits.{CellFits};
 ghost use Rattle.cell_base.specs.Named.{resource_name, resource_names, type_name, type_names};
 
+use crate::NameIndex;
+use crate::name_index::FIRST_ALWAYS;
 use crate::names::{are_same, resource_of, type_of};
 use cell_base::Cell;
 use std::marker::Model;
 
-/// A cell with an index of its names: for each key of a name it has a guess which type, and which resource, that is. No two types and no
-/// two resources have one name, so a guess that has the name is right, and any other costs time alone. Contracts see it as the cell.
+/// A cell with an index of its names. No two types and no two resources have one name, so a guess that has the name is right, and any other
+/// costs time alone. Contracts see it as the cell.
 #[derive(Drop)]
 pub struct IndexedCell<'a> {
     cell: &'a Cell,
-    types: [u8; 256],
-    resources: [u8; 256],
+    names: Names<'a>,
+}
+
+// An index of its own, or one that was made before.
+#[derive(Drop)]
+enum Names<'a> {
+    Own(NameIndex),
+    Lent(&'a NameIndex),
 }
 
 impl<'a> Model for IndexedCell<'a> {
@@ -28,50 +36,35 @@ impl<'a> Model for IndexedCell<'a> {
     ghost invariant = { λ s. CellFits s.cell.now };
 }
 
-// Where a name is looked up: names mostly differ in their first byte and in their last two.
-fn key_of(name: &[u8]) -> u8 {
-    match name {
-        [first, .., second, last] => first
-            .wrapping_mul(32)
-            .wrapping_add(second.wrapping_mul(16))
-            .wrapping_add(*last),
-        [first, last] => first.wrapping_mul(16).wrapping_add(*last),
-        [only] => *only,
-        [] => 0,
-    }
-}
-
 impl<'a> IndexedCell<'a> {
     /// This cell, indexed.
     pub fn new(cell: &'a Cell) -> IndexedCell<'a>
         requires { CellFits cell.now }
         ensures { result ≡ cell.now }
     {
-        let mut types = [0; 256];
-        for (k, job_type) in cell.types.as_slice().iter().enumerate() {
-            types[usize::from(key_of(job_type.name.bytes()))] = k as u8;
-        }
-        let mut resources = [0; 256];
-        for (k, resource) in cell.resources.as_slice().iter().enumerate() {
-            resources[usize::from(key_of(resource.name.bytes()))] = k as u8;
-        }
         IndexedCell {
             cell,
-            types,
-            resources,
+            names: Names::Own(NameIndex::of(cell)),
         }
     }
 
-    /// The same with an empty index, for one step: the index of a large cell takes longer than a look through its names.
-    pub(crate) fn for_one(cell: &'a Cell) -> IndexedCell<'a>
+    /// The same by an index that was made before, for whoever can't keep the cell borrowed from one step to the next.
+    pub fn over(cell: &'a Cell, names: &'a NameIndex) -> IndexedCell<'a>
         requires { CellFits cell.now }
         ensures { result ≡ cell.now }
     {
         IndexedCell {
             cell,
-            types: [0; 256],
-            resources: [0; 256],
+            names: Names::Lent(names),
         }
+    }
+
+    /// The same with no index, for one step: that of a large cell takes longer than a look through its names.
+    pub(crate) fn for_one(cell: &'a Cell) -> IndexedCell<'a>
+        requires { CellFits cell.now }
+        ensures { result ≡ cell.now }
+    {
+        IndexedCell::over(cell, &FIRST_ALWAYS)
     }
 
     /// The cell.
@@ -106,12 +99,19 @@ impl<'a> IndexedCell<'a> {
         }
     }
 
+    fn names(&self) -> &NameIndex {
+        match &self.names {
+            Names::Own(names) => names,
+            Names::Lent(names) => names,
+        }
+    }
+
     // The number of the type of a name, where the guess is right.
     fn guessed_type(&self, name: &[u8]) -> Option<u16>
         ensures name { IfSome result (λ number. type_name self.now number ≡ name.now) }
         ensures within { IfSome result (λ number. number < length self.now.types) }
     {
-        let guess = self.types[usize::from(key_of(name))];
+        let guess = self.names().guessed_type(name);
         match self.cell.types.as_slice().get(usize::from(guess)) {
             Some(job_type) if are_same(name, job_type.name.bytes()) => Some(u16::from(guess)),
             _ => None,
@@ -123,7 +123,7 @@ impl<'a> IndexedCell<'a> {
         ensures name { IfSome result (λ number. resource_name self.now number ≡ name.now) }
         ensures within { IfSome result (λ number. number < length self.now.resources) }
     {
-        let guess = self.resources[usize::from(key_of(name))];
+        let guess = self.names().guessed_resource(name);
         match self.cell.resources.as_slice().get(usize::from(guess)) {
             Some(resource) if are_same(name, resource.name.bytes()) => Some(u16::from(guess)),
             _ => None,

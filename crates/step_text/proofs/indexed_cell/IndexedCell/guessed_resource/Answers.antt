@@ -15,10 +15,10 @@ returns-in-Some-clause-name c =
     let word = c.args.name.now in
     let found = c.in-Some.resource.now in
     let lookup = c.in-Some.ensures.lookup in
-    let at : slice_get c.as_slice.result.now c.from-2.result ≡ Some found =
-    slice_get_read c.as_slice.result.now _ c.from-2.result found refl lookup.3.0 lookup.1 in
+    let at : slice_get c.as_slice.result.now c.from.result ≡ Some found =
+    slice_get_read c.as_slice.result.now _ c.from.result found refl lookup.3.0 lookup.1 in
     let at : slice_get cell.resources c.from-in-Some.result ≡ Some found =
-    rw (c.from-in-Some.ensures ∙ sym c.from-2.ensures, sym c.as_slice.ensures) at in
+    rw (c.from-in-Some.ensures ∙ sym c.from.ensures, sym c.as_slice.ensures) at in
     let same : bytes_eq word found.name ≡ true =
     ap (λ (name : List ℕ). bytes_eq word name) (sym c.bytes.ensures.value) ∙ sym c.if-are_same.ensures in
     rw (← c.self.view_is) (ap (λ (t : Option Resource). option_map_or (λ (t : Resource). t.name) t []) at
