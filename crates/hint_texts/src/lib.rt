@@ -14,7 +14,7 @@ mod texts;
 
 pub use asked::Asked;
 pub use line::HintLine;
-pub use no_command::words_line;
+pub use no_command::add_words;
 pub use place::Place;
 pub use refusal::{Refusal, policy_text};
 pub use texts::{AFTER_WRITE, IS_LOCKED, NO_MEMORY};

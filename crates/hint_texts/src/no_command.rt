@@ -3,26 +3,36 @@ use crate::asked::Asked;
 use crate::line::HintLine;
 
 /// Adds what is wrong with the words of the command line.
-pub fn words_line(line: &mut HintLine, usage: &str, words: &[String]) -> Option<()> {
+pub fn add_words(line: &mut HintLine, usage: &str, words: &[String]) {
     let Some(verb) = words.first() else {
-        return line.add("no word was given");
+        line.add("no word was given");
+        return;
     };
     match Asked::new(usage, words) {
-        Some(asked) => asked_line(line, &asked),
+        Some(asked) => add_asked(line, &asked),
         None => {
-            line.quote(verb.as_bytes())?;
-            line.add(": no command")
+            line.quote(verb.as_bytes());
+            line.add(": no command");
         }
     }
 }
 
-// The words of a command that aren't as many as it has, or of which one is no number.
-fn asked_line(line: &mut HintLine, asked: &Asked<'_>) -> Option<()> {
-    line.add(asked.form())?;
+// Adds the words of a command that aren't as many as it has, or of which one is no number.
+fn add_asked(line: &mut HintLine, asked: &Asked<'_>) {
+    line.add(asked.form());
     if asked.given() != asked.wanted() {
-        return line.add(": another number of words was given");
+        line.add(": another number of words was given");
+        return;
     }
-    line.add(", ")?;
-    line.quote(asked.word("NUMBER").or(asked.word("FROM"))?.as_bytes())?;
-    line.add(": no number from 0 to 18446744073709551615")
+    line.add(", ");
+    line.quote(number_in(asked).as_bytes());
+    line.add(": no number from 0 to 18446744073709551615");
+}
+
+// The word that is to be a number: no other is looked at before a command begins.
+fn number_in<'a>(asked: &Asked<'a>) -> &'a str {
+    match asked.word("NUMBER") {
+        Some(word) => word,
+        None => asked.word("FROM").unwrap_or(""),
+    }
 }

@@ -4,13 +4,14 @@ use crate::place::Place;
 use crate::texts::{policy_rows, rows};
 use std::str::SplitWhitespace;
 
-/// What a printed line is about: the word that was given on the command line, where in it the fault lies, the last number of the line
-/// that the table asks for, and what is wrong, with a space before it.
+/// What a printed line is about: the line, the word that was given on the command line, where in it the fault lies, the last number of the
+/// line that the table asks for, or 0, and what is wrong, with a space before it.
 #[derive(Clone, Copy)]
 pub struct Refusal<'a> {
+    pub line: &'a str,
     pub given: &'a str,
     pub place: Place,
-    pub number: &'a str,
+    pub number: u64,
     pub text: &'static str,
 }
 
@@ -18,36 +19,45 @@ impl<'a> Refusal<'a> {
     /// What a line tells; `None` where the table has no such line.
     pub fn of(asked: &Asked<'a>, line: &'a str) -> Option<Refusal<'a>> {
         for row in rows().lines() {
-            let (head, text) = row.split_once(":")?;
-            let mut words = head.split_whitespace();
-            let (word, place) = (words.next()?, words.next()?);
-            if let (Some(given), Some(number)) = (asked.word(word), number_of(words, line)) {
-                return Some(Refusal {
-                    given,
-                    place: Place::named(place),
-                    number,
-                    text: text_or_policy(text, line)?,
-                });
+            let refusal = Refusal::by_row(row, asked, line);
+            if refusal.is_some() {
+                return refusal;
             }
         }
         None
     }
+
+    // What a line tells where it fits a row of the table.
+    fn by_row(row: &'static str, asked: &Asked<'a>, line: &'a str) -> Option<Refusal<'a>> {
+        let (head, text) = row.split_once(":")?;
+        let mut words = head.split_whitespace();
+        let given = asked.word(words.next()?)?;
+        let place = Place::named(words.next()?);
+        let number = number_in(words, line)?;
+        let text = text_or_policy(text, line)?;
+        Some(Refusal {
+            line,
+            given,
+            place,
+            number,
+            text,
+        })
+    }
 }
 
-// The last number that the words of a row ask of a line, where they fit it.
-fn number_of<'a>(row: SplitWhitespace<'_>, line: &'a str) -> Option<&'a str> {
-    let mut number = "";
+// The last number that the words of a row ask of a line, or 0, where they fit it.
+fn number_in(row: SplitWhitespace<'_>, line: &str) -> Option<u64> {
+    let mut number = 0;
     let mut words = line.split_whitespace();
     for wanted in row {
         if wanted == ".." {
             return Some(number);
         }
         let word = words.next()?;
-        match wanted {
-            "*" => {}
-            "#" if word.parse::<u64>().is_ok() => number = word,
-            _ if word == wanted => {}
-            _ => return None,
+        if wanted == "#" {
+            number = word.parse::<u64>().ok()?;
+        } else if wanted != "*" && wanted != word {
+            return None;
         }
     }
     match words.next() {

@@ -1,7 +1,7 @@
 //! How a command ended, and the line for a person about it.
 use crate::failed::add_failure;
 use crate::file_place::add_place;
-use hint_texts::{Asked, HintLine, NO_MEMORY, Place, Refusal, words_line};
+use hint_texts::{Asked, HintLine, NO_MEMORY, Place, Refusal, add_words};
 use outside_io::Files;
 use real_outside::Failure;
 use std::alloc::Global;
@@ -20,22 +20,35 @@ pub struct Ended<'a> {
 
 /// One line for a person after a refusal, without a newline: the file, the place, what was found there, and what is wrong. There is none
 /// where nothing was refused, and where it can't be made, for any cause.
-pub fn hint<F: Files>(alloc: Global, files: &mut F, ended: &Ended<'_>) -> Option<HintLine> {
+pub fn hint<F: Files>(alloc: Global, files: &mut F, ended: &Ended<'_>) -> Option<String> {
     let mut hint = HintLine::new(alloc);
+    match add_ended(alloc, files, &mut hint, ended) {
+        Some(()) => hint.finish(),
+        None => None,
+    }
+}
+
+// Adds why a command ended so.
+fn add_ended<F: Files>(
+    alloc: Global,
+    files: &mut F,
+    hint: &mut HintLine,
+    ended: &Ended<'_>,
+) -> Option<()> {
     let usage = str::from_utf8(ended.usage).ok()?;
     match ended.status {
         0 => return None,
-        2 => words_line(&mut hint, usage, ended.words)?,
-        3 | 7 | 8 => add_failure(&mut hint, ended.status, ended.failure)?,
-        9 => hint.add(NO_MEMORY)?,
+        2 => add_words(hint, usage, ended.words),
+        3 | 7 | 8 => add_failure(hint, ended.status, ended.failure)?,
+        9 => hint.add(NO_MEMORY),
         _ => {
             let line = str::from_utf8(ended.line).ok()?;
             let asked = Asked::new(usage, ended.words)?;
             let refusal = Refusal::of(&asked, line)?;
-            add_refusal(alloc, files, &mut hint, &asked, &refusal, line)?;
+            add_refusal(alloc, files, hint, &asked, &refusal)?;
         }
     }
-    Some(hint)
+    Some(())
 }
 
 // Adds what is refused, where in it, and why.
@@ -45,24 +58,23 @@ fn add_refusal<F: Files>(
     hint: &mut HintLine,
     asked: &Asked<'_>,
     refusal: &Refusal<'_>,
-    line: &str,
 ) -> Option<()> {
     let name = refusal.given;
-    if refusal.place == Place::Word {
-        hint.quote(name.as_bytes())?;
-    } else {
-        hint.show(name.as_bytes())?;
+    match refusal.place {
+        Place::Word => hint.quote(name.as_bytes()),
+        _ => hint.show(name.as_bytes()),
     }
     match asked.word("CELL2") {
-        Some(second) if asked.word("CELL") == Some(name) => add_second(hint, second)?,
-        _ => add_place(alloc, files, hint, asked, refusal, line)?,
+        Some(second) if asked.word("CELL") == Some(name) => add_second(hint, second),
+        _ => add_place(alloc, files, hint, asked, refusal)?,
     }
-    hint.add(":")?;
-    hint.add(refusal.text)
+    hint.add(":");
+    hint.add(refusal.text);
+    Some(())
 }
 
 // Adds the second of two cell files: the line doesn't say which of them is refused, and so neither is looked at.
-fn add_second(hint: &mut HintLine, name: &str) -> Option<()> {
-    hint.add(" or ")?;
-    hint.show(name.as_bytes())
+fn add_second(hint: &mut HintLine, name: &str) {
+    hint.add(" or ");
+    hint.show(name.as_bytes());
 }

@@ -1,11 +1,8 @@
 //! A place of a journal, and what stands there.
-use crate::reading::bytes_of;
 use hint_texts::HintLine;
-use outside_io::Files;
-use std::alloc::Global;
 
-/// The most bytes of a cell file.
-const MAX_CELL_BYTES: u32 = 65_536;
+/// The bytes of a journal's mark, after the gate of its head.
+pub const MARK_BYTES: u32 = 8;
 
 /// The offset that a head which ends early is refused at.
 const HEAD: u64 = 9;
@@ -13,69 +10,54 @@ const HEAD: u64 = 9;
 /// The bytes of a gate and of the record after it.
 const ENTRY_SIZE: u64 = 17;
 
-/// Adds the mark of a journal, after the gate of its head.
-pub fn add_mark<F: Files>(
-    alloc: Global,
-    files: &mut F,
-    hint: &mut HintLine,
-    name: &str,
-) -> Option<()> {
-    hint.add(", bytes 1 to 8")?;
-    let bytes = bytes_of(alloc, files, name, 8);
-    match bytes.as_slice() {
-        [_, found @ ..] => {
-            hint.add(", ")?;
-            hint.quote(found)
-        }
-        [] => Some(()),
+/// Adds the mark of a journal, of its first bytes.
+pub fn add_mark(hint: &mut HintLine, bytes: &[u8]) {
+    hint.add(", bytes 1 to 8");
+    if let [_, found @ ..] = bytes {
+        hint.add(", ");
+        hint.quote(found);
     }
 }
 
 /// Adds the first byte of the cell text that isn't that of the cell file, and the line of the cell file in which it lies.
-pub fn add_cell_text<F: Files>(
-    alloc: Global,
-    files: &mut F,
-    hint: &mut HintLine,
-    cell: &str,
-    number: &str,
-) -> Option<()> {
-    let at = number.parse::<usize>().ok()?;
-    let bytes = bytes_of(alloc, files, cell, MAX_CELL_BYTES);
-    let ends = bytes.iter().take(at).filter(|byte| **byte == b'\n').count();
-    hint.add(", byte ")?;
-    hint.add(number)?;
-    hint.add(" of its cell text, line ")?;
-    hint.display(&ends.saturating_add(1))?;
-    hint.add(" of ")?;
-    hint.show(cell.as_bytes())
+pub fn add_cell_text(hint: &mut HintLine, cell: &str, number: u64, bytes: &[u8]) {
+    hint.number("byte", number);
+    hint.add(" of its cell text, line ");
+    hint.display(&line_at(bytes, number));
+    hint.add(" of ");
+    hint.show(cell.as_bytes());
 }
 
-/// Adds the offset of a gate that no journal has, and what stands there.
-pub fn add_gate<F: Files>(
-    alloc: Global,
-    files: &mut F,
-    hint: &mut HintLine,
-    name: &str,
-    number: &str,
-) -> Option<()> {
-    hint.add(", byte ")?;
-    hint.add(number)?;
-    let at = number.parse::<u64>().ok()?;
-    if at == HEAD {
-        return hint.add(", where the head ends early");
+// The number, from 1, of the line in which a byte lies.
+fn line_at(bytes: &[u8], at: u64) -> u64 {
+    let mut line = 1u64;
+    for (index, byte) in bytes.iter().enumerate() {
+        if index as u64 >= at {
+            break;
+        }
+        if *byte == b'\n' {
+            line = line.saturating_add(1);
+        }
     }
-    let limit = u32::try_from(at.saturating_add(ENTRY_SIZE)).ok()?;
-    let length = bytes_of(alloc, files, name, limit).len() as u64;
-    hint.add(at_gate(length.saturating_sub(at)))
+    line
 }
 
-// What stands at a gate, by how many bytes there are from it on.
-fn at_gate(left: u64) -> &'static str {
-    if left == 0 {
+/// How many bytes of a journal reach to the end of what follows a gate.
+pub fn gate_limit(at: u64) -> u32 {
+    u32::try_from(at.saturating_add(ENTRY_SIZE)).unwrap_or(u32::MAX)
+}
+
+/// Adds the offset of a gate that no journal has, and what stands there, of the bytes up to its end.
+pub fn add_gate(hint: &mut HintLine, at: u64, bytes: &[u8]) {
+    hint.number("byte", at);
+    let left = (bytes.len() as u64).saturating_sub(at);
+    hint.add(if at == HEAD {
+        ", where the head ends early"
+    } else if left == 0 {
         ", where the file ends and a gate is wanted"
     } else if left < ENTRY_SIZE {
         ", an open gate with fewer than 16 bytes after it"
     } else {
         ", an open gate with 16 bytes after it that are no grant, or none that can come there"
-    }
+    });
 }

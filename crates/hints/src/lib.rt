@@ -16,7 +16,7 @@ mod ended;
 mod failed;
 mod file_place;
 mod journal_place;
-mod reading;
+mod line_place;
 mod spot;
 mod toml_place;
 mod values;

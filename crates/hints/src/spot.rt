@@ -33,27 +33,28 @@ impl<'a> Spot<'a> {
         })
     }
 
-    /// The value of its section; the whole document has none. Sessions are counted from 1, and the others from 0.
-    pub fn section_in<'t>(&self, table: &'t Table) -> Option<&'t Value> {
-        let item = self.item?.parse::<usize>().ok()?;
-        let at = if self.section == "session" {
-            item.checked_sub(1)?
-        } else {
-            item
-        };
-        table.get(self.section)?.as_array()?.get(at)
+    /// The section that it names, or the whole document.
+    pub fn section_in<'t>(&self, table: &'t Table) -> Option<&'t Table> {
+        match self.item {
+            Some(item) => self.item_in(table, item)?.as_table(),
+            None => Some(table),
+        }
     }
 
-    /// The value that stands there.
+    // The value of an item of its array. Sessions are counted from 1, and the others from 0.
+    fn item_in<'t>(&self, table: &'t Table, item: &str) -> Option<&'t Value> {
+        let number = item.parse::<usize>().ok()?;
+        let first = if self.section == "session" { 1 } else { 0 };
+        let items = table.get(self.section)?.as_array()?;
+        items.get(number.checked_sub(first)?)
+    }
+
+    /// The value that stands there; the whole document is none.
     pub fn value_in<'t>(&self, table: &'t Table) -> Option<&'t Value> {
         let Some(key) = self.key else {
-            return self.section_in(table);
+            return self.item_in(table, self.item?);
         };
-        let section = match self.item {
-            Some(_) => self.section_in(table)?.as_table()?,
-            None => table,
-        };
-        let value = section.get(key)?;
+        let value = self.section_in(table)?.get(key)?;
         match self.index {
             Some(index) => value.as_array()?.get(index.parse::<usize>().ok()?),
             None => Some(value),
@@ -65,6 +66,6 @@ impl<'a> Spot<'a> {
         if self.key == Some("name") {
             return None;
         }
-        self.section_in(table)?.as_table()?.get("name")?.as_str()
+        self.section_in(table)?.get("name")?.as_str()
     }
 }

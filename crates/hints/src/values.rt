@@ -3,18 +3,18 @@ use hint_texts::HintLine;
 use toml::{Table, Value};
 
 /// Adds a value.
-pub fn add_value(hint: &mut HintLine, value: &Value) -> Option<()> {
+pub fn add_value(hint: &mut HintLine, value: &Value) {
     match value {
         Value::String(text) => hint.quote(text.as_bytes()),
         Value::Integer(number) => hint.display(number),
         Value::Boolean(is) => hint.display(is),
         Value::Array(array) => {
-            hint.add("an array of ")?;
-            hint.display(&array.len())
+            hint.add("an array of ");
+            hint.display(&array.len());
         }
         Value::Float(_) | Value::Datetime(_) | Value::Table(_) => {
-            hint.add("a ")?;
-            hint.add(value.type_str())
+            hint.add("a ");
+            hint.add(value.type_str());
         }
     }
 }

@@ -19,7 +19,7 @@ pub fn owed<F: Files>(
     files: &mut F,
     words: &[String],
     line: &[u8],
-) -> Option<HintLine> {
+) -> Option<String> {
     let [_, cell, record] = words else {
         return None;
     };
@@ -27,12 +27,9 @@ pub fn owed<F: Files>(
     let limit = number
         .saturating_mul(LINE_BYTES)
         .min(MAX_RECORD_BYTES as u32);
-    let text = bytes_of(alloc, files, cell.as_str(), MAX_CELL_BYTES)?;
-    let cell = read_cell(alloc, &text).ok()?;
-    let record = bytes_of(alloc, files, record.as_str(), limit)?;
-    let mut hint = HintLine::new(alloc);
-    add_owed(alloc, &mut hint, &cell, &record, number)?;
-    Some(hint)
+    let text = bytes_of(alloc, files, cell.as_str(), MAX_CELL_BYTES);
+    let record = bytes_of(alloc, files, record.as_str(), limit);
+    owed_by_texts(alloc, &text, &record, number)
 }
 
 // The line's number in a verdict.
@@ -41,31 +38,67 @@ fn number_in(line: &[u8]) -> Option<u32> {
     line.split_whitespace().nth(1)?.parse::<u32>().ok()
 }
 
-// The bytes of a file, cut after one more than the limit, where it can be read again.
-fn bytes_of<F: Files>(alloc: Global, files: &mut F, name: &str, limit: u32) -> Option<Vec<u8>> {
+// The bytes of a file, cut after one more than the limit, or none where it can't be read again.
+fn bytes_of<F: Files>(alloc: Global, files: &mut F, name: &str, limit: u32) -> Vec<u8> {
     let mut bytes = Vec::new(alloc);
-    match files.read_file(alloc, name, u64::from(limit), &mut bytes) {
-        Ok(()) => Some(bytes),
+    let _ = files.read_file(alloc, name, u64::from(limit), &mut bytes);
+    bytes
+}
+
+// What is right at a line of a record, by the bytes of both files.
+fn owed_by_texts(alloc: Global, text: &[u8], record: &[u8], number: u32) -> Option<String> {
+    match read_cell(alloc, text) {
+        Ok(cell) => owed_by_cell(alloc, &cell, record, number),
         Err(_) => None,
     }
 }
 
-// Adds what is right at a line of a record of this cell, where all lines before it are right.
-fn add_owed(
+// What is right at a line of a record of this cell, where all lines before it are right.
+fn owed_by_cell(alloc: Global, cell: &Cell, record: &[u8], number: u32) -> Option<String>
+    requires { CellFits cell.now }
+{
+    match Replay::new(alloc, cell) {
+        Some(mut replay) => owed_by_replay(alloc, &mut replay, cell, record, number),
+        None => None,
+    }
+}
+
+// The same, by a replay that begins.
+fn owed_by_replay(
     alloc: Global,
-    hint: &mut HintLine,
+    replay: &mut Replay<'_>,
     cell: &Cell,
     record: &[u8],
     number: u32,
-) -> Option<()>
+) -> Option<String>
     requires { CellFits cell.now }
 {
-    let mut lines = LineReader::new(cell, record).ok()?;
-    let mut replay = Replay::new(alloc, cell)?;
-    for _ in 1..number {
-        let line = lines.next().ok()??;
-        replay.take(&line);
+    let mut hint = HintLine::new(alloc);
+    let told = match LineReader::new(cell, record) {
+        Ok(mut lines) => add_owed(&mut hint, replay, &mut lines, number),
+        Err(_) => None,
+    };
+    match told {
+        Some(()) => hint.finish(),
+        None => None,
     }
-    let line = lines.next().ok()??;
-    replay.add_owed(hint, &line)
+}
+
+// Adds what is right at a line, when those before it have been replayed.
+fn add_owed(
+    hint: &mut HintLine,
+    replay: &mut Replay<'_>,
+    lines: &mut LineReader<'_>,
+    number: u32,
+) -> Option<()> {
+    for _ in 1..number {
+        match lines.next() {
+            Ok(Some(line)) => replay.take(&line),
+            _ => return None,
+        }
+    }
+    match lines.next() {
+        Ok(Some(line)) => replay.add_owed(hint, &line),
+        _ => None,
+    }
 }

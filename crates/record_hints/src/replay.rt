@@ -70,13 +70,14 @@ impl<'a> Replay<'a> {
         match line {
             RecordLine::Head { after, .. } => {
                 self.begin(*after);
-                hint.display(&self.grants)
+                hint.display(&self.grants);
             }
             RecordLine::Left(_) => hint.display(&self.recount.parts_left()),
-            RecordLine::Entry(entry) => self.add_decision(hint, &entry.request),
-            RecordLine::Step(request) => self.add_decision(hint, request),
-            RecordLine::Plan(_) => None,
+            RecordLine::Entry(entry) => self.add_decision(hint, &entry.request)?,
+            RecordLine::Step(request) => self.add_decision(hint, request)?,
+            RecordLine::Plan(_) => return None,
         }
+        Some(())
     }
 
     // Begins a block: the steps of a plan before it change nothing, and a halted request counts where the head names one grant more.

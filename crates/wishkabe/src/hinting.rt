@@ -1,6 +1,5 @@
 //! The line on standard error after a refusal.
 use cell_program::usage;
-use hint_texts::HintLine;
 use hints::{Ended, hint};
 use real_outside::{DirFiles, Failure, FileDisk, OutSink, RegularFiles};
 use record_hints::owed;
@@ -71,7 +70,7 @@ fn owed_line<F: outside_io::Files>(
     alloc: Global,
     files: &mut F,
     ended: &Ended<'_>,
-) -> Option<HintLine> {
+) -> Option<String> {
     match ended.status {
         1 => owed(alloc, files, ended.words, ended.line),
         _ => None,

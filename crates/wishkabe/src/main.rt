@@ -11,7 +11,6 @@ mod manner;
 use absence::absence_line;
 use cell_program::{Journal, cell_main, journal_in, serve_main, served_in};
 use gathered::Gathered;
-use hint_texts::HintLine;
 use hinting::{Fails, failure_of, tell};
 use manner::Manner;
 use outside_io::{Disk, Pace};
@@ -39,7 +38,7 @@ fn main(rt: HostRuntime) -> ExitCode {
     let is_served = served_in(&words).is_some();
     let shows_progress = manner.shows_progress && !is_served;
     let disk = FileDisk::new(&rt, rt.alloc(), name, purpose, shows_progress).telling(
-        absence.as_ref().map(HintLine::as_str),
+        absence.as_ref().map(String::as_str),
     );
     if is_served {
         let status = match BufWriter::with_capacity(rt.alloc(), OUT_BUFFER, io::writer(&rt)) {
