@@ -12,7 +12,7 @@ pub use Rattle.serve_command.specs.Answers.{step_or_none, step_words, still_line
 pub use Rattle.serve_command.specs.Asks.{AskFits}
 pub use Rattle.serve_command.specs.Serving.{CountsGrant, TakesOneLine, IsAskAnswered, IsJournalFull, IsSaid, KeepsWaiters, StandsAt}
 pub use Rattle.serve_command.specs.Talks.{Talk, cancelled, entry_of, wait_told}
-pub use Rattle.serve_command.specs.Waits.{BeginsWait, EndsWait, FullAt, IsDecided, IsOpen, Settles}
+pub use Rattle.serve_command.specs.Waits.{BeginsWait, EndsWait, FullAt, IsDecided, IsOpen, NotesGrant, Settles}
 pub use Rattle.serve_command.specs.declared.asks.Ask.TheVariants.{Step, Wait, Cancel}
 pub use Rattle.serve_command.specs.declared.command.TheConstants.{MAX_SERVED}
 pub use Rattle.serve_command.specs.declared.replies.TheConstants.{MAX_REPLIES, MAX_WAITERS}

@@ -15,9 +15,10 @@ use Rattle.cell_walks.specs.Allowed.{AtOpening, StandsForAdded}
 use Rattle.cell_walks.specs.DiskTold.{DiskTold}
 use Rattle.cell_walks.specs.Outcomes.{IsDelivered, Outcome, early}
 use Rattle.cell_walks.specs.declared.status.Status.{Status}
+use Rattle.cell_texts.specs.Blocks.{left_in_core}
 use Rattle.cell_texts.specs.Tests.{KnownCell}
 use Rattle.journal_texts.specs.Tests.{to_add}
-use Rattle.serve_command.specs.Answers.{line_number}
+use Rattle.serve_command.specs.Answers.{line_number, still_lines}
 use Rattle.serve_command.specs.Asks.{ask_of}
 use Rattle.serve_command.specs.Talks.{opened, since, talk_after}
 use Rattle.serve_command.specs.Rounds.{StandsAfter}
@@ -36,6 +37,11 @@ fresh_lines = record { begun = []; ahead = []; line = [] }
 -- nobody waits
 abbrev pub no_waiters : QueueState
 no_waiters = record { waiters = []; watches = []; room = MAX_WAITERS }
+
+-- what a server puts last: who waits still, and the plan of what is left
+abbrev pub end_lines : {D : Type 0} → Server D → List (List ℕ)
+end_lines server = still_lines server.live.cell server.live.parts server.queue.waiters
+    ++ left_in_core (record { cell = server.live.cell; parts = server.live.parts })
 
 -- a desk on which nothing lies
 pub record IsDesk (desk : Desk) : Type 0 where

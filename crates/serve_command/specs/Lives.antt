@@ -46,10 +46,14 @@ put_then start asks = start.before ++ concat (answered_lines start.cell start.op
 abbrev pub answers_then : Start → List Ask → List Ask → Lines
 answers_then start earlier asks = answers start.cell (talk_then start earlier) (length earlier + 1) asks
 
--- the answer to the next of these asks, if there is one: its own line, and one for each wait that it ends
+-- the answer to the first of these asks, if there is one: its own line, and one for each wait that it ends
+abbrev pub first_answer : Cell → Talk → ℕ → List Ask → Lines
+first_answer cell talk number [] = []
+first_answer cell talk number (next ∷ rest) = answer cell talk (line_number number) next
+
+-- the same of asks after these
 abbrev pub next_answer : Start → List Ask → List Ask → Lines
-next_answer start earlier [] = []
-next_answer start earlier (next ∷ rest) = answer start.cell (talk_then start earlier) (line_number (length earlier + 1)) next
+next_answer start earlier asks = first_answer start.cell (talk_then start earlier) (length earlier + 1) asks
 
 -- the journal has room for the grants of these asks
 abbrev pub HasRoom : Start → List Ask → Type 0

@@ -7,16 +7,17 @@ use Rattle.cell_base.specs.declared.requests.Reply.TheVariants.{Granted, Refused
 use Rattle.cell_base.specs.declared.requests.Request.{Request}
 use Rattle.cell_base.specs.declared.requests.Told.TheVariants.{Answered}
 use Rattle.cell_base.specs.declared.shifts.Entry.{Entry}
+use Rattle.cell_base.specs.declared.shifts.Grant.{Grant}
 use Rattle.cell_base.specs.Histories.{grants}
 use Rattle.cell_base.specs.Outcomes.{reply_to, state_after}
 use Rattle.record_text.specs.Fitting.{EntryFits}
 use Rattle.wait_queue.specs.declared.waiter.Waiter.{Waiter}
 use Rattle.wait_queue.specs.Waiting.{end_of, served, waiting}
-use Rattle.wait_queue.specs.Queues.{QueueState}
+use Rattle.wait_queue.specs.Queues.{KeepsWatching, QueueState}
 use Rattle.record_text.specs.Lines.{line_of, why_words}
-use Rattle.serve_command.specs.Answers.{asked_words, ended_line, halted_line, line_number}
-use Rattle.serve_command.specs.Serving.{IsSaid, KeepsWaiters, StandsAt, Stays, TakesOneLine}
-use Rattle.serve_command.specs.Talks.{Talk, entry_of, said_granted}
+use Rattle.serve_command.specs.Answers.{asked_words, ended_line, halted_line, line_number, step_words}
+use Rattle.serve_command.specs.Serving.{HasCounts, IsSaid, KeepsWaiters, StandsAt, Stays, TakesOneLine, first_after}
+use Rattle.serve_command.specs.Talks.{Talk, entry_of, said_granted, session_grant}
 use Rattle.serve_command.specs.declared.asks.Ask.TheVariants.{Step}
 use Rattle.serve_command.specs.declared.command.TheConstants.{MAX_SERVED}
 use Rattle.serve_command.specs.declared.replies.TheConstants.{MAX_REPLIES}
@@ -39,6 +40,19 @@ pub record IsGranted {D : Type 0} (old : Server D) (session : ℕ) (request : Re
       → IsSaid old.live.cell talk old (halted_line old.live.cell (Step session request)) (said_granted old.live.cell talk session request) new
   pub goes_on : TakesOneLine old new
   pub waiters : KeepsWaiters new
+
+-- A request that is pending was counted and answered, and nobody was served yet.
+pub record NotesGrant {D : Type 0} (old : Server D) (session : ℕ) (request : Request) (new : Server D) : Type 0 where
+  pub live : new.live ≡ old.live
+  pub waiters : new.queue.waiters ≡ old.queue.waiters
+  pub watching : KeepsWatching request old.queue new.queue
+  pub room : new.queue.room ≡ old.queue.room
+  pub replies : new.replies ≡ old.replies ++ line_of (step_words old.live.cell session request (Answered Granted)) ∷ []
+  pub asked : new.asked ≡ line_number (old.asked + 1)
+  pub counts : (grants : List Grant) → length grants < 4294967295 → HasCounts grants old.counts
+      → HasCounts (grants ++ session_grant session request ∷ []) new.counts
+  pub first : new.first
+      ≡ first_after old.first (length old.replies) (halted_line old.live.cell (Step session request)) (session_grant session request ∷ [])
 
 -- it was refused, and nothing changed
 pub record IsRefused {D : Type 0} (old : Server D) (session : ℕ) (request : Request) (why : Refusal) (new : Server D) : Type 0 where

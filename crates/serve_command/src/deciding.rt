@@ -4,7 +4,7 @@ ghost use Rattle.live_cell.specs.LiveState.{asked};
 ghost use Rattle.record_text.specs.Fitting.{EntryFits};
 ghost use Rattle.record_text.specs.Lines.{line_of};
 ghost use Rattle.serve_command.specs.Clauses.{Answered, BeginsWait, CountsGrant, FullAt, Granted, IsAskAnswered, IsDecided, IsJournalFull};
-ghost use Rattle.serve_command.specs.Clauses.{IsOpen, IsSaid, KeepsWaiters, MAX_REPLIES, MAX_SERVED, MAX_WAITERS, Refused, RequestFits};
+ghost use Rattle.serve_command.specs.Clauses.{IsOpen, IsSaid, KeepsWaiters, MAX_REPLIES, MAX_SERVED, MAX_WAITERS, NotesGrant, Refused, RequestFits};
 ghost use Rattle.serve_command.specs.Clauses.{StandsAt, Step, TakesOneLine, Talk, Wait, asked_words, codes, entry_of, halted_line, line_number};
 ghost use Rattle.serve_command.specs.Clauses.{reply_to, step_words, wait_told};
 
@@ -90,21 +90,30 @@ impl<D: Disk> Server<D> {
         refusal_law(core.cell());
         match self.ask(session, request) {
             Ok(Reply::Granted) => {
-                self.count_grant(session, request);
-                let line = told_line(
-                    self.live.core().cell(),
-                    session,
-                    request,
-                    Told::Answered(Reply::Granted),
-                );
-                self.keep(line);
-                self.queue.note(request);
+                self.note_grant(session, request);
                 self.settle();
                 Ok(None)
             }
             Ok(Reply::Refused(why)) => Ok(Some(why)),
             Err(full) => Err(full),
         }
+    }
+
+    // A request was granted: it is counted and answered, and those that wait for its job are to be looked at.
+    fn note_grant(&mut self, session: u16, request: &Request)
+        requires fits { RequestFits self.old.live.cell request.now }
+        requires short { length self.old.replies < MAX_REPLIES }
+        ensures { NotesGrant self.old session request.now self.new }
+    {
+        self.count_grant(session, request);
+        let line = told_line(
+            self.live.core().cell(),
+            session,
+            request,
+            Told::Answered(Reply::Granted),
+        );
+        self.keep(line);
+        self.queue.note(request);
     }
 
     // Asks a request of the live cell, if the journal has room for its grant and one of each session that waits, or it is refused.
