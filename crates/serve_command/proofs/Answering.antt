@@ -134,7 +134,7 @@ module _ {D : Type 0} (old new : Server D) (queue : QueueState) (line : List ℕ
 
 -- ---- a grant
 
-module _ {D : Type 0} (old mid : Server D) (session : ℕ) (request : Request) (open : IsOpen old)
+module _ {D : Type 0} (old mid : Server D) (session : ℕ) (request : Request) (ready : IsOpen old)
     (fits : RequestFits old.live.cell request) (granted : reply_to old.live.cell old.live.parts request ≡ Granted)
     (had_room : old.live.len + length old.live.pending + length old.queue.waiters < MAX_SERVED)
     (noted : NotesGrant (record old { live = asked old.live session request }) session request mid) where
@@ -163,17 +163,17 @@ module _ {D : Type 0} (old mid : Server D) (session : ℕ) (request : Request) (
   )
 
   spare_less : mid.live.spare + 1 ≡ old.live.spare
-  spare_less = omega (arith, open.spare, ap (λ (l : LiveState D). l.spare) live_more)
+  spare_less = omega (arith, ready.spare, ap (λ (l : LiveState D). l.spare) live_more)
 
   replies_more : length mid.replies ≡ length old.replies + 1
   replies_more = omega (arith, ap (λ (ls : List (List ℕ)). length ls) noted.replies, length-append old.replies (_ ∷ []))
 
   -- then the scan may begin
   pub mid_runs : mid.live.is_halted ≡ false
-  mid_runs = ap (λ (l : LiveState D). l.is_halted) live_more ∙ open.runs
+  mid_runs = ap (λ (l : LiveState D). l.is_halted) live_more ∙ ready.runs
 
   pub mid_room : mid.live.room ≡ MAX_SERVED
-  mid_room = ap (λ (l : LiveState D). l.room) live_more ∙ open.room
+  mid_room = ap (λ (l : LiveState D). l.room) live_more ∙ ready.room
 
   pub mid_fits : mid.live.len + length mid.live.pending + length mid.queue.waiters ≤ MAX_SERVED
   mid_fits = omega (
@@ -185,19 +185,19 @@ module _ {D : Type 0} (old mid : Server D) (session : ℕ) (request : Request) (
   )
 
   pub mid_spare : length mid.queue.waiters ≤ mid.live.spare
-  mid_spare = omega (arith, open.spare, spare_less, ap (λ (ws : List Waiter). length ws) noted.waiters)
+  mid_spare = omega (arith, ready.spare, spare_less, ap (λ (ws : List Waiter). length ws) noted.waiters)
 
   pub mid_short : length mid.replies + length mid.queue.waiters ≤ 5120
-  mid_short = omega (arith, open.short, replies_more, ap (λ (ws : List Waiter). length ws) noted.waiters)
+  mid_short = omega (arith, ready.short, replies_more, ap (λ (ws : List Waiter). length ws) noted.waiters)
 
   pub mid_waiters : CellFits cell → IsAdmitted cell old.live.parts → KeepsWaiters mid
   mid_waiters cell_fits admitted = record {
     fit = subst (λ (c : Cell). AreFit c mid.queue.waiters) (sym (ap (λ (l : LiveState D). l.cell) live_more))
-        (subst (AreFit cell) (sym noted.waiters) open.waiters.fit);
+        (subst (AreFit cell) (sym noted.waiters) ready.waiters.fit);
     watching = subst (λ (l : LiveState D). AreWatching l.cell l.parts mid.queue.waiters mid.queue.watches) (sym live_more)
-        (noted.watching cell old.live.parts cell_fits admitted fits granted open.waiters.watching);
-    few = omega (arith, open.waiters.few, ap (λ (ws : List Waiter). length ws) noted.waiters);
-    room = noted.room ∙ open.waiters.room;
+        (noted.watching cell old.live.parts cell_fits admitted fits granted ready.waiters.watching);
+    few = omega (arith, ready.waiters.few, ap (λ (ws : List Waiter). length ws) noted.waiters);
+    room = noted.room ∙ ready.waiters.room;
   }
 
   mid_at : (talk : Talk) → StandsAt talk old

@@ -239,7 +239,7 @@ module _ {D : Type 0} where
       at = λ talk at.
           let here = ended.at talk at in
           let still : StandsAt (record { granted = talk.granted ++ grants 0 told; waiters = queue.waiters })
-              (record now { queue = queue }) =
+          (record now { queue = queue }) =
           record { fit = here.fit; parts = here.parts; counts = here.counts; number = here.number; waiters = refl } in
           let grants_are : (talk.granted ++ grants 0 told) ++ grants 0 (last ∷ []) ≡ talk.granted ++ grants 0 (told ++ last ∷ []) =
           append_assoc talk.granted (grants 0 told) (grants 0 (last ∷ []))

@@ -1,5 +1,5 @@
 -- After each ask nobody waits whose request could be granted, or who is to be dropped.
-use Rattle.std.specs.Prelude.{Option, Some, None, codes, nat_lt, not}
+use Rattle.std.specs.Prelude.{Option, Some, None, codes, nat_lt, ◌&&◌}
 use Rattle.std.specs.Option.{option_map_or}
 use Rattle.std.proofs.Common.{◌≡◌, ℕ, zero, suc, ◌<◌, ◌≤◌, Bool, true, false, cond, List, [], ◌∷◌, ◌++◌, length, map, All, find, refl, sym, ap}
 use Rattle.std.proofs.Common.{◌∙◌, subst, arith, append_assoc, append-nil}
@@ -24,9 +24,9 @@ use Rattle.wait_queue.specs.Watching.{HoldsAll}
 use Rattle.wait_queue.proofs.Looks.{without-all}
 use Rattle.wait_queue.proofs.Settling.{after-scan}
 use Rattle.serve_command.specs.Answers.{answer, telling_line}
-use Rattle.serve_command.specs.Talks.{Ends, IsSettled, Said, Talk, Telling, cancelled, entries_in, entry_of, opened, said_granted, said_none}
-use Rattle.serve_command.specs.Talks.{said_refused, said_to, said_waits, scanned, session_grant, step_told, talk_after, talk_after_one, wait_told}
-use Rattle.serve_command.specs.Talks.{where_free}
+use Rattle.serve_command.specs.Talks.{Ends, IsSettled, Said, Talk, Telling, cancelled, entries_in, entry_of, opened, reply_told, request_told}
+use Rattle.serve_command.specs.Talks.{said_granted, said_none, said_refused, said_to, said_waits, scanned, session_grant, talk_after}
+use Rattle.serve_command.specs.Talks.{talk_after_one, waiting_told, where_free}
 use Rattle.serve_command.specs.declared.asks.Ask.{Ask}
 use Rattle.serve_command.specs.declared.replies.TheConstants.{MAX_WAITERS}
 use Rattle.serve_command.proofs.Refusing.{refusal_leaves}
@@ -57,24 +57,19 @@ entries-ends (entry ∷ told) = ap (λ (es : List Entry). entry ∷ es) (entries
 -- ---- what is told
 
 module _ (cell : Cell) (talk : Talk) (session : ℕ) (request : Request) where
-  step_some : (reply : Reply) → 0 < length (step_told cell talk session request reply).told
-  step_some Granted = omega arith
-  step_some (Refused why) = omega arith
+  waiting_some : (why : Refusal) (free : Bool) → 0 < length (cond free (said_waits talk session request why)
+      (said_none talk session request (codes "waiters-full"))).told
+  waiting_some why true = omega arith
+  waiting_some why false = omega arith
 
-  wait_some : (reply : Reply) → 0 < length (wait_told cell talk session request reply).told
-  wait_some Granted = omega arith
-  wait_some (Refused why) =
-      elim (is_saturation why) as (λ b. 0 < length (cond (not b) (said_refused talk session request why)
-      (cond (nat_lt (length talk.waiters) MAX_WAITERS) (said_waits talk session request why)
-      (said_none talk session request (codes "waiters-full")))).told) [
-        | true ↦
-            elim (nat_lt (length talk.waiters) MAX_WAITERS) as (λ b. 0 < length (cond b (said_waits talk session request why)
-            (said_none talk session request (codes "waiters-full"))).told) [
-              | true ↦ omega arith
-              | false ↦ omega arith
-            ]
-        | false ↦ omega arith
-      ]
+  refused_some : (why : Refusal) (waits : Bool) → 0 < length (cond waits (waiting_told talk session request why)
+      (said_refused talk session request why)).told
+  refused_some why true = waiting_some why (nat_lt (length talk.waiters) MAX_WAITERS)
+  refused_some why false = omega arith
+
+  reply_some : (may_wait : Bool) (reply : Reply) → 0 < length (reply_told cell talk session request may_wait reply).told
+  reply_some may_wait Granted = omega arith
+  reply_some may_wait (Refused why) = refused_some why (may_wait && is_saturation why)
 
   free_some : (waiter : Option Waiter) (other : Said) → 0 < length other.told
       → 0 < length (where_free talk session request waiter other).told
@@ -85,10 +80,10 @@ module _ (cell : Cell) (talk : Talk) (session : ℕ) (request : Request) where
 answer_told : (cell : Cell) (talk : Talk) (ask : Ask) → 0 < length (said_to cell talk ask).told
 answer_told cell talk (Step session request) =
     free_some cell talk session request (waiter_of talk.waiters session) _
-    (step_some cell talk session request (reply_to cell (replay cell talk.granted) request))
+    (reply_some cell talk session request false (reply_to cell (replay cell talk.granted) request))
 answer_told cell talk (Wait session request) =
     free_some cell talk session request (waiter_of talk.waiters session) _
-    (wait_some cell talk session request (reply_to cell (replay cell talk.granted) request))
+    (reply_some cell talk session request true (reply_to cell (replay cell talk.granted) request))
 answer_told cell talk (Cancel session) = cancelled_some (waiter_of talk.waiters session)
   where
     cancelled_some : (waiter : Option Waiter) → 0 < length (cancelled talk session waiter).told
@@ -180,36 +175,44 @@ module _ (cell : Cell) where
       ∙ ap (λ (gs : List Grant). talk.granted ++ gs) (sym (granted-adds talk session request))))
       (after-scan cell (waiting (replay cell now) talk.waiters []))
 
-  step-settled : (talk : Talk) (session : ℕ) (request : Request) (r : Reply) → IsSettled cell talk
-      → SettlesSo talk (step_told cell talk session request r)
-  step-settled talk session request Granted settled = granted-settled talk session request
-  step-settled talk session request (Refused why) settled = still-settled talk [] talk.waiters refl settled
+  waiting-settled : (talk : Talk) (session : ℕ) (request : Request) (why : Refusal) (free : Bool)
+      → is_saturated (reply_to cell (replay cell talk.granted) request) ≡ true → IsSettled cell talk
+      → SettlesSo talk (cond free (said_waits talk session request why) (said_none talk session request (codes "waiters-full")))
+  waiting-settled talk session request why true full settled =
+      let waiter : Waiter = record { session = session; request = request; refusal = why } in
+      still-settled talk [] (talk.waiters ++ waiter ∷ []) refl
+      (All-push (λ (w : Waiter). is_saturated (reply_to cell (replay cell talk.granted) w.request) ≡ true) talk.waiters waiter settled full)
+  waiting-settled talk session request why false full settled = still-settled talk [] talk.waiters refl settled
 
-  wait-settled : (talk : Talk) (session : ℕ) (request : Request) (r : Reply) → reply_to cell (replay cell talk.granted) request ≡ r
-      → IsSettled cell talk → SettlesSo talk (wait_told cell talk session request r)
-  wait-settled talk session request Granted is settled = granted-settled talk session request
-  wait-settled talk session request (Refused why) is settled =
-      elim (is_saturation why) as (λ b. is_saturation why ≡ b → SettlesSo talk
-      (cond (not b) (said_refused talk session request why)
-      (cond (nat_lt (length talk.waiters) MAX_WAITERS) (said_waits talk session request why)
-      (said_none talk session request (codes "waiters-full"))))) [
-        | true ↦ λ sat.
-            elim (nat_lt (length talk.waiters) MAX_WAITERS) as (λ b. SettlesSo talk
-            (cond b (said_waits talk session request why) (said_none talk session request (codes "waiters-full")))) [
-              | true ↦
-                  let waiter : Waiter = record { session = session; request = request; refusal = why } in
-                  still-settled talk [] (talk.waiters ++ waiter ∷ []) refl
-                  (All-push (λ (w : Waiter). is_saturated (reply_to cell (replay cell talk.granted) w.request) ≡ true) talk.waiters
-                  waiter settled (ap is_saturated is ∙ sat))
-              | false ↦ still-settled talk [] talk.waiters refl settled
-            ]
-        | false ↦ λ sat. still-settled talk [] talk.waiters refl settled
-      ] refl
+  refused-settled : (talk : Talk) (session : ℕ) (request : Request) (why : Refusal) (waits : Bool)
+      → (waits ≡ true → is_saturated (reply_to cell (replay cell talk.granted) request) ≡ true) → IsSettled cell talk
+      → SettlesSo talk (cond waits (waiting_told talk session request why) (said_refused talk session request why))
+  refused-settled talk session request why true full settled =
+      waiting-settled talk session request why (nat_lt (length talk.waiters) MAX_WAITERS) (full refl) settled
+  refused-settled talk session request why false full settled = still-settled talk [] talk.waiters refl settled
+
+  both_true : (one other : Bool) → (one && other) ≡ true → other ≡ true
+  both_true true other is = is
+  both_true false other is = absurd (cc is)
+
+  reply-settled : (talk : Talk) (session : ℕ) (request : Request) (may_wait : Bool) (r : Reply)
+      → reply_to cell (replay cell talk.granted) request ≡ r → IsSettled cell talk
+      → SettlesSo talk (reply_told cell talk session request may_wait r)
+  reply-settled talk session request may_wait Granted is settled = granted-settled talk session request
+  reply-settled talk session request may_wait (Refused why) is settled =
+      refused-settled talk session request why (may_wait && is_saturation why)
+      (λ waits. ap is_saturated is ∙ both_true may_wait (is_saturation why) waits) settled
 
   free-settled : (talk : Talk) (session : ℕ) (request : Request) (o : Option Waiter) (other : Said) → IsSettled cell talk
       → SettlesSo talk other → SettlesSo talk (where_free talk session request o other)
   free-settled talk session request (Some w) other settled new = still-settled talk [] talk.waiters refl settled
   free-settled talk session request None other settled new = new
+
+  request-settled : (talk : Talk) (session : ℕ) (request : Request) (may_wait : Bool) → IsSettled cell talk
+      → SettlesSo talk (request_told cell talk session request may_wait)
+  request-settled talk session request may_wait settled =
+      free-settled talk session request (waiter_of talk.waiters session) _ settled
+      (reply-settled talk session request may_wait (reply_to cell (replay cell talk.granted) request) refl settled)
 
   cancel-settled : (talk : Talk) (session : ℕ) (o : Option Waiter) → IsSettled cell talk → SettlesSo talk (cancelled talk session o)
   cancel-settled talk session (Some w) settled =
@@ -219,12 +222,8 @@ module _ (cell : Cell) where
   cancel-settled talk session None settled = still-settled talk [] talk.waiters refl settled
 
   pub said-settled : (talk : Talk) (ask : Ask) → IsSettled cell talk → IsSettled cell (talk_after_one cell talk ask)
-  said-settled talk (Step session request) settled =
-      free-settled talk session request (waiter_of talk.waiters session) _ settled
-      (step-settled talk session request (reply_to cell (replay cell talk.granted) request) settled)
-  said-settled talk (Wait session request) settled =
-      free-settled talk session request (waiter_of talk.waiters session) _ settled
-      (wait-settled talk session request (reply_to cell (replay cell talk.granted) request) refl settled)
+  said-settled talk (Step session request) settled = request-settled talk session request false settled
+  said-settled talk (Wait session request) settled = request-settled talk session request true settled
   said-settled talk (Cancel session) settled = cancel-settled talk session (waiter_of talk.waiters session) settled
   said-settled talk (Count session) settled = still-settled talk [] talk.waiters refl settled
   said-settled talk (Last session) settled = still-settled talk [] talk.waiters refl settled

@@ -11,7 +11,7 @@ pub use Rattle.serve_command.specs.Answers.{asked_words, count_of, end_words, ha
 pub use Rattle.serve_command.specs.Answers.{step_or_none, step_words, still_line, still_lines}
 pub use Rattle.serve_command.specs.Asks.{AskFits}
 pub use Rattle.serve_command.specs.Serving.{CountsGrant, TakesOneLine, IsAskAnswered, IsJournalFull, IsSaid, KeepsWaiters, StandsAt}
-pub use Rattle.serve_command.specs.Talks.{Talk, cancelled, entry_of, wait_told}
+pub use Rattle.serve_command.specs.Talks.{Talk, asked_for, entry_of, reply_told, waiting_told}
 pub use Rattle.serve_command.specs.Waits.{BeginsWait, EndsWait, FullAt, IsDecided, IsOpen, NotesGrant, Settles}
 pub use Rattle.serve_command.specs.declared.asks.Ask.TheVariants.{Step, Wait, Cancel}
 pub use Rattle.serve_command.specs.declared.command.TheConstants.{MAX_SERVED}

@@ -1,5 +1,5 @@
 -- A conversation in which sessions may wait: what is told of each ask, and what stands after it.
-use Rattle.std.specs.Prelude.{codes, ℕ, Bool, not, nat_lt, if◌then◌else◌, Option, Some, None, List, [], ◌∷◌, ◌++◌, length, map}
+use Rattle.std.specs.Prelude.{codes, ℕ, Bool, true, false, ◌&&◌, nat_lt, if◌then◌else◌, Option, Some, None, List, [], ◌∷◌, ◌++◌, length, map}
 use Rattle.cell_base.specs.declared.cells.Cell.{Cell}
 use Rattle.cell_base.specs.declared.requests.Refusal.{Refusal}
 use Rattle.cell_base.specs.declared.requests.Reply.{Reply}
@@ -99,18 +99,17 @@ said_waits talk session request why =
 abbrev pub said_none : Talk → ℕ → Request → List ℕ → Said
 said_none talk session request why = said (Turns session request why) talk.waiters
 
--- a request by its reply
-abbrev pub step_told : Cell → Talk → ℕ → Request → Reply → Said
-step_told cell talk session request Granted = said_granted cell talk session request
-step_told cell talk session request (Refused why) = said_refused talk session request why
+-- a request that is refused for want of room waits, if a place is free
+abbrev pub waiting_told : Talk → ℕ → Request → Refusal → Said
+waiting_told talk session request why =
+    if nat_lt (length talk.waiters) MAX_WAITERS then said_waits talk session request why
+    else said_none talk session request (codes "waiters-full")
 
--- the same of one that may wait
-abbrev pub wait_told : Cell → Talk → ℕ → Request → Reply → Said
-wait_told cell talk session request Granted = said_granted cell talk session request
-wait_told cell talk session request (Refused why) =
-    if not (is_saturation why) then said_refused talk session request why
-    else (if nat_lt (length talk.waiters) MAX_WAITERS then said_waits talk session request why
-    else said_none talk session request (codes "waiters-full"))
+-- a request by its reply, which may wait or not
+abbrev pub reply_told : Cell → Talk → ℕ → Request → Bool → Reply → Said
+reply_told cell talk session request may_wait Granted = said_granted cell talk session request
+reply_told cell talk session request may_wait (Refused why) =
+    if may_wait && is_saturation why then waiting_told talk session request why else said_refused talk session request why
 
 -- a session that waits asks for nothing else
 abbrev pub where_free : Talk → ℕ → Request → Option Waiter → Said → Said
@@ -123,16 +122,23 @@ cancelled talk session (Some waiter) =
     said (Cancels session (Some waiter.request)) (without_first (is_of_session session) talk.waiters)
 cancelled talk session None = said (Cancels session None) talk.waiters
 
+-- what the request of a session comes to
+abbrev pub request_told : Cell → Talk → ℕ → Request → Bool → Said
+request_told cell talk session request may_wait =
+    where_free talk session request (waiter_of talk.waiters session)
+    (reply_told cell talk session request may_wait (reply_to cell (replay cell talk.granted) request))
+
 -- what an ask comes to
 abbrev pub said_to : Cell → Talk → Ask → Said
-said_to cell talk (Step session request) =
-    where_free talk session request (waiter_of talk.waiters session)
-    (step_told cell talk session request (reply_to cell (replay cell talk.granted) request))
-said_to cell talk (Wait session request) =
-    where_free talk session request (waiter_of talk.waiters session)
-    (wait_told cell talk session request (reply_to cell (replay cell talk.granted) request))
+said_to cell talk (Step session request) = request_told cell talk session request false
+said_to cell talk (Wait session request) = request_told cell talk session request true
 said_to cell talk (Cancel session) = cancelled talk session (waiter_of talk.waiters session)
 said_to cell talk ask = said (Replies ask) talk.waiters
+
+-- a session asks for this, and may wait or not
+abbrev pub asked_for : ℕ → Request → Bool → Ask
+asked_for session request true = Wait session request
+asked_for session request false = Step session request
 
 -- ---- asks in turn
 

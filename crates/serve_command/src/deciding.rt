@@ -4,9 +4,9 @@ ghost use Rattle.live_cell.specs.LiveState.{asked};
 ghost use Rattle.record_text.specs.Fitting.{EntryFits};
 ghost use Rattle.record_text.specs.Lines.{line_of};
 ghost use Rattle.serve_command.specs.Clauses.{Answered, BeginsWait, CountsGrant, FullAt, Granted, IsAskAnswered, IsDecided, IsJournalFull};
-ghost use Rattle.serve_command.specs.Clauses.{IsOpen, IsSaid, KeepsWaiters, MAX_REPLIES, MAX_SERVED, MAX_WAITERS, NotesGrant, Refused, RequestFits};
-ghost use Rattle.serve_command.specs.Clauses.{StandsAt, Step, TakesOneLine, Talk, Wait, asked_words, codes, entry_of, halted_line, line_number};
-ghost use Rattle.serve_command.specs.Clauses.{reply_to, step_words, wait_told};
+ghost use Rattle.serve_command.specs.Clauses.{IsOpen, IsSaid, KeepsWaiters, MAX_REPLIES, MAX_SERVED, MAX_WAITERS, NotesGrant, Refused};
+ghost use Rattle.serve_command.specs.Clauses.{RequestFits, StandsAt, Step, TakesOneLine, Talk, asked_for, asked_words, codes, entry_of};
+ghost use Rattle.serve_command.specs.Clauses.{halted_line, line_number, reply_to, reply_told, step_words, waiting_told};
 
 use crate::replies::MAX_WAITERS;
 use crate::said_lines::{said_line, turned_line};
@@ -23,16 +23,21 @@ const ALREADY_WAITING: &[u8] = b"already-waiting";
 const WAITERS_FULL: &[u8] = b"waiters-full";
 
 impl<D: Disk> Server<D> {
-    /// Answers a request of a session.
-    pub fn answer_step(&mut self, session: u16, request: &Request) -> Result<(), JournalFull>
+    /// Answers a request of a session, which may wait where there is no room for it, or not.
+    pub fn answer_request(
+        &mut self,
+        session: u16,
+        request: &Request,
+        may_wait: bool,
+    ) -> Result<(), JournalFull>
         requires fits { RequestFits self.old.live.cell request.now }
-        requires open { IsOpen self.old }
+        requires ready { IsOpen self.old }
         ensures answered { (talk : Talk) → StandsAt talk self.old
-            → OnOk result (IsAskAnswered self.old.live.cell talk self.old (Step session request.now) self.new) }
+            → OnOk result (IsAskAnswered self.old.live.cell talk self.old (asked_for session request.now may_wait) self.new) }
         ensures goes_on { OnOk result (TakesOneLine self.old self.new) }
         ensures waiters { OnOk result (KeepsWaiters self.new) }
         ensures full { (talk : Talk) → StandsAt talk self.old
-            → OnErr result (IsJournalFull self.old.live.cell talk (Step session request.now)) }
+            → OnErr result (IsJournalFull self.old.live.cell talk (asked_for session request.now may_wait)) }
         ensures same { OnErr result (self.new ≡ self.old) }
     {
         if self.queue.waiter_of(session).is_some() {
@@ -42,33 +47,7 @@ impl<D: Disk> Server<D> {
         match self.decide(session, request) {
             Ok(None) => Ok(()),
             Ok(Some(why)) => {
-                self.refuse(session, request, why);
-                Ok(())
-            }
-            Err(full) => Err(full),
-        }
-    }
-
-    /// Answers a step of a session that waits where there is no room for it.
-    pub fn answer_wait(&mut self, session: u16, request: &Request) -> Result<(), JournalFull>
-        requires fits { RequestFits self.old.live.cell request.now }
-        requires open { IsOpen self.old }
-        ensures answered { (talk : Talk) → StandsAt talk self.old
-            → OnOk result (IsAskAnswered self.old.live.cell talk self.old (Wait session request.now) self.new) }
-        ensures goes_on { OnOk result (TakesOneLine self.old self.new) }
-        ensures waiters { OnOk result (KeepsWaiters self.new) }
-        ensures full { (talk : Talk) → StandsAt talk self.old
-            → OnErr result (IsJournalFull self.old.live.cell talk (Wait session request.now)) }
-        ensures same { OnErr result (self.new ≡ self.old) }
-    {
-        if self.queue.waiter_of(session).is_some() {
-            self.turn_away(session, request, ALREADY_WAITING);
-            return Ok(());
-        }
-        match self.decide(session, request) {
-            Ok(None) => Ok(()),
-            Ok(Some(why)) => {
-                self.wait_or_refuse(session, request, why);
+                self.answer_refusal(session, request, why, may_wait);
                 Ok(())
             }
             Err(full) => Err(full),
@@ -79,7 +58,7 @@ impl<D: Disk> Server<D> {
     // changes yet.
     fn decide(&mut self, session: u16, request: &Request) -> Result<Option<Refusal>, JournalFull>
         requires fits { RequestFits self.old.live.cell request.now }
-        requires open { IsOpen self.old }
+        requires ready { IsOpen self.old }
         ensures decided { IfOk result (IsDecided self.old session request.now self.new) }
         ensures granted { OnErr result (reply_to self.old.live.cell self.old.live.parts request.now ≡ Granted) }
         ensures full { OnErr result (MAX_SERVED
@@ -158,39 +137,45 @@ impl<D: Disk> Server<D> {
         }
     }
 
-    // Answers a request that was refused.
-    fn refuse(&mut self, session: u16, request: &Request, why: Refusal)
-        requires fits { EntryFits self.old.live.cell (entry_of session request.now (Answered (Refused why))) }
-        requires short { length self.old.replies < MAX_REPLIES }
-        ensures { self.new ≡ record self.old {
-          replies = self.old.replies ++ line_of (step_words self.old.live.cell session request.now (Answered (Refused why))) ∷ [];
-          asked = line_number (self.old.asked + 1);
-        } }
-    {
-        let line = told_line(
-            self.live.core().cell(),
-            session,
-            request,
-            Told::Answered(Reply::Refused(why)),
-        );
-        self.keep(line);
-    }
-
-    // A request was refused: its session waits from now on, if room is all that it lacks and a place is free.
-    fn wait_or_refuse(&mut self, session: u16, request: &Request, why: Refusal)
-        requires open { IsOpen self.old }
+    // Answers a request that was refused: its session waits from now on, if it may, room is all that it lacks and a place is free.
+    fn answer_refusal(&mut self, session: u16, request: &Request, why: Refusal, may_wait: bool)
+        requires ready { IsOpen self.old }
         requires reply { reply_to self.old.live.cell self.old.live.parts request.now ≡ Refused why }
         requires fits { EntryFits self.old.live.cell (entry_of session request.now (Answered (Refused why))) }
         ensures said { (talk : Talk) → StandsAt talk self.old
-            → IsSaid self.old.live.cell talk self.old (halted_line self.old.live.cell (Wait session request.now))
-            (wait_told self.old.live.cell talk session request.now (Refused why)) self.new }
+            → IsSaid self.old.live.cell talk self.old (halted_line self.old.live.cell (Step session request.now))
+            (reply_told self.old.live.cell talk session request.now may_wait (Refused why)) self.new }
         ensures goes_on { TakesOneLine self.old self.new }
         ensures waiters { KeepsWaiters self.new }
     {
-        let Refusal::Saturated { at, .. } = why else {
-            self.refuse(session, request, why);
-            return;
-        };
+        match why {
+            Refusal::Saturated { at, .. } if may_wait => {
+                self.wait_for_room(session, request, why, at);
+            }
+            _ => {
+                let line = told_line(
+                    self.live.core().cell(),
+                    session,
+                    request,
+                    Told::Answered(Reply::Refused(why)),
+                );
+                self.keep(line);
+            }
+        }
+    }
+
+    // A request was refused for the neighborhood of this resource: its session waits from now on, if a place is free.
+    fn wait_for_room(&mut self, session: u16, request: &Request, why: Refusal, at: ResId)
+        requires ready { IsOpen self.old }
+        requires reply { reply_to self.old.live.cell self.old.live.parts request.now ≡ Refused why }
+        requires full { FullAt why at }
+        requires fits { EntryFits self.old.live.cell (entry_of session request.now (Answered (Refused why))) }
+        ensures said { (talk : Talk) → StandsAt talk self.old
+            → IsSaid self.old.live.cell talk self.old (halted_line self.old.live.cell (Step session request.now))
+            (waiting_told talk session request.now why) self.new }
+        ensures goes_on { TakesOneLine self.old self.new }
+        ensures waiters { KeepsWaiters self.new }
+    {
         if self.queue.waiting().len() >= usize::from(MAX_WAITERS) {
             self.turn_away(session, request, WAITERS_FULL);
             return;
@@ -200,7 +185,7 @@ impl<D: Disk> Server<D> {
 
     // A session waits from now on, for a request that was refused for the neighborhood of this resource.
     fn begin_wait(&mut self, session: u16, request: &Request, why: Refusal, at: ResId)
-        requires open { IsOpen self.old }
+        requires ready { IsOpen self.old }
         requires room { length self.old.queue.waiters < MAX_WAITERS }
         requires reply { reply_to self.old.live.cell self.old.live.parts request.now ≡ Refused why }
         requires full { FullAt why at }

@@ -67,7 +67,13 @@ pub fn end_line(cell: &Cell, waiter: &Waiter, reply: &Reply) -> Line
     match reply {
         Reply::Granted => said_line(cell, waiter.session, &waiter.request, b"served", None),
         Reply::Refused(why) => {
-            said_line(cell, waiter.session, &waiter.request, b"dropped", Some(*why))
+            said_line(
+                cell,
+                waiter.session,
+                &waiter.request,
+                b"dropped",
+                Some(*why),
+            )
         }
     }
 }

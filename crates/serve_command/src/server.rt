@@ -38,7 +38,7 @@ impl<D: Disk> Server<D> {
     /// Answers an ask after all that were asked before it. Where it would be granted and the journal has no room, nothing changes.
     pub fn answer(&mut self, ask: &Ask) -> Result<(), JournalFull>
         requires fits { AskFits self.old.live.cell ask.now }
-        requires open { IsOpen self.old }
+        requires ready { IsOpen self.old }
         ensures answered { (talk : Talk) → StandsAt talk self.old
             → OnOk result (IsAskAnswered self.old.live.cell talk self.old ask.now self.new) }
         ensures goes_on { OnOk result (TakesOneLine self.old self.new) }
@@ -47,8 +47,8 @@ impl<D: Disk> Server<D> {
         ensures same { OnErr result (self.new ≡ self.old) }
     {
         match ask {
-            Ask::Step { session, request } => return self.answer_step(*session, request),
-            Ask::Wait { session, request } => return self.answer_wait(*session, request),
+            Ask::Step { session, request } => return self.answer_request(*session, request, false),
+            Ask::Wait { session, request } => return self.answer_request(*session, request, true),
             Ask::Cancel { session } => self.cancel(*session),
             Ask::Count { session } => {
                 let line = count_line(*session, self.counts.of(*session));

@@ -31,8 +31,8 @@ returns-then-not-next_line-clause-stays g c = c.loop-i.invariant.stays
 pub returns-then-not-next_line-clause-waiters : goal.returns-then-not-next_line-clause-waiters
 returns-then-not-next_line-clause-waiters g c = c.loop-i.invariant.waiters
 
-pub answer-requires-clause-open : goal.answer-requires-clause-open
-answer-requires-clause-open g c =
+pub answer-requires-clause-ready : goal.answer-requires-clause-ready
+answer-requires-clause-ready g c =
     let so = c.loop-i.invariant in
     let ready = c.requires.ready in
     record {
