@@ -18,7 +18,6 @@ mod beside;
 mod command;
 mod counts;
 mod deciding;
-pub mod laws;
 mod questions;
 mod replies;
 mod rounds;
