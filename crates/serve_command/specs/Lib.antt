@@ -11,3 +11,5 @@ pub mod Serve
 pub mod ServesAll
 pub mod Serving
 pub mod Sessions
+pub mod Talks
+pub mod Waits
