@@ -1,5 +1,6 @@
 pub mod Answers
 pub mod Asks
+pub mod BoardLaws
 pub mod Clauses
 pub mod Conversing
 pub mod ExactlyOnce
