@@ -1,7 +1,6 @@
 -- A conversation in which each step may wait, and a board of the same opening. Both decide in one order; they differ in the refusals that
 -- they keep of those that wait, which no decision looks at.
-use Rattle.std.proofs.Common.{◌≡◌, ℕ, zero, suc, ◌+◌, Bool, true, false, not, cond, nat_lt, Option, Some, None, List, [], ◌∷◌, ◌++◌, length, map, codes, All, find, refl, sym, ap, subst, ◌∙◌, append_assoc, append-nil}
-use Rattle.std.specs.List.{filter}
+use Rattle.std.proofs.Common.{◌≡◌, ℕ, zero, suc, Bool, true, false, cond, Some, None, List, [], ◌∷◌, ◌++◌, length, map, All, find, refl, sym, ap, subst, ◌∙◌, append_assoc, append-nil}
 use Rattle.std.specs.Option.{option_map_or}
 use Rattle.std.proofs.lemmas.List.{length-map, map-append}
 use Rattle.std.proofs.lemmas.List.Elements.{All-head, All-tail, filter-append}
@@ -9,7 +8,6 @@ use Rattle.cell_base.specs.declared.cells.Cell.{Cell}
 use Rattle.cell_base.specs.declared.requests.Part.{Part}
 use Rattle.cell_base.specs.declared.requests.Refusal.{Refusal}
 use Rattle.cell_base.specs.declared.requests.Refusal.TheVariants.{JobLoaded}
-use Rattle.cell_base.specs.declared.requests.Reply.{Reply}
 use Rattle.cell_base.specs.declared.requests.Reply.TheVariants.{Granted, Refused}
 use Rattle.cell_base.specs.declared.requests.Request.{Request}
 use Rattle.cell_base.specs.declared.requests.Told.{Told}
@@ -20,18 +18,18 @@ use Rattle.cell_base.specs.Histories.{grants, replay}
 use Rattle.cell_base.specs.Outcomes.{reply_to, state_after}
 use Rattle.policy_laws.specs.Decisions.{is_saturation}
 use Rattle.wait_queue.specs.declared.waiter.Waiter.{Waiter}
-use Rattle.wait_queue.specs.Waiting.{Waiting, after_wait, is_ready, renewed, served, served_within, waiter_of, waiting, without_first}
+use Rattle.wait_queue.specs.Waiting.{Waiting, after_wait, is_ready, renewed, served, served_within, waiting, without_first}
 use Rattle.wait_board.specs.declared.entries.BoardEntry.{BoardEntry}
 use Rattle.wait_board.specs.declared.entries.BoardTold.TheVariants as told
 use Rattle.wait_board.specs.Boards.{OnBoard, all_renewed, asked_in_turn, asks_of, entry, is_answer, noted, scan, told_on, with_waiter}
 use Rattle.wait_board.specs.Boards as board
 use Rattle.wait_board.specs.Laws.{ScanLaw, end_in, ends_of, with_ends}
 use Rattle.serve_command.specs.BoardLaws.{BoardLaw, IsBoardAsk, board_entries, board_entries_of}
-use Rattle.serve_command.specs.Talks.{Ends, Said, Talk, Telling, entries_in, opened, reply_told, said_granted, said_none, said_refused}
-use Rattle.serve_command.specs.Talks.{said_to, said_waits, scanned, session_grant, talk_after_one, told_in_turn, waiting_told, where_free}
+use Rattle.serve_command.specs.Talks.{Ends, Said, Talk, Telling, entries_in, opened, said_granted, said_none, said_refused}
+use Rattle.serve_command.specs.Talks.{said_to, said_waits, scanned, session_grant, talk_after_one, told_in_turn}
 use Rattle.serve_command.specs.declared.asks.Ask.{Ask}
 use Rattle.serve_command.specs.declared.asks.Ask.TheVariants.{Step, Wait, Cancel}
-use Rattle.serve_command.specs.declared.replies.TheConstants.{MAX_WAITERS}
+use Rattle.serve_command.proofs.Saying.{request_case}
 use Rattle.serve_command.proofs.Settled.{granted-adds, one-more, scan-stands}
 
 -- ---- waiters without their refusals
@@ -247,39 +245,15 @@ module _ (cell : Cell) where
           history = ap (λ (b : OnBoard). b.history) next;
         }
 
-    waiting-follows : (on : OnBoard) (talk : Talk) (session : ℕ) (request : Request) (why : Refusal) (free : Bool) → IsBeside on talk
-        → reply_to cell (replay cell talk.granted) request ≡ Refused why → is_saturation why ≡ true
-        → Follows on talk (cond free (said_waits talk session request why) (said_none talk session request (codes "waiters-full")))
-    waiting-follows on talk session request why true is refused saturated =
-        waits-follows on talk session request why is refused saturated
-    waiting-follows on talk session request why false is refused saturated =
-        nothing-follows on talk is (said_none talk session request (codes "waiters-full")) refl refl refl
-
-    either-follows : (on : OnBoard) (talk : Talk) (session : ℕ) (request : Request) (why : Refusal) (waits : Bool) → IsBeside on talk
-        → reply_to cell (replay cell talk.granted) request ≡ Refused why → is_saturation why ≡ waits
-        → Follows on talk (cond waits (waiting_told talk session request why) (said_refused talk session request why))
-    either-follows on talk session request why true is refused saturated =
-        waiting-follows on talk session request why (nat_lt (length talk.waiters) MAX_WAITERS) is refused saturated
-    either-follows on talk session request why false is refused other = refused-follows on talk session request why is refused other
-
-    reply-follows : (on : OnBoard) (talk : Talk) (session : ℕ) (request : Request) (r : Reply) → IsBeside on talk
-        → reply_to cell (replay cell talk.granted) request ≡ r → Follows on talk (reply_told cell talk session request true r)
-    reply-follows on talk session request Granted is granted = granted-follows on talk session request is granted
-    reply-follows on talk session request (Refused why) is refused =
-        either-follows on talk session request why (is_saturation why) is refused refl
-
-    free-follows : (on : OnBoard) (talk : Talk) (session : ℕ) (request : Request) (o : Option Waiter) (other : Said) → IsBeside on talk
-        → Follows on talk other → Follows on talk (where_free talk session request o other)
-    free-follows on talk session request (Some w) other is follows =
-        nothing-follows on talk is (said_none talk session request (codes "already-waiting")) refl refl refl
-    free-follows on talk session request None other is follows = follows
-
     ask-follows : (on : OnBoard) (talk : Talk) (ask : Ask) → IsBoardAsk ask → IsBeside on talk → Follows on talk (said_to cell talk ask)
     ask-follows on talk (Step session request) may is = absurd may
     ask-follows on talk (Wait session request) may is =
-        free-follows on talk session request (waiter_of talk.waiters session)
-        (reply_told cell talk session request true (reply_to cell (replay cell talk.granted) request)) is
-        (reply-follows on talk session request (reply_to cell (replay cell talk.granted) request) is refl)
+        request_case cell talk session request true (Follows on talk) (record {
+          granted = granted-follows on talk session request is;
+          refused = λ why refused other. refused-follows on talk session request why is refused other;
+          waits = λ why refused saturated new. waits-follows on talk session request why is refused saturated;
+          turned = λ why. nothing-follows on talk is (said_none talk session request why) refl refl refl;
+        })
     ask-follows on talk (Cancel session) may is = absurd may
     ask-follows on talk ask may is = nothing-follows on talk is (said_to cell talk ask) refl refl refl
 

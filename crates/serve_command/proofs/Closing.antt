@@ -1,27 +1,24 @@
 -- The last line of each step: what becomes of it is told once, or it waits.
 use Rattle.std.specs.Prelude.{◌==◌, ◌&&◌}
-use Rattle.std.proofs.Common.{◌≡◌, ℕ, ◌+◌, ◌≤◌, Bool, true, false, not, cond, nat_lt, Option, Some, None, List, [], ◌∷◌, ◌++◌, length, map, codes, refl, ap, arith}
+use Rattle.std.proofs.Common.{◌≡◌, ℕ, ◌+◌, ◌≤◌, Bool, true, false, cond, Some, List, [], ◌∷◌, map, refl, ap, arith}
 use Rattle.std.proofs.lemmas.Bool.{eqb-true}
 use Rattle.cell_base.specs.declared.cells.Cell.{Cell}
 use Rattle.cell_base.specs.declared.requests.Refusal.{Refusal}
-use Rattle.cell_base.specs.declared.requests.Reply.{Reply}
 use Rattle.cell_base.specs.declared.requests.Reply.TheVariants.{Granted, Refused}
 use Rattle.cell_base.specs.declared.requests.Request.{Request}
 use Rattle.cell_base.specs.declared.requests.Told.TheVariants.{Answered}
 use Rattle.cell_base.specs.declared.shifts.Entry.{Entry}
-use Rattle.cell_base.specs.Histories.{replay, was_granted}
-use Rattle.cell_base.specs.Outcomes.{reply_to}
-use Rattle.policy_laws.specs.Decisions.{is_saturation}
+use Rattle.cell_base.specs.Histories.{was_granted}
 use Rattle.wait_queue.specs.declared.waiter.Waiter.{Waiter}
-use Rattle.wait_queue.specs.Waiting.{is_of_session, served, waiter_of}
+use Rattle.wait_queue.specs.Waiting.{is_of_session, waiter_of, without_first}
 use Rattle.serve_command.specs.ExactlyOnce.{is_last_of, is_step_of, steps_of}
 use Rattle.serve_command.specs.Laws.{is_told_granted, told_times, waiting_times}
-use Rattle.serve_command.specs.Talks.{Cancels, Decides, Ends, Replies, Said, Talk, Telling, Turns, Waits, cancelled, entry_of, reply_told}
-use Rattle.serve_command.specs.Talks.{request_told, said_granted, said_none, said_refused, said_to, said_waits, scanned, talk_after}
-use Rattle.serve_command.specs.Talks.{talk_after_one, told_in_turn, waiting_told, where_free}
+use Rattle.serve_command.specs.Talks.{Cancels, Decides, Ends, Replies, Said, Talk, Telling, Turns, Waits, entry_of}
+use Rattle.serve_command.specs.Talks.{request_told, said, said_granted, said_none, said_refused, said_to, said_waits, scanned, talk_after}
+use Rattle.serve_command.specs.Talks.{talk_after_one, told_in_turn}
 use Rattle.serve_command.specs.declared.asks.Ask.{Ask}
 use Rattle.serve_command.specs.declared.asks.Ask.TheVariants.{Step, Wait, Cancel}
-use Rattle.serve_command.specs.declared.replies.TheConstants.{MAX_WAITERS}
+use Rattle.serve_command.proofs.Saying.{cancel_case, request_case}
 use Rattle.serve_command.proofs.Times.{found-passes, one-leaves, times, times-append, times-cons, times-push}
 use Rattle.serve_command.proofs.Waits.{is_of_entry, of_session, scan-keeps}
 
@@ -72,36 +69,19 @@ module _ (cell : Cell) (session : ℕ) where
             (record { session = own; request = request; refusal = why }),
       )
 
-  waiting-closes : (talk : Talk) (own : ℕ) (request : Request) (why : Refusal) (free : Bool)
-      → Closes talk (one_of own) (cond free (said_waits talk own request why) (said_none talk own request (codes "waiters-full")))
-  waiting-closes talk own request why true = waits-closes talk own request why
-  waiting-closes talk own request why false = none-closes talk own request (codes "waiters-full")
-
-  either-closes : (talk : Talk) (own : ℕ) (request : Request) (why : Refusal) (waits : Bool)
-      → Closes talk (one_of own) (cond waits (waiting_told talk own request why) (said_refused talk own request why))
-  either-closes talk own request why true = waiting-closes talk own request why (nat_lt (length talk.waiters) MAX_WAITERS)
-  either-closes talk own request why false = refused-closes talk own request why
-
-  reply-closes : (talk : Talk) (own : ℕ) (request : Request) (may_wait : Bool) (r : Reply)
-      → Closes talk (one_of own) (reply_told cell talk own request may_wait r)
-  reply-closes talk own request may_wait Granted = granted-closes talk own request
-  reply-closes talk own request may_wait (Refused why) = either-closes talk own request why (may_wait && is_saturation why)
-
-  free-closes : (talk : Talk) (own : ℕ) (request : Request) (o : Option Waiter) (other : Said) → Closes talk (one_of own) other
-      → Closes talk (one_of own) (where_free talk own request o other)
-  free-closes talk own request (Some w) other closes = none-closes talk own request (codes "already-waiting")
-  free-closes talk own request None other closes = closes
-
   request-closes : (talk : Talk) (own : ℕ) (request : Request) (may_wait : Bool)
       → Closes talk (one_of own) (request_told cell talk own request may_wait)
   request-closes talk own request may_wait =
-      free-closes talk own request (waiter_of talk.waiters own)
-      (reply_told cell talk own request may_wait (reply_to cell (replay cell talk.granted) request))
-      (reply-closes talk own request may_wait (reply_to cell (replay cell talk.granted) request))
+      request_case cell talk own request may_wait (Closes talk (one_of own)) (record {
+        granted = λ is. granted-closes talk own request;
+        refused = λ why is no. refused-closes talk own request why;
+        waits = λ why is may new. waits-closes talk own request why;
+        turned = none-closes talk own request;
+      })
 
-  cancel-closes : (talk : Talk) (own : ℕ) (o : Option Waiter) → waiter_of talk.waiters own ≡ o → Closes talk 0 (cancelled talk own o)
-  cancel-closes talk own None is = omega arith
-  cancel-closes talk own (Some w) is =
+  cancel-closes : (talk : Talk) (own : ℕ) (w : Waiter) → waiter_of talk.waiters own ≡ Some w
+      → Closes talk 0 (said (Cancels own (Some w.request)) (without_first (is_of_session own) talk.waiters))
+  cancel-closes talk own w is =
       let same : w.session ≡ own = eqb-true w.session own (found-passes (is_of_session own) talk.waiters w is) in
       let counted : cond (w.session == session) 1 0 ≡ cond (own == session) 1 0 =
       ap {B = ℕ} (λ (k : ℕ). cond (k == session) 1 0) same in
@@ -115,7 +95,7 @@ module _ (cell : Cell) (session : ℕ) where
   ask-closes : (talk : Talk) (ask : Ask) → Closes talk (cond (is_step_of session ask) 1 0) (said_to cell talk ask)
   ask-closes talk (Step own request) = request-closes talk own request false
   ask-closes talk (Wait own request) = request-closes talk own request true
-  ask-closes talk (Cancel own) = cancel-closes talk own (waiter_of talk.waiters own) refl
+  ask-closes talk (Cancel own) = cancel_case talk own (Closes talk 0) (cancel-closes talk own) (omega arith)
   ask-closes talk _ = omega arith
 
   -- as many steps as are asked in turn are told for the last time, or wait

@@ -11,7 +11,7 @@ use Rattle.step_text.specs.Words.{joined}
 use Rattle.serve_command.specs.Answers.{count_of, line_number, telling_line, telling_words}
 use Rattle.serve_command.specs.ExactlyOnce.{Acknowledged, ExactlyOnce, GoesOn, OneGroup, answered_by, granted_by, grants_line, is_last_of, next_told}
 use Rattle.serve_command.specs.ExactlyOnce.{steps_of, told_by, told_then, told_to, unanswered_by}
-use Rattle.serve_command.specs.Laws.{is_told_granted, told_times, waiting_times}
+use Rattle.serve_command.specs.Laws.{is_told_granted, told_times}
 use Rattle.serve_command.specs.Lives.{AreSent, Ending, Halting, IsLive, IsServing, Ready, Serving, Start, grants_then, next_answer, put_then, talk_then}
 use Rattle.serve_command.specs.Talks.{Telling, opened, said_to, since, talk_after_one, told_in_turn}
 use Rattle.serve_command.specs.declared.asks.Ask.{Ask}
@@ -21,7 +21,6 @@ use Rattle.serve_command.proofs.Histories.{counted-lines}
 use Rattle.serve_command.proofs.Grouping.{granted-after, talk-append}
 use Rattle.serve_command.proofs.Telling.{grants_in, grants_in-append, since-lines, told-append}
 use Rattle.serve_command.proofs.Times.{times-append}
-use Rattle.serve_command.proofs.Waits.{of_session}
 
 -- a file stands for one list of grants
 pub stands_for_one : (file text : List ℕ) (one other : List Grant) → StandsFor file text one → StandsFor file text other → one ≡ other

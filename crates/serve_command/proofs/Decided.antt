@@ -1,19 +1,15 @@
 -- What a scan tells is decided in turn: each entry by its outcome, after the grants before it.
 use Rattle.std.specs.Prelude.{⊤}
-use Rattle.std.proofs.Common.{◌≡◌, ℕ, zero, suc, Option, Some, None, List, [], ◌∷◌, ◌++◌, length, refl, sym, ap, subst, ◌∙◌, append_assoc, append-nil, find}
+use Rattle.std.proofs.Common.{◌≡◌, ℕ, zero, suc, Some, None, List, [], ◌∷◌, ◌++◌, refl, sym, ap, subst, ◌∙◌, append_assoc, append-nil, find}
 use Rattle.std.specs.Option.{option_map_or}
 use Rattle.cell_base.specs.declared.cells.Cell.{Cell}
 use Rattle.cell_base.specs.declared.requests.Part.{Part}
-use Rattle.cell_base.specs.declared.requests.Refusal.{Refusal}
 use Rattle.cell_base.specs.declared.requests.Reply.{Reply}
-use Rattle.cell_base.specs.declared.requests.Reply.TheVariants.{Granted, Refused}
-use Rattle.cell_base.specs.declared.requests.Request.{Request}
 use Rattle.cell_base.specs.declared.requests.Told.TheVariants.{Answered}
 use Rattle.cell_base.specs.declared.shifts.Entry.{Entry}
 use Rattle.cell_base.specs.declared.shifts.Grant.{Grant}
 use Rattle.cell_base.specs.Histories.{IsLegal, grants, replay}
-use Rattle.cell_base.specs.Outcomes.{reply_to, state_after}
-use Rattle.wait_queue.specs.declared.waiter.Waiter.{Waiter}
+use Rattle.cell_base.specs.Outcomes.{reply_to}
 use Rattle.wait_queue.specs.Waiting.{Waiting, after_wait, end_of, is_ready, served_within}
 use Rattle.serve_command.specs.Talks.{entry_of}
 use Rattle.serve_command.proofs.Settled.{StandsAfter, grants-append, one-more, step-stands}

@@ -1,11 +1,10 @@
 -- The grants, the history and the record of asks in turn.
 use Rattle.std.specs.Prelude.{◌==◌, ◌&&◌}
-use Rattle.std.proofs.Common.{◌≡◌, ℕ, ◌+◌, Bool, true, false, not, cond, nat_lt, Option, Some, None, List, [], ◌∷◌, ◌++◌, length, map, codes, All, refl, sym, ap, ◌∙◌, subst, arith, append-nil}
+use Rattle.std.proofs.Common.{◌≡◌, ℕ, ◌+◌, Bool, true, false, cond, List, [], ◌∷◌, ◌++◌, length, map, All, refl, sym, ap, ◌∙◌, subst, arith, append-nil}
 use Rattle.std.specs.List.{filter}
 use Rattle.std.proofs.lemmas.List.{length-map}
 use Rattle.std.proofs.lemmas.List.Elements.{All-head, All-tail}
 use Rattle.cell_base.specs.declared.cells.Cell.{Cell}
-use Rattle.cell_base.specs.declared.requests.Refusal.{Refusal}
 use Rattle.cell_base.specs.declared.requests.Reply.{Reply}
 use Rattle.cell_base.specs.declared.requests.Reply.TheVariants.{Granted, Refused}
 use Rattle.cell_base.specs.declared.requests.Request.{Request}
@@ -14,19 +13,17 @@ use Rattle.cell_base.specs.declared.shifts.Entry.{Entry}
 use Rattle.cell_base.specs.declared.shifts.Grant.{Grant}
 use Rattle.cell_base.specs.Histories.{granted_entries, grants, replay, was_granted}
 use Rattle.cell_base.specs.Outcomes.{reply_to}
-use Rattle.policy_laws.specs.Decisions.{is_saturation}
 use Rattle.record_text.specs.Lines.{head_words, line_of}
 use Rattle.cell_texts.specs.Blocks.{entry_line}
-use Rattle.wait_queue.specs.declared.waiter.Waiter.{Waiter}
-use Rattle.wait_queue.specs.Waiting.{waiter_of, waiting}
+use Rattle.wait_queue.specs.Waiting.{waiting}
 use Rattle.serve_command.specs.Answers.{answers, count_of, line_number, reply_after, telling_line}
 use Rattle.serve_command.specs.Laws.{EachOnce, IsAskedStep, IsBlock, IsServedHistory, history_of, is_told_granted, told_times}
-use Rattle.serve_command.specs.Talks.{Cancels, Decides, Ends, Replies, Said, Talk, Telling, Turns, Waits, cancelled, entries_in, entry_of}
-use Rattle.serve_command.specs.Talks.{opened, reply_told, request_told, said, said_granted, said_none, said_refused, said_to, said_waits}
-use Rattle.serve_command.specs.Talks.{scanned, session_grant, talk_after_one, told_in_turn, waiting_told, where_free}
+use Rattle.serve_command.specs.Talks.{Cancels, Decides, Ends, Replies, Said, Talk, Telling, Turns, Waits, entries_in, entry_of}
+use Rattle.serve_command.specs.Talks.{opened, reply_told, request_told, said, said_granted, said_to}
+use Rattle.serve_command.specs.Talks.{scanned, session_grant, talk_after_one, told_in_turn}
 use Rattle.serve_command.specs.declared.asks.Ask.{Ask}
 use Rattle.serve_command.specs.declared.asks.Ask.TheVariants.{Step, Wait, Cancel}
-use Rattle.serve_command.specs.declared.replies.TheConstants.{MAX_WAITERS}
+use Rattle.serve_command.proofs.Saying.{cancel_case, request_case}
 use Rattle.serve_command.proofs.Decided.{AreDecided, decided-append, decided-legal, within-serves}
 use Rattle.serve_command.proofs.Settled.{entries-ends}
 use Rattle.serve_command.proofs.Grouping.{granted-after}
@@ -133,45 +130,20 @@ module _ (cell : Cell) where
       (subst (λ (gs : List Grant). AreDecided cell gs serves.0) (append-nil now) serves.2) in
       (Granted, refl, is, subst (AreDecided cell now) (sym (entries-ends ends)) decided)
 
-  waiting-decided : (talk : Talk) (session : ℕ) (request : Request) (why : Refusal) (free : Bool)
-      → reply_to cell (replay cell talk.granted) request ≡ Refused why
-      → IsDecided talk (cond free (said_waits talk session request why) (said_none talk session request (codes "waiters-full")))
-  waiting-decided talk session request why true is = (Refused why, refl, is, tt)
-  waiting-decided talk session request why false is = tt
-
-  refused-decided : (talk : Talk) (session : ℕ) (request : Request) (why : Refusal) (waits : Bool)
-      → reply_to cell (replay cell talk.granted) request ≡ Refused why
-      → IsDecided talk (cond waits (waiting_told talk session request why) (said_refused talk session request why))
-  refused-decided talk session request why true is =
-      waiting-decided talk session request why (nat_lt (length talk.waiters) MAX_WAITERS) is
-  refused-decided talk session request why false is = (Refused why, refl, is, tt)
-
-  reply-decided : (talk : Talk) (session : ℕ) (request : Request) (may_wait : Bool) (r : Reply)
-      → reply_to cell (replay cell talk.granted) request ≡ r → IsDecided talk (reply_told cell talk session request may_wait r)
-  reply-decided talk session request may_wait Granted is = granted-decided talk session request is
-  reply-decided talk session request may_wait (Refused why) is =
-      refused-decided talk session request why (may_wait && is_saturation why) is
-
-  free-decided : (talk : Talk) (session : ℕ) (request : Request) (o : Option Waiter) (other : Said) → IsDecided talk other
-      → IsDecided talk (where_free talk session request o other)
-  free-decided talk session request (Some w) other is = tt
-  free-decided talk session request None other is = is
-
   request-decided : (talk : Talk) (session : ℕ) (request : Request) (may_wait : Bool)
       → IsDecided talk (request_told cell talk session request may_wait)
   request-decided talk session request may_wait =
-      free-decided talk session request (waiter_of talk.waiters session)
-      (reply_told cell talk session request may_wait (reply_to cell (replay cell talk.granted) request))
-      (reply-decided talk session request may_wait (reply_to cell (replay cell talk.granted) request) refl)
-
-  cancel-decided : (talk : Talk) (session : ℕ) (o : Option Waiter) → IsDecided talk (cancelled talk session o)
-  cancel-decided talk session (Some w) = tt
-  cancel-decided talk session None = tt
+      request_case cell talk session request may_wait (IsDecided talk) (record {
+        granted = granted-decided talk session request;
+        refused = λ why is no. (Refused why, refl, is, tt);
+        waits = λ why is may new. (Refused why, refl, is, tt);
+        turned = λ why. tt;
+      })
 
   ask-decided : (talk : Talk) (ask : Ask) → IsDecided talk (said_to cell talk ask)
   ask-decided talk (Step session request) = request-decided talk session request false
   ask-decided talk (Wait session request) = request-decided talk session request true
-  ask-decided talk (Cancel session) = cancel-decided talk session (waiter_of talk.waiters session)
+  ask-decided talk (Cancel session) = cancel_case talk session (IsDecided talk) (λ w is. tt) tt
   ask-decided talk _ = tt
 
   turns-decided : (talk : Talk) (asked : List Ask) → AreDecided cell talk.granted (history_of cell talk asked)

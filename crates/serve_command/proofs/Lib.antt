@@ -18,6 +18,7 @@ pub mod Printing
 pub mod Refusing
 pub mod RoundLives
 pub mod Rounding
+pub mod Saying
 pub mod Scanning
 pub mod Settled
 pub mod Standing

@@ -1,12 +1,10 @@
 -- The lines that asks in turn are told, the entries that they tell, and the grants of these.
-use Rattle.std.proofs.Common.{◌≡◌, List, [], ◌∷◌, ◌++◌, map, refl, sym, ap, ◌∙◌, append_assoc, append-nil}
-use Rattle.std.proofs.lemmas.List.{map-append}
-use Rattle.std.proofs.lemmas.List.Elements.{filter-append}
+use Rattle.std.proofs.Common.{◌≡◌, List, [], ◌∷◌, ◌++◌, refl, sym, ap, ◌∙◌, append_assoc}
 use Rattle.cell_base.specs.declared.cells.Cell.{Cell}
 use Rattle.cell_base.specs.declared.shifts.Entry.{Entry}
 use Rattle.cell_base.specs.declared.shifts.Grant.{Grant}
-use Rattle.cell_base.specs.Histories.{granted_entries, grants, was_granted}
-use Rattle.serve_command.specs.Talks.{Talk, Telling, Decides, Ends, added_by, entries_in, entries_of_telling, said_to, since, talk_after, talk_after_one, told_in_turn}
+use Rattle.cell_base.specs.Histories.{grants}
+use Rattle.serve_command.specs.Talks.{Talk, Telling, added_by, entries_in, entries_of_telling, said_to, since, talk_after, talk_after_one, told_in_turn}
 use Rattle.serve_command.specs.declared.asks.Ask.{Ask}
 use Rattle.serve_command.proofs.Settled.{grants-append}
 

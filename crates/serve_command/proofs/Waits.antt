@@ -1,28 +1,22 @@
 -- Each wait ends once: the lines that tell of it, and those that wait.
-use Rattle.std.specs.Prelude.{◌==◌, ◌&&◌}
-use Rattle.std.proofs.Common.{◌≡◌, ℕ, zero, suc, ◌+◌, ◌≤◌, Bool, true, false, not, cond, nat_lt, inl, inr, Option, Some, None, List, [], ◌∷◌, ◌++◌, length, map, codes, refl, sym, ap, subst, ◌∙◌, arith, find}
+use Rattle.std.specs.Prelude.{◌==◌}
+use Rattle.std.proofs.Common.{◌≡◌, ℕ, zero, suc, ◌+◌, ◌≤◌, Bool, true, false, cond, inl, inr, Some, None, List, [], ◌∷◌, ◌++◌, length, map, refl, ap, subst, ◌∙◌, arith, find}
 use Rattle.std.specs.Option.{option_map_or}
 use Rattle.std.proofs.lemmas.Bool.{cases_eq, eqb-true, ne_eqb}
 use Rattle.cell_base.specs.declared.cells.Cell.{Cell}
 use Rattle.cell_base.specs.declared.requests.Refusal.{Refusal}
-use Rattle.cell_base.specs.declared.requests.Reply.{Reply}
-use Rattle.cell_base.specs.declared.requests.Reply.TheVariants.{Granted, Refused}
 use Rattle.cell_base.specs.declared.requests.Request.{Request}
-use Rattle.cell_base.specs.declared.requests.Told.TheVariants.{Answered}
 use Rattle.cell_base.specs.declared.shifts.Entry.{Entry}
 use Rattle.cell_base.specs.declared.shifts.Grant.{Grant}
-use Rattle.cell_base.specs.Histories.{grants, replay}
-use Rattle.cell_base.specs.Outcomes.{reply_to}
-use Rattle.policy_laws.specs.Decisions.{is_saturation}
+use Rattle.cell_base.specs.Histories.{replay}
 use Rattle.wait_queue.specs.declared.waiter.Waiter.{Waiter}
-use Rattle.wait_queue.specs.Waiting.{Waiting, after_wait, end_of, is_of_session, is_ready, served, served_within, waiter_of, waiting, without_first}
+use Rattle.wait_queue.specs.Waiting.{Waiting, after_wait, end_of, is_of_session, is_ready, served_within, waiter_of, waiting, without_first}
 use Rattle.serve_command.specs.Laws.{EndsEachWait, StepTest, is_told_cancelled, is_told_end, is_told_waits, told_times, waiting_times}
-use Rattle.serve_command.specs.Talks.{Cancels, Ends, Said, Talk, Waits, cancelled, opened, reply_told, request_told, said_granted, said_none}
-use Rattle.serve_command.specs.Talks.{said_refused, said_to, said_waits, scanned, session_grant, talk_after, talk_after_one, told_in_turn}
-use Rattle.serve_command.specs.Talks.{waiting_told, where_free}
+use Rattle.serve_command.specs.Talks.{Cancels, Ends, Said, Talk, Waits, opened, request_told, said, said_granted}
+use Rattle.serve_command.specs.Talks.{said_to, said_waits, scanned, session_grant, talk_after, talk_after_one, told_in_turn}
 use Rattle.serve_command.specs.declared.asks.Ask.{Ask}
 use Rattle.serve_command.specs.declared.asks.Ask.TheVariants.{Step, Wait, Cancel}
-use Rattle.serve_command.specs.declared.replies.TheConstants.{MAX_WAITERS}
+use Rattle.serve_command.proofs.Saying.{cancel_case, request_case}
 use Rattle.serve_command.proofs.Times.{found-passes, one-leaves, times, times-append, times-cons, times-none, times-push}
 
 -- the steps of a session
@@ -119,39 +113,19 @@ module _ (cell : Cell) where
             (record { session = session; request = request; refusal = why }),
       )
 
-  waiting-balances : (test : StepTest) (talk : Talk) (session : ℕ) (request : Request) (why : Refusal) (free : Bool)
-      → Balances test talk (cond free (said_waits talk session request why) (said_none talk session request (codes "waiters-full")))
-  waiting-balances test talk session request why true = waits-balances test talk session request why
-  waiting-balances test talk session request why false = omega arith
-
-  refused-balances : (test : StepTest) (talk : Talk) (session : ℕ) (request : Request) (why : Refusal) (waits : Bool)
-      → Balances test talk (cond waits (waiting_told talk session request why) (said_refused talk session request why))
-  refused-balances test talk session request why true =
-      waiting-balances test talk session request why (nat_lt (length talk.waiters) MAX_WAITERS)
-  refused-balances test talk session request why false = omega arith
-
-  reply-balances : (test : StepTest) (talk : Talk) (session : ℕ) (request : Request) (may_wait : Bool) (r : Reply)
-      → Balances test talk (reply_told cell talk session request may_wait r)
-  reply-balances test talk session request may_wait Granted = granted-balances test talk session request
-  reply-balances test talk session request may_wait (Refused why) =
-      refused-balances test talk session request why (may_wait && is_saturation why)
-
-  free-balances : (test : StepTest) (talk : Talk) (session : ℕ) (request : Request) (o : Option Waiter) (other : Said)
-      → Balances test talk other → Balances test talk (where_free talk session request o other)
-  free-balances test talk session request (Some w) other balances = omega arith
-  free-balances test talk session request None other balances = balances
-
   request-balances : (test : StepTest) (talk : Talk) (session : ℕ) (request : Request) (may_wait : Bool)
       → Balances test talk (request_told cell talk session request may_wait)
   request-balances test talk session request may_wait =
-      free-balances test talk session request (waiter_of talk.waiters session)
-      (reply_told cell talk session request may_wait (reply_to cell (replay cell talk.granted) request))
-      (reply-balances test talk session request may_wait (reply_to cell (replay cell talk.granted) request))
+      request_case cell talk session request may_wait (Balances test talk) (record {
+        granted = λ is. granted-balances test talk session request;
+        refused = λ why is no. omega arith;
+        waits = λ why is may new. waits-balances test talk session request why;
+        turned = λ why. omega arith;
+      })
 
-  cancel-balances : (test : StepTest) (talk : Talk) (session : ℕ) (o : Option Waiter) → waiter_of talk.waiters session ≡ o
-      → Balances test talk (cancelled talk session o)
-  cancel-balances test talk session None is = omega arith
-  cancel-balances test talk session (Some w) is =
+  cancel-balances : (test : StepTest) (talk : Talk) (session : ℕ) (w : Waiter) → waiter_of talk.waiters session ≡ Some w
+      → Balances test talk (said (Cancels session (Some w.request)) (without_first (is_of_session session) talk.waiters))
+  cancel-balances test talk session w is =
       let own : w.session ≡ session = eqb-true w.session session (found-passes (is_of_session session) talk.waiters w is) in
       let same : cond (test w.session w.request) 1 0 ≡ cond (test session w.request) 1 0 =
       ap {B = ℕ} (λ (k : ℕ). cond (test k w.request) 1 0) own in
@@ -165,7 +139,8 @@ module _ (cell : Cell) where
   ask-balances : (test : StepTest) (talk : Talk) (ask : Ask) → Balances test talk (said_to cell talk ask)
   ask-balances test talk (Step session request) = request-balances test talk session request false
   ask-balances test talk (Wait session request) = request-balances test talk session request true
-  ask-balances test talk (Cancel session) = cancel-balances test talk session (waiter_of talk.waiters session) refl
+  ask-balances test talk (Cancel session) =
+      cancel_case talk session (Balances test talk) (cancel-balances test talk session) (omega arith)
   ask-balances test talk _ = omega arith
 
   -- ---- asks in turn
@@ -227,47 +202,24 @@ module _ (cell : Cell) where
       at_most true = omega arith
       at_most false = omega arith
 
-  waiting-once : (talk : Talk) (session : ℕ) (request : Request) (why : Refusal) (free : Bool) → waiter_of talk.waiters session ≡ None
-      → AreOnce talk.waiters
-      → AreOnce (cond free (said_waits talk session request why) (said_none talk session request (codes "waiters-full"))).waiters
-  waiting-once talk session request why true new once = waits-once talk session request why new once
-  waiting-once talk session request why false new once = once
-
-  refused-once : (talk : Talk) (session : ℕ) (request : Request) (why : Refusal) (waits : Bool) → waiter_of talk.waiters session ≡ None
-      → AreOnce talk.waiters
-      → AreOnce (cond waits (waiting_told talk session request why) (said_refused talk session request why)).waiters
-  refused-once talk session request why true new once =
-      waiting-once talk session request why (nat_lt (length talk.waiters) MAX_WAITERS) new once
-  refused-once talk session request why false new once = once
-
-  reply-once : (talk : Talk) (session : ℕ) (request : Request) (may_wait : Bool) (r : Reply) → waiter_of talk.waiters session ≡ None
-      → AreOnce talk.waiters → AreOnce (reply_told cell talk session request may_wait r).waiters
-  reply-once talk session request may_wait Granted new once = granted-once talk session request once
-  reply-once talk session request may_wait (Refused why) new once =
-      refused-once talk session request why (may_wait && is_saturation why) new once
-
-  free-once : (talk : Talk) (session : ℕ) (request : Request) (o : Option Waiter) (other : Said) → AreOnce talk.waiters
-      → (o ≡ None → AreOnce other.waiters) → AreOnce (where_free talk session request o other).waiters
-  free-once talk session request (Some w) other once new = once
-  free-once talk session request None other once new = new refl
-
   request-once : (talk : Talk) (session : ℕ) (request : Request) (may_wait : Bool) → AreOnce talk.waiters
       → AreOnce (request_told cell talk session request may_wait).waiters
   request-once talk session request may_wait once =
-      free-once talk session request (waiter_of talk.waiters session)
-      (reply_told cell talk session request may_wait (reply_to cell (replay cell talk.granted) request)) once
-      (λ new. reply-once talk session request may_wait (reply_to cell (replay cell talk.granted) request) new once)
-
-  cancel-once : (talk : Talk) (session : ℕ) (o : Option Waiter) → waiter_of talk.waiters session ≡ o → AreOnce talk.waiters
-      → AreOnce (cancelled talk session o).waiters
-  cancel-once talk session None is once = once
-  cancel-once talk session (Some w) is once =
-      no-more talk (cancelled talk session (Some w)) (λ test. refl) (λ test. cancel-balances test talk session (Some w) is) once
+      request_case cell talk session request may_wait (λ (s : Said). AreOnce s.waiters) (record {
+        granted = λ is. granted-once talk session request once;
+        refused = λ why is no. once;
+        waits = λ why is may new. waits-once talk session request why new once;
+        turned = λ why. once;
+      })
 
   ask-once : (talk : Talk) (ask : Ask) → AreOnce talk.waiters → AreOnce (said_to cell talk ask).waiters
   ask-once talk (Step session request) once = request-once talk session request false once
   ask-once talk (Wait session request) once = request-once talk session request true once
-  ask-once talk (Cancel session) once = cancel-once talk session (waiter_of talk.waiters session) refl once
+  ask-once talk (Cancel session) once =
+      cancel_case talk session (λ (s : Said). AreOnce s.waiters)
+      (λ w is. no-more talk (said (Cancels session (Some w.request)) (without_first (is_of_session session) talk.waiters)) (λ test. refl)
+      (λ test. cancel-balances test talk session w is) once)
+      once
   ask-once talk _ once = once
 
   turns-once : (talk : Talk) (asked : List Ask) → AreOnce talk.waiters → AreOnce (talk_after cell talk asked).waiters

@@ -1,6 +1,6 @@
 -- What follows of the answers: nobody waits that could be granted, each wait ends once, each grant is told and counted once, and the steps
 -- are one legal history, of which the output is the record.
-use Rattle.std.specs.Prelude.{◌≡◌, ℕ, ◌+◌, ◌≤◌, ◌==◌, Bool, false, ◌&&◌, Some, List, [], ◌∷◌, ◌++◌, length, ⊤}
+use Rattle.std.specs.Prelude.{◌≡◌, ℕ, ◌+◌, ◌≤◌, ◌==◌, Bool, false, ◌&&◌, Some, List, ◌++◌, length, ⊤}
 use Rattle.std.specs.List.{All, filter}
 use Rattle.cell_base.specs.declared.cells.Cell.{Cell}
 use Rattle.cell_base.specs.declared.requests.Request.{Request}
