@@ -1,6 +1,6 @@
--- What follows of the answers: nobody waits that could be granted, each wait ends once, each grant is told and counted once, and the steps
--- are one legal history, of which the output is the record.
-use Rattle.std.specs.Prelude.{◌≡◌, ℕ, ◌+◌, ◌≤◌, ◌==◌, Bool, false, ◌&&◌, Some, List, ◌++◌, length, ⊤}
+-- What follows of the answers: nobody waits that could be granted, each line is answered once, each wait ends once, each grant is counted
+-- once, and the steps are one legal history, of which the output is the record.
+use Rattle.std.specs.Prelude.{◌≡◌, ℕ, ◌+◌, ◌≤◌, ◌==◌, Bool, true, false, ◌&&◌, Some, List, ◌++◌, length, ⊤}
 use Rattle.std.specs.List.{All, filter}
 use Rattle.cell_base.specs.declared.cells.Cell.{Cell}
 use Rattle.cell_base.specs.declared.requests.Request.{Request}
@@ -22,6 +22,21 @@ use Rattle.serve_command.specs.declared.asks.Ask.TheVariants.{Step}
 abbrev pub StaysSettled : Cell → Type 0
 StaysSettled cell = (opening : List Grant) (asked : List Ask) → IsSettled cell (talk_after cell (opened opening) asked)
 
+-- ---- each line is answered once
+
+-- the line answers one that was sent: it ends no wait
+abbrev pub is_answer : Telling → Bool
+is_answer (Ends entry) = false
+is_answer _ = true
+
+-- how many lines pass a test
+abbrev pub told_times : (Telling → Bool) → List Telling → ℕ
+told_times test told = length (filter test told)
+
+-- as many lines answer as were sent; all others end waits
+abbrev pub AnswersEach : Cell → Type 0
+AnswersEach cell = (talk : Talk) (asked : List Ask) → told_times is_answer (told_in_turn cell talk asked) ≡ length asked
+
 -- ---- each wait ends once
 
 -- The lines that tell of a session's step ..
@@ -42,10 +57,6 @@ is_told_end test _ = false
 abbrev pub is_told_cancelled : StepTest → Telling → Bool
 is_told_cancelled test (Cancels session (Some request)) = test session request
 is_told_cancelled test _ = false
-
--- how many lines pass a test
-abbrev pub told_times : (Telling → Bool) → List Telling → ℕ
-told_times test told = length (filter test told)
 
 -- how many of those that wait pass a test
 abbrev pub waiting_times : StepTest → List Waiter → ℕ

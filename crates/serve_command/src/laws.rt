@@ -2,7 +2,7 @@
 ghost use Rattle.std.specs.Prelude.{List};
 ghost use Rattle.cell_base.specs.declared.shifts.Grant.{Grant};
 ghost use Rattle.serve_command.specs.BoardLaws.{BoardLaw};
-ghost use Rattle.serve_command.specs.Laws.{EachOnce, EndsEachWait, IsBlock, IsServedHistory, StaysSettled};
+ghost use Rattle.serve_command.specs.Laws.{AnswersEach, EachOnce, EndsEachWait, IsBlock, IsServedHistory, StaysSettled};
 ghost use Rattle.serve_command.specs.ExactlyOnce.{Acknowledged, ExactlyOnce, GoesOn, OneGroup};
 ghost use Rattle.serve_command.specs.Lives.{Start};
 ghost use Rattle.serve_command.specs.declared.asks.Ask.{Ask};
@@ -14,6 +14,11 @@ use wait_board::laws::scan_law;
 /// that is to be dropped.
 pub fn nobody_waits_that_could_be_granted(cell: &Cell)
     ensures { StaysSettled cell.now }
+{}
+
+/// As many lines answer as were sent, one each, and all other lines end waits: nothing else is put unasked.
+pub fn each_line_is_answered_once(cell: &Cell)
+    ensures { AnswersEach cell.now }
 {}
 
 /// No session waits twice, and each wait ends once: as many steps as were told that they wait have been served, dropped or cancelled, or
