@@ -1,11 +1,13 @@
 -- What is said of a request, and what that makes of the server.
-use Rattle.std.specs.Prelude.{Option, None, Some}
+use Rattle.std.specs.Prelude.{Option, None, Some, codes}
+use Rattle.std.specs.Option.{is_some}
 use Rattle.std.proofs.Common.{◌≡◌, ℕ, ◌+◌, ◌<◌, ◌≤◌, ◌-◌, All, cond, Bool, true, false, List, [], ◌∷◌}
 use Rattle.std.proofs.Common.{◌++◌, length, map, refl, sym, ap, ◌∙◌, subst, arith, append_assoc, append-nil}
 use Rattle.std.proofs.lemmas.List.{length-append, length-map}
 use Rattle.std.proofs.lemmas.List.Elements.{All-append, All-nil, All-cons, All-head}
 use Rattle.cell_base.specs.declared.cells.Cell.{Cell}
 use Rattle.cell_base.specs.declared.requests.Part.{Part}
+use Rattle.cell_base.specs.declared.requests.Refusal.{Refusal}
 use Rattle.cell_base.specs.declared.requests.Reply.{Reply}
 use Rattle.cell_base.specs.declared.requests.Reply.TheVariants.{Granted, Refused}
 use Rattle.cell_base.specs.declared.requests.Request.{Request}
@@ -22,16 +24,18 @@ use Rattle.record_text.specs.Fitting.{EntryFits}
 use Rattle.record_text.specs.Lines.{line_of}
 use Rattle.wait_queue.specs.declared.waiter.Waiter.{Waiter}
 use Rattle.wait_queue.specs.Queues.{QueueState}
-use Rattle.wait_queue.specs.Waiting.{Waiting, served, waiting}
+use Rattle.wait_queue.specs.Waiting.{Waiting, served, waiter_of, waiting}
 use Rattle.wait_queue.specs.Watching.{AreFit, AreWatching}
 use Rattle.serve_command.specs.Answers.{ended_line, halted_line, line_number, step_words, telling_line}
-use Rattle.serve_command.specs.Serving.{HasCounts, IsJournalFull, IsSaid, KeepsWaiters, StandsAt, Stays, TakesOneLine, first_after}
-use Rattle.serve_command.specs.Talks.{Ends, Talk, Telling, added_by, entries_in, entry_of, said, said_granted, scanned, session_grant}
+use Rattle.serve_command.specs.Serving.{HasCounts, IsAskAnswered, IsJournalFull, IsSaid, KeepsWaiters, StandsAt, Stays, TakesOneLine, first_after}
+use Rattle.serve_command.specs.Talks.{Ends, Said, Talk, Telling, asked_for, entries_in, entry_of, reply_told, request_told, said, said_granted}
+use Rattle.serve_command.specs.Talks.{said_none, said_to, scanned, session_grant, where_free}
 use Rattle.serve_command.specs.Waits.{IsOpen, NotesGrant, Settles}
 use Rattle.serve_command.specs.declared.asks.Ask.TheVariants.{Step}
 use Rattle.serve_command.specs.declared.command.TheConstants.{MAX_SERVED}
 use Rattle.serve_command.specs.declared.server.FirstGrant.{FirstGrant}
 use Rattle.serve_command.specs.declared.server.Server.{Server}
+use Rattle.serve_command.proofs.Refusing.{refusal_leaves}
 use Rattle.serve_command.proofs.Settled.{granted-adds}
 use Rattle.serve_command.proofs.Taking.{stays_more}
 use Rattle.durable_cell.proofs.Replaying.{after_more}
@@ -76,6 +80,22 @@ pub ended-lines : (cell : Cell) (gs : List Grant) (number : ℕ) (told : List En
 ended-lines cell gs number [] = refl
 ended-lines cell gs number (entry ∷ told) =
     ap (λ (ls : List (List ℕ)). ended_line cell entry ∷ ls) (ended-lines cell gs number told)
+
+-- ---- a refusal
+
+-- a live cell stays as it was
+pub asked_same : {D : Type 0} (live : LiveState D) (session : ℕ) (request : Request) (why : Refusal)
+    → reply_to live.cell live.parts request ≡ Refused why → asked live session request ≡ live
+asked_same live session request why refused =
+    let grant : Grant = session_grant session request in
+    let not_here : is_granted (reply_to live.cell live.parts request) ≡ false = ap is_granted refused in
+    let nothing_less : live.spare - 0 ≡ live.spare = omega arith in
+    (λ i. record live {
+      parts = refusal_leaves live.cell live.parts request why refused i;
+      pending = live.pending ++ cond (not_here i) (grant ∷ []) [];
+      spare = live.spare - length (cond (not_here i) (grant ∷ []) []);
+    })
+    ∙ (λ i. record live { pending = append-nil live.pending i; spare = nothing_less i })
 
 -- ---- a line that adds no grant
 
@@ -127,11 +147,6 @@ module _ {D : Type 0} (old new : Server D) (queue : QueueState) (line : List ℕ
     asked = ap (λ (s : Server D). s.asked) is;
   }
 
-  -- the queue that stands there then is kept
-  pub kept_waiters : KeepsWaiters (record old { queue = queue }) → KeepsWaiters new
-  kept_waiters kept = subst (λ (s : Server D). KeepsWaiters s) (sym is)
-      (record { fit = kept.fit; watching = kept.watching; few = kept.few; room = kept.room })
-
 -- ---- a grant
 
 module _ {D : Type 0} (old mid : Server D) (session : ℕ) (request : Request) (ready : IsOpen old)
@@ -166,7 +181,11 @@ module _ {D : Type 0} (old mid : Server D) (session : ℕ) (request : Request) (
   spare_less = omega (arith, ready.spare, ap (λ (l : LiveState D). l.spare) live_more)
 
   replies_more : length mid.replies ≡ length old.replies + 1
-  replies_more = omega (arith, ap (λ (ls : List (List ℕ)). length ls) noted.replies, length-append old.replies (_ ∷ []))
+  replies_more = omega (
+    arith,
+    ap (λ (ls : List (List ℕ)). length ls) noted.replies,
+    length-append old.replies (line_of (step_words cell session request (Answered Granted)) ∷ []),
+  )
 
   -- then the scan may begin
   pub mid_runs : mid.live.is_halted ≡ false
@@ -240,21 +259,19 @@ module _ {D : Type 0} (old mid : Server D) (session : ℕ) (request : Request) (
     pub granted_goes : TakesOneLine old new
     granted_goes =
         let ended = settles.1 in
-        let added = omega (
+        let more : length new.live.pending ≡ length old.live.pending + 1 + length (grants 0 told) = omega (
           arith,
           ap (λ (gs : List Grant). length gs) ended.pending,
           length-append mid.live.pending (grants 0 told),
           pending_more,
         ) in
-        let answered = omega (
+        let lines : length new.replies ≡ length old.replies + 1 + length told = omega (
           arith,
           ap (λ (ls : List (List ℕ)). length ls) ended.replies,
           length-append mid.replies (map (ended_line mid.live.cell) told),
           length-map told (ended_line mid.live.cell),
           replies_more,
         ) in
-        let more : length new.live.pending ≡ length old.live.pending + 1 + length (grants 0 told) = added in
-        let lines : length new.replies ≡ length old.replies + 1 + length told = answered in
         record {
           stays = stays_more old mid new mid_stays ended.stays;
           told = omega (arith, more, lines, grants-few told);
@@ -298,3 +315,62 @@ module _ {D : Type 0} (old mid : Server D) (session : ℕ) (request : Request) (
               ∙ first_of_more old.first (length old.replies) (halted_line cell (Step session request)) grant (grants 0 told)
               ∙ ap (first_after old.first (length old.replies) (halted_line cell (Step session request))) adds;
         }
+
+-- ---- a request that may wait or not
+
+-- a session that is found to wait, or not
+pub none_there : {X : Type 0} (found : Option X) → is_some found ≡ false → found ≡ None
+none_there None is = refl
+none_there (Some x) is = absurd (cc is)
+
+pub some_there : {X : Type 0} (found : Option X) → is_some found ≡ true → (x : X) × (found ≡ Some x)
+some_there None is = absurd (cc is)
+some_there (Some x) is = (x, refl)
+
+module _ (cell : Cell) (talk : Talk) (session : ℕ) (request : Request) where
+  asked_is : (may_wait : Bool) → said_to cell talk (asked_for session request may_wait) ≡ request_told cell talk session request may_wait
+  asked_is true = refl
+  asked_is false = refl
+
+  halted_is : (may_wait : Bool) → halted_line cell (Step session request) ≡ halted_line cell (asked_for session request may_wait)
+  halted_is true = refl
+  halted_is false = refl
+
+  pub asked_waiting : (may_wait : Bool) (waiter : Waiter) → waiter_of talk.waiters session ≡ Some waiter
+      → said_none talk session request (codes "already-waiting") ≡ said_to cell talk (asked_for session request may_wait)
+  asked_waiting may_wait waiter waits = sym (
+      asked_is may_wait
+      ∙ ap (λ (found : Option Waiter). where_free talk session request found
+      (reply_told cell talk session request may_wait (reply_to cell (replay cell talk.granted) request))) waits
+      )
+
+  pub asked_free : (may_wait : Bool) (reply : Reply) → waiter_of talk.waiters session ≡ None
+      → reply_to cell (replay cell talk.granted) request ≡ reply
+      → reply_told cell talk session request may_wait reply ≡ said_to cell talk (asked_for session request may_wait)
+  asked_free may_wait reply free is = sym (
+      asked_is may_wait
+      ∙ ap (λ (found : Option Waiter). where_free talk session request found
+      (reply_told cell talk session request may_wait (reply_to cell (replay cell talk.granted) request))) free
+      ∙ ap (reply_told cell talk session request may_wait) is
+      )
+
+  pub asked_so : {D : Type 0} (old new : Server D) (may_wait : Bool) (said : Said)
+      → said ≡ said_to cell talk (asked_for session request may_wait)
+      → IsSaid cell talk old (halted_line cell (Step session request)) said new
+      → IsAskAnswered cell talk old (asked_for session request may_wait) new
+  asked_so old new may_wait said is so =
+      subst (λ (p : List ℕ × Said). IsSaid cell talk old p.0 p.1 new) (λ i. (halted_is may_wait i, is i)) so
+
+  -- a journal with no room for the grant and those that may follow it
+  pub is_full : {D : Type 0} (old : Server D) (may_wait : Bool) → old.live.cell ≡ cell → StandsAt talk old
+      → waiter_of old.queue.waiters session ≡ None → reply_to cell old.live.parts request ≡ Granted
+      → MAX_SERVED < old.live.len + length old.live.pending + length old.queue.waiters + 1
+      → IsJournalFull cell talk (asked_for session request may_wait)
+  is_full old may_wait cell_is at free granted full =
+      let here : reply_to cell (replay cell talk.granted) request ≡ Granted =
+      ap (λ (ps : List Part). reply_to cell ps request) (sym (at.parts ∙ ap (λ (c : Cell). replay c talk.granted) cell_is)) ∙ granted in
+      let told = asked_free may_wait Granted (ap (λ (ws : List Waiter). waiter_of ws session) (sym at.waiters) ∙ free) here in
+      let added = ap (λ (s : Said). length (grants 0 (entries_in s.told))) told in (
+        omega (arith, added, ap (λ (gs : List Grant). length gs) (granted-adds cell talk session request)),
+        omega (arith, full, at.number, ap (λ (ws : List Waiter). length ws) at.waiters),
+      )

@@ -173,10 +173,12 @@ module _ {D T : Type 0} (disk : DiskMeaning D) (peer : PeerMeaning T D) (start :
             arith,
             at_first.6,
             ap (λ (ls : List (List ℕ)). length ls) all,
-            length-append (answers start.cell talk number ahead) _,
+            length-append (answers start.cell talk number ahead)
+                (answers start.cell (talk_after start.cell talk ahead) (number + length ahead) (next ∷ rest)),
           ) in
           let first_answers : take first.at mid.replies ≡ answers_then start asked ahead =
-          (λ i. take (at_first.6 i) (all i)) ∙ take-append_seam (answers start.cell talk number ahead) _ ∙ numbered ahead in
+          (λ i. take (at_first.6 i) (all i)) ∙ take-append_seam (answers start.cell talk number ahead)
+          (answers start.cell (talk_after start.cell talk ahead) (number + length ahead) (next ∷ rest)) ∙ numbered ahead in
           let some = subst (λ (k : Talk). 0 < length (added_by start.cell k next)) (sym (talk-append start.cell _ asked ahead)) at_first.5 in
           where_told (disk.reads_as old.live.disk) (λ _. RunsTo disk peer t old.live.disk last new (IsLive start))
           (λ file is.

@@ -40,6 +40,34 @@ each : {X : Type 0} (P : Type 0) → P → (xs : List X) → All (λ (x : X). P)
 each P p [] = All-nil (λ x. P)
 each P p (x ∷ xs) = All-cons (λ y. P) x xs p (each P p xs)
 
+-- the group is on the disk and answered
+module _ {D : Type 0} (old mid new : Server D) (stays : Stays old mid) (live_is : new.live ≡ committed mid.live new.live.disk)
+    (queue_is : new.queue ≡ mid.queue) where
+  waiters_kept : KeepsWaiters mid → KeepsWaiters new
+  waiters_kept kept = record {
+    fit = subst (λ (k : Cell × QueueState). AreFit k.0 k.1.waiters)
+        (λ i. (sym (ap (λ (l : LiveState D). l.cell) live_is) i, sym queue_is i)) kept.fit;
+    watching = subst (λ (k : (Cell × List Part) × QueueState). AreWatching k.0.0 k.0.1 k.1.waiters k.1.watches)
+        (λ i. (
+          (sym (ap (λ (l : LiveState D). l.cell) live_is) i, sym (ap (λ (l : LiveState D). l.parts) live_is) i),
+          sym queue_is i,
+        )) kept.watching;
+    few = subst (λ (q : QueueState). length q.waiters ≤ 4096) (sym queue_is) kept.few;
+    room = ap (λ (q : QueueState). q.room) queue_is ∙ kept.room;
+  }
+
+  pub is_ready : HasNoGroup old → KeepsWaiters mid → new.replies ≡ [] → new.first ≡ None → HasNoGroup new
+  is_ready ready kept replies first = record {
+    pending = ap (λ (l : LiveState D). l.pending) live_is;
+    replies = replies;
+    first = first;
+    spare = ap (λ (l : LiveState D). l.spare) live_is ∙ stays.spare
+        ∙ omega (arith, ready.spare, ap (λ (gs : List Grant). length gs) ready.pending);
+    runs = ap (λ (l : LiveState D). l.is_halted) live_is ∙ stays.runs ∙ ready.runs;
+    room = ap (λ (l : LiveState D). l.room) live_is ∙ stays.room ∙ ready.room;
+    waiters = waiters_kept kept;
+  }
+
 module _ {D : Type 0} (reads_as : D → Option (List ℕ)) (may_leave : D → List ℕ → Type 0) (moment : D → ℕ)
     (left_since : D → ℕ → List ℕ → Type 0) (faults : D → ℕ) (sink : SinkTold) (cell_text : List ℕ) (talk : Talk) (text : List ℕ)
     (given : List (List ℕ)) (old mid new : Server D) (lines : LinesState) (stays : Stays old mid) (full : Bool)
@@ -108,19 +136,6 @@ module _ {D : Type 0} (reads_as : D → Option (List ℕ)) (may_leave : D → Li
     module _ (live_is : new.live ≡ committed mid.live new.live.disk) (counts_is : new.counts ≡ mid.counts)
         (queue_is : new.queue ≡ mid.queue) (asked_is : new.asked ≡ mid.asked)
         (stored : Shows reads_as may_leave new.live.disk (λ file. StandsFor file cell_text (grants ++ mid.live.pending))) where
-      pub waiters_kept : KeepsWaiters mid → KeepsWaiters new
-      waiters_kept kept = record {
-        fit = subst (λ (k : Cell × QueueState). AreFit k.0 k.1.waiters)
-            (λ i. (sym (ap (λ (l : LiveState D). l.cell) live_is) i, sym queue_is i)) kept.fit;
-        watching = subst (λ (k : Cell × (List Part × QueueState)). AreWatching k.0 k.1.0 k.1.1.waiters k.1.1.watches)
-            (λ i. (
-              sym (ap (λ (l : LiveState D). l.cell) live_is) i,
-              (sym (ap (λ (l : LiveState D). l.parts) live_is) i, sym queue_is i),
-            )) kept.watching;
-        few = subst (λ (q : QueueState). length q.waiters ≤ 4096) (sym queue_is) kept.few;
-        room = ap (λ (q : QueueState). q.room) queue_is ∙ kept.room;
-      }
-
       stands : Shows reads_as may_leave new.live.disk (λ file. StandsFor file cell_text (grants ++ more))
       stands = subst (λ (gs : List Grant). Shows reads_as may_leave new.live.disk (λ file. StandsFor file cell_text (grants ++ gs)))
           is_group.pending stored
@@ -158,18 +173,6 @@ module _ {D : Type 0} (reads_as : D → Option (List ℕ)) (may_leave : D → Li
         reads = subst (AreGroupLines cell talk text given taken.0 lines) none taken.2;
         took = subst (TookAll sink) is_group.replies took;
         room = within;
-      }
-
-      pub is_ready : HasNoGroup old → KeepsWaiters mid → new.replies ≡ [] → new.first ≡ None → HasNoGroup new
-      is_ready ready kept replies first = record {
-        waiters = waiters_kept kept;
-        pending = ap (λ (l : LiveState D). l.pending) live_is;
-        replies = replies;
-        first = first;
-        spare = ap (λ (l : LiveState D). l.spare) live_is ∙ stays.spare
-            ∙ omega (arith, ready.spare, ap (λ (gs : List Grant). length gs) ready.pending);
-        runs = ap (λ (l : LiveState D). l.is_halted) live_is ∙ stays.runs ∙ ready.runs;
-        room = ap (λ (l : LiveState D). l.room) live_is ∙ stays.room ∙ ready.room;
       }
 
       -- it stops with all grants on the disk
@@ -314,9 +317,14 @@ module _ {D : Type 0} (reads_as : D → Option (List ℕ)) (may_leave : D → Li
           halts_at first at_first (all_lines full taken.2) (delivered (at_first_within at_first))
         where
           at_first_within : IsFirstGrant cell talk (old.asked + 1) asks (Some first) → first.at ≤ length mid.replies
-          at_first_within at_first =
-              let number = old.asked + 1 in
-              let all = ap (λ (ls : List (List ℕ)). length ls)
-              (is_group.replies ∙ ap (answers cell talk number) at_first.3
-              ∙ answers-append cell talk number at_first.0 (at_first.1 ∷ at_first.2)) in
-              omega (arith, at_first.6, all, length-append (answers cell talk number at_first.0) _)
+          at_first_within (before, next, rest, parted, none, some, place, halts) =
+              let number : ℕ = old.asked + 1 in
+              let later : List (List ℕ) = answers cell (talk_after cell talk before) (number + length before) (next ∷ rest) in
+              let all : mid.replies ≡ answers cell talk number before ++ later =
+              is_group.replies ∙ ap (answers cell talk number) parted ∙ answers-append cell talk number before (next ∷ rest) in
+              omega (
+                arith,
+                place,
+                ap (λ (ls : List (List ℕ)). length ls) all,
+                length-append (answers cell talk number before) later,
+              )

@@ -191,6 +191,34 @@ module _ {D : Type 0} (old new : Server D) (waiter : Waiter) (reply : Reply) (li
         room = ap (λ (q : QueueState). q.room) same ∙ kept.room;
       }
 
+-- ---- the queue without a waiter
+
+without-few : (test : Waiter → Bool) (waiters : List Waiter) → length (without_first test waiters) ≤ length waiters
+without-few test [] = omega arith
+without-few test (waiter ∷ waiters) =
+    elim (test waiter) as (λ b. length (cond b waiters (waiter ∷ without_first test waiters)) ≤ length (waiter ∷ waiters)) [
+      | true ↦ omega arith
+      | false ↦ omega (arith, without-few test waiters)
+    ]
+
+-- a queue without the first waiter that passes the test
+pub taken_few : {D : Type 0} (server : Server D) (queue : QueueState) (test : Waiter → Bool)
+    → queue.waiters ≡ without_first test server.queue.waiters → length queue.waiters ≤ length server.queue.waiters
+taken_few server queue test others =
+    omega (arith, without-few test server.queue.waiters, ap (λ (ws : List Waiter). length ws) others)
+
+pub taken_kept : {D : Type 0} (server : Server D) (queue : QueueState) (test : Waiter → Bool) → KeepsWaiters server
+    → queue.waiters ≡ without_first test server.queue.waiters
+    → AreWatching server.live.cell server.live.parts queue.waiters queue.watches → queue.room ≡ server.queue.room
+    → KeepsWaiters (record server { queue = queue })
+taken_kept server queue test kept others watching room = record {
+  fit = subst (AreFit server.live.cell) (sym others)
+      (without-all test (λ (waiter : Waiter). RequestFits server.live.cell waiter.request) server.queue.waiters kept.fit);
+  watching = watching;
+  few = omega (arith, kept.few, taken_few server queue test others);
+  room = room ∙ kept.room;
+}
+
 -- ---- one after the other
 
 module _ {D : Type 0} where
@@ -206,10 +234,32 @@ module _ {D : Type 0} where
       number = omega (arith, at.number, length-append talk.granted []);
       waiters = refl;
     };
-    few = refl;
+    few = omega arith;
     stays = stays_same server;
     asked = refl;
     first = refl;
+  }
+
+  -- the same waiters in another queue
+  pub queue_ended : (start now : Server D) (told : List Entry) (queue : QueueState) → queue.waiters ≡ now.queue.waiters
+      → HaveEnded start told now → HaveEnded start told (record now { queue = queue })
+  queue_ended start now told queue same ended = record {
+    replies = ended.replies;
+    pending = ended.pending;
+    at = λ talk at.
+        let here = ended.at talk at in
+        record { fit = here.fit; parts = here.parts; counts = here.counts; number = here.number; waiters = refl };
+    few = omega (arith, ended.few, ap (λ (ws : List Waiter). length ws) same);
+    stays = record {
+      cell = ended.stays.cell;
+      disk = ended.stays.disk;
+      len = ended.stays.len;
+      room = ended.stays.room;
+      runs = ended.stays.runs;
+      spare = ended.stays.spare;
+    };
+    asked = ended.asked;
+    first = ended.first;
   }
 
   module _ (start now new : Server D) (told : List Entry) (ended : HaveEnded start told now) (queue : QueueState) (waiter : Waiter)

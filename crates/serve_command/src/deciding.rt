@@ -211,7 +211,8 @@ impl<D: Disk> Server<D> {
         requires fits { RequestFits self.old.live.cell request.now }
         requires brief { length why.now ≤ 15 }
         requires short { length self.old.replies < MAX_REPLIES }
-        ensures { self.new ≡ record self.old {
+        ensures waiters { KeepsWaiters self.old → KeepsWaiters self.new }
+        ensures kept { self.new ≡ record self.old {
           replies = self.old.replies
               ++ line_of (asked_words self.old.live.cell session request.now (codes "refused" ∷ why.now ∷ [])) ∷ [];
           asked = line_number (self.old.asked + 1);

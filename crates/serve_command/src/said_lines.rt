@@ -27,11 +27,23 @@ pub fn said_line(
     ensures { result ≡ line_of (asked_words cell.now session request.now (word.now ∷ reason_words cell.now why)) }
 {
     let mut line = asked_line(cell, session, request);
-    line.word(word);
-    if let Some(why) = why {
-        add_why(&mut line, cell, &why);
-    }
+    add_said(&mut line, cell, word, why);
     line.end()
+}
+
+// Appends what is said in one word, and why.
+fn add_said(line: &mut Line, cell: &Cell, word: &[u8], why: Option<Refusal>)
+    requires known { IfSome why (RefusalFits cell.now) }
+    requires brief { length word.now ≤ 7 }
+    requires room { length line.old ≤ 76 }
+    ensures words { line.new ≡ line.old ++ spaced (word.now ∷ reason_words cell.now why) }
+    ensures len { length line.new ≤ length line.old + 76 }
+{
+    line.word(word);
+    match why {
+        Some(why) => add_why(line, cell, &why),
+        None => {}
+    }
 }
 
 /// The same of a request that is not decided: this is why.

@@ -111,7 +111,8 @@ impl<D: Disk> Server<D> {
     /// Keeps the answer to a line.
     pub fn keep(&mut self, line: Line)
         requires short { length self.old.replies < MAX_REPLIES }
-        ensures { self.new ≡ record self.old { replies = self.old.replies ++ line ∷ []; asked = line_number (self.old.asked + 1) } }
+        ensures kept { self.new ≡ record self.old { replies = self.old.replies ++ line ∷ []; asked = line_number (self.old.asked + 1) } }
+        ensures waiters { KeepsWaiters self.old → KeepsWaiters self.new }
     {
         self.replies.push(line);
         self.asked = self.asked.saturating_add(1);

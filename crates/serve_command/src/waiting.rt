@@ -1,11 +1,13 @@
 //! The sessions that wait: how their waits end.
-ghost use Rattle.std.specs.Prelude.{◌≡◌, ◌<◌, ◌≤◌, ◌+◌, ◌++◌, false, length};
+ghost use Rattle.std.specs.Prelude.{◌≡◌, ◌<◌, ◌≤◌, ◌+◌, ◌++◌, ◌∷◌, [], false, length, IfSome};
+ghost use Rattle.std.specs.Fmt.{decimal};
+ghost use Rattle.record_text.specs.Lines.{line_of};
 ghost use Rattle.serve_command.specs.Clauses.{Cancel, EndsWait, IsAskAnswered, KeepsWaiters, MAX_REPLIES, MAX_SERVED, RequestFits, Settles};
-ghost use Rattle.serve_command.specs.Clauses.{StandsAt, TakesOneLine, Talk, still_lines};
+ghost use Rattle.serve_command.specs.Clauses.{StandsAt, TakesOneLine, Talk, codes, line_number, step_or_none, still_lines};
 
 use crate::said_lines::{cancel_line, end_line, still_line};
 use crate::server::Server;
-use cell_base::{Grant, Reply};
+use cell_base::{Grant, Reply, Request};
 use outside_io::Disk;
 use policy_laws::refusal_law;
 use wait_queue::Waiter;
@@ -66,11 +68,24 @@ impl<D: Disk> Server<D> {
         ensures goes_on { TakesOneLine self.old self.new }
         ensures waiters { KeepsWaiters self.new }
     {
-        let cell = self.live.core().cell();
-        let line = match self.queue.cancel(session) {
-            Some(waiter) => cancel_line(cell, session, Some(waiter.request)),
-            None => cancel_line(cell, session, None),
-        };
+        match self.queue.cancel(session) {
+            Some(waiter) => self.tell_cancel(session, Some(waiter.request)),
+            None => self.tell_cancel(session, None),
+        }
+    }
+
+    // Keeps the answer to a session that waits no longer: its step, or that it had none.
+    fn tell_cancel(&mut self, session: u16, request: Option<Request>)
+        requires fits { IfSome request (RequestFits self.old.live.cell) }
+        requires short { length self.old.replies < MAX_REPLIES }
+        ensures waiters { KeepsWaiters self.old → KeepsWaiters self.new }
+        ensures kept { self.new ≡ record self.old {
+          replies = self.old.replies
+              ++ line_of (decimal session ∷ codes "cancel" ∷ step_or_none self.old.live.cell request) ∷ [];
+          asked = line_number (self.old.asked + 1);
+        } }
+    {
+        let line = cancel_line(self.live.core().cell(), session, request);
         self.keep(line);
     }
 
@@ -83,8 +98,8 @@ impl<D: Disk> Server<D> {
         } }
     {
         for i in 0..self.queue.waiting().len() {
-            let line = still_line(self.live.core(), &self.queue.waiting()[i]);
-            self.replies.push(line);
+            let still = still_line(self.live.core(), &self.queue.waiting()[i]);
+            self.replies.push(still);
         }
     }
 }

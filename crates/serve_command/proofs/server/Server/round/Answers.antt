@@ -1,4 +1,5 @@
 -- The group is decided, written and answered, or the conversation stops.
+use Rattle.std.specs.Prelude.{None}
 use Rattle.std.proofs.Common.{ap, arith, inl, map, refl, subst, sym, ◌∙◌, ◌∷◌, []}
 use Rattle.outside_io.specs.Causes.{Rose}
 use Rattle.outside_io.specs.Puts.{TookAll, TookSome}
@@ -14,7 +15,8 @@ use Rattle.serve_command.specs.Lives.{talk_then}
 use Rattle.serve_command.specs.Serve.{full_line}
 use Rattle.serve_command.proofs.Delivering.{delivered_after}
 use Rattle.serve_command.proofs.RoundLives.{answered_lives, filled_lives, halted_at}
-use Rattle.serve_command.proofs.Rounding.{cut_off, fills, goes_on, halts}
+use Rattle.serve_command.specs.declared.server.Server.{Server}
+use Rattle.serve_command.proofs.Rounding.{cut_off, fills, goes_on, halts, is_ready}
 use Rattle.serve_command.proofs.server.Server.round.Goals as goal
 
 pub returns-in-Err-clause-round : goal.returns-in-Err-clause-round
@@ -171,3 +173,10 @@ returns-clause-lives g c = λ start text given served.
 
 pub returns-clause-handed : goal.returns-clause-handed
 returns-clause-handed g c = λ handed. c.in_default-print_beside.ensures.handed (inl handed)
+
+pub returns-clause-ready : goal.returns-clause-ready
+returns-clause-ready g c =
+    let mid = c.take_group-full.new.self in
+    let new : Server _ = record mid { live = c.commit.new.self; replies = c.clear.new.self; first = None } in
+    is_ready c.args.self.now mid new c.take_group-full.ensures.stays c.in_default.ensures.ok refl c.requires.ready
+    c.take_group-full.ensures.waiters c.clear.ensures refl
