@@ -1,7 +1,7 @@
 -- After each ask nobody waits whose request could be granted, or who is to be dropped.
-use Rattle.std.specs.Prelude.{Option, Some, None, codes, nat_lt, ◌&&◌}
+use Rattle.std.specs.Prelude.{Some, None, ◌&&◌}
 use Rattle.std.specs.Option.{option_map_or}
-use Rattle.std.proofs.Common.{◌≡◌, ℕ, zero, suc, ◌<◌, ◌≤◌, Bool, true, false, cond, List, [], ◌∷◌, ◌++◌, length, map, All, find, refl, sym, ap}
+use Rattle.std.proofs.Common.{◌≡◌, ℕ, zero, suc, ◌<◌, Bool, true, false, cond, List, [], ◌∷◌, ◌++◌, length, map, find, refl, sym, ap}
 use Rattle.std.proofs.Common.{◌∙◌, subst, arith, append_assoc, append-nil}
 use Rattle.std.proofs.lemmas.List.{length-map}
 use Rattle.std.proofs.lemmas.List.Elements.{All-nil, All-push}
@@ -19,18 +19,17 @@ use Rattle.cell_base.specs.Outcomes.{reply_to, state_after}
 use Rattle.durable_cell.proofs.Replaying.{after_more}
 use Rattle.policy_laws.specs.Decisions.{is_saturated, is_saturation}
 use Rattle.wait_queue.specs.declared.waiter.Waiter.{Waiter}
-use Rattle.wait_queue.specs.Waiting.{Waiting, after_wait, end_of, is_of_session, is_ready, served, served_within, waiter_of, waiting}
+use Rattle.wait_queue.specs.Waiting.{Waiting, after_wait, end_of, is_of_session, is_ready, served, served_within, waiter_of, waiting, without_first}
 use Rattle.wait_queue.specs.Watching.{HoldsAll}
 use Rattle.wait_queue.proofs.Looks.{without-all}
 use Rattle.wait_queue.proofs.Settling.{after-scan}
 use Rattle.serve_command.specs.Answers.{answer, telling_line}
-use Rattle.serve_command.specs.Talks.{Ends, IsSettled, Said, Talk, Telling, cancelled, entries_in, entry_of, opened, reply_told, request_told}
-use Rattle.serve_command.specs.Talks.{said_granted, said_none, said_refused, said_to, said_waits, scanned, session_grant, talk_after}
-use Rattle.serve_command.specs.Talks.{talk_after_one, waiting_told, where_free}
+use Rattle.serve_command.specs.Talks.{Ends, IsSettled, Said, Talk, cancelled, entries_in, entry_of, opened, request_told, said_granted, said_to}
+use Rattle.serve_command.specs.Talks.{said_waits, scanned, session_grant, talk_after, talk_after_one}
 use Rattle.serve_command.specs.declared.asks.Ask.{Ask}
-use Rattle.serve_command.specs.declared.replies.TheConstants.{MAX_WAITERS}
+use Rattle.serve_command.specs.declared.asks.Ask.TheVariants.{Step, Wait, Cancel}
 use Rattle.serve_command.proofs.Refusing.{refusal_leaves}
-use Rattle.serve_command.specs.declared.asks.Ask.TheVariants.{Step, Wait, Cancel, Count, Last, Why, Job, Next, Room, Left, Nothing}
+use Rattle.serve_command.proofs.Saying.{cancel_case, request_case}
 
 -- ---- the grants of histories
 
@@ -56,47 +55,26 @@ entries-ends (entry ∷ told) = ap (λ (es : List Entry). entry ∷ es) (entries
 
 -- ---- what is told
 
-module _ (cell : Cell) (talk : Talk) (session : ℕ) (request : Request) where
-  waiting_some : (why : Refusal) (free : Bool) → 0 < length (cond free (said_waits talk session request why)
-      (said_none talk session request (codes "waiters-full"))).told
-  waiting_some why true = omega arith
-  waiting_some why false = omega arith
+-- something is told
+abbrev IsTold : Said → Type 0
+IsTold said = 0 < length said.told
 
-  refused_some : (why : Refusal) (waits : Bool) → 0 < length (cond waits (waiting_told talk session request why)
-      (said_refused talk session request why)).told
-  refused_some why true = waiting_some why (nat_lt (length talk.waiters) MAX_WAITERS)
-  refused_some why false = omega arith
-
-  reply_some : (may_wait : Bool) (reply : Reply) → 0 < length (reply_told cell talk session request may_wait reply).told
-  reply_some may_wait Granted = omega arith
-  reply_some may_wait (Refused why) = refused_some why (may_wait && is_saturation why)
-
-  free_some : (waiter : Option Waiter) (other : Said) → 0 < length other.told
-      → 0 < length (where_free talk session request waiter other).told
-  free_some None other some = some
-  free_some (Some waiter) other some = omega arith
+request_told_some : (cell : Cell) (talk : Talk) (session : ℕ) (request : Request) (may_wait : Bool)
+    → IsTold (request_told cell talk session request may_wait)
+request_told_some cell talk session request may_wait =
+    request_case cell talk session request may_wait IsTold (record {
+      granted = λ is. omega arith;
+      refused = λ why is no. omega arith;
+      waits = λ why is may new. omega arith;
+      turned = λ why. omega arith;
+    })
 
 -- each ask is told something
-answer_told : (cell : Cell) (talk : Talk) (ask : Ask) → 0 < length (said_to cell talk ask).told
-answer_told cell talk (Step session request) =
-    free_some cell talk session request (waiter_of talk.waiters session) _
-    (reply_some cell talk session request false (reply_to cell (replay cell talk.granted) request))
-answer_told cell talk (Wait session request) =
-    free_some cell talk session request (waiter_of talk.waiters session) _
-    (reply_some cell talk session request true (reply_to cell (replay cell talk.granted) request))
-answer_told cell talk (Cancel session) = cancelled_some (waiter_of talk.waiters session)
-  where
-    cancelled_some : (waiter : Option Waiter) → 0 < length (cancelled talk session waiter).told
-    cancelled_some None = omega arith
-    cancelled_some (Some waiter) = omega arith
-answer_told cell talk (Count session) = omega arith
-answer_told cell talk (Last session) = omega arith
-answer_told cell talk (Why request) = omega arith
-answer_told cell talk (Job job) = omega arith
-answer_told cell talk Next = omega arith
-answer_told cell talk Room = omega arith
-answer_told cell talk Left = omega arith
-answer_told cell talk Nothing = omega arith
+answer_told : (cell : Cell) (talk : Talk) (ask : Ask) → IsTold (said_to cell talk ask)
+answer_told cell talk (Step session request) = request_told_some cell talk session request false
+answer_told cell talk (Wait session request) = request_told_some cell talk session request true
+answer_told cell talk (Cancel session) = cancel_case talk session IsTold (λ w is. omega arith) (omega arith)
+answer_told cell talk _ = omega arith
 
 pub answer_some : (cell : Cell) (talk : Talk) (number : ℕ) (ask : Ask) → 0 < length (answer cell talk number ask)
 answer_some cell talk number ask =
@@ -175,64 +153,43 @@ module _ (cell : Cell) where
       ∙ ap (λ (gs : List Grant). talk.granted ++ gs) (sym (granted-adds talk session request))))
       (after-scan cell (waiting (replay cell now) talk.waiters []))
 
-  waiting-settled : (talk : Talk) (session : ℕ) (request : Request) (why : Refusal) (free : Bool)
-      → is_saturated (reply_to cell (replay cell talk.granted) request) ≡ true → IsSettled cell talk
-      → SettlesSo talk (cond free (said_waits talk session request why) (said_none talk session request (codes "waiters-full")))
-  waiting-settled talk session request why true full settled =
+  waits-settled : (talk : Talk) (session : ℕ) (request : Request) (why : Refusal)
+      → reply_to cell (replay cell talk.granted) request ≡ Refused why → is_saturation why ≡ true → IsSettled cell talk
+      → SettlesSo talk (said_waits talk session request why)
+  waits-settled talk session request why is full settled =
       let waiter : Waiter = record { session = session; request = request; refusal = why } in
       still-settled talk [] (talk.waiters ++ waiter ∷ []) refl
-      (All-push (λ (w : Waiter). is_saturated (reply_to cell (replay cell talk.granted) w.request) ≡ true) talk.waiters waiter settled full)
-  waiting-settled talk session request why false full settled = still-settled talk [] talk.waiters refl settled
-
-  refused-settled : (talk : Talk) (session : ℕ) (request : Request) (why : Refusal) (waits : Bool)
-      → (waits ≡ true → is_saturated (reply_to cell (replay cell talk.granted) request) ≡ true) → IsSettled cell talk
-      → SettlesSo talk (cond waits (waiting_told talk session request why) (said_refused talk session request why))
-  refused-settled talk session request why true full settled =
-      waiting-settled talk session request why (nat_lt (length talk.waiters) MAX_WAITERS) (full refl) settled
-  refused-settled talk session request why false full settled = still-settled talk [] talk.waiters refl settled
+      (All-push (λ (w : Waiter). is_saturated (reply_to cell (replay cell talk.granted) w.request) ≡ true) talk.waiters waiter settled
+      (ap is_saturated is ∙ full))
 
   both_true : (one other : Bool) → (one && other) ≡ true → other ≡ true
   both_true true other is = is
   both_true false other is = absurd (cc is)
 
-  reply-settled : (talk : Talk) (session : ℕ) (request : Request) (may_wait : Bool) (r : Reply)
-      → reply_to cell (replay cell talk.granted) request ≡ r → IsSettled cell talk
-      → SettlesSo talk (reply_told cell talk session request may_wait r)
-  reply-settled talk session request may_wait Granted is settled = granted-settled talk session request
-  reply-settled talk session request may_wait (Refused why) is settled =
-      refused-settled talk session request why (may_wait && is_saturation why)
-      (λ waits. ap is_saturated is ∙ both_true may_wait (is_saturation why) waits) settled
-
-  free-settled : (talk : Talk) (session : ℕ) (request : Request) (o : Option Waiter) (other : Said) → IsSettled cell talk
-      → SettlesSo talk other → SettlesSo talk (where_free talk session request o other)
-  free-settled talk session request (Some w) other settled new = still-settled talk [] talk.waiters refl settled
-  free-settled talk session request None other settled new = new
-
   request-settled : (talk : Talk) (session : ℕ) (request : Request) (may_wait : Bool) → IsSettled cell talk
       → SettlesSo talk (request_told cell talk session request may_wait)
   request-settled talk session request may_wait settled =
-      free-settled talk session request (waiter_of talk.waiters session) _ settled
-      (reply-settled talk session request may_wait (reply_to cell (replay cell talk.granted) request) refl settled)
+      request_case cell talk session request may_wait (SettlesSo talk) (record {
+        granted = λ is. granted-settled talk session request;
+        refused = λ why is no. still-settled talk [] talk.waiters refl settled;
+        waits = λ why is may new. waits-settled talk session request why is (both_true may_wait (is_saturation why) may) settled;
+        turned = λ why. still-settled talk [] talk.waiters refl settled;
+      })
 
-  cancel-settled : (talk : Talk) (session : ℕ) (o : Option Waiter) → IsSettled cell talk → SettlesSo talk (cancelled talk session o)
-  cancel-settled talk session (Some w) settled =
-      still-settled talk [] _ refl
+  cancel-settled : (talk : Talk) (session : ℕ) → IsSettled cell talk
+      → SettlesSo talk (cancelled talk session (waiter_of talk.waiters session))
+  cancel-settled talk session settled =
+      cancel_case talk session (SettlesSo talk)
+      (λ w is. still-settled talk [] (without_first (is_of_session session) talk.waiters) refl
       (without-all (is_of_session session) (λ (v : Waiter). is_saturated (reply_to cell (replay cell talk.granted) v.request) ≡ true)
-      talk.waiters settled)
-  cancel-settled talk session None settled = still-settled talk [] talk.waiters refl settled
+      talk.waiters settled))
+      (still-settled talk [] talk.waiters refl settled)
 
   pub said-settled : (talk : Talk) (ask : Ask) → IsSettled cell talk → IsSettled cell (talk_after_one cell talk ask)
   said-settled talk (Step session request) settled = request-settled talk session request false settled
   said-settled talk (Wait session request) settled = request-settled talk session request true settled
-  said-settled talk (Cancel session) settled = cancel-settled talk session (waiter_of talk.waiters session) settled
-  said-settled talk (Count session) settled = still-settled talk [] talk.waiters refl settled
-  said-settled talk (Last session) settled = still-settled talk [] talk.waiters refl settled
-  said-settled talk (Why request) settled = still-settled talk [] talk.waiters refl settled
-  said-settled talk (Job job) settled = still-settled talk [] talk.waiters refl settled
-  said-settled talk Next settled = still-settled talk [] talk.waiters refl settled
-  said-settled talk Room settled = still-settled talk [] talk.waiters refl settled
-  said-settled talk Left settled = still-settled talk [] talk.waiters refl settled
-  said-settled talk Nothing settled = still-settled talk [] talk.waiters refl settled
+  said-settled talk (Cancel session) settled = cancel-settled talk session settled
+  said-settled talk _ settled = still-settled talk [] talk.waiters refl settled
 
   talk-settled : (talk : Talk) (asked : List Ask) → IsSettled cell talk → IsSettled cell (talk_after cell talk asked)
   talk-settled talk [] settled = settled

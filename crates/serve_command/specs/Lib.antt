@@ -1,7 +1,10 @@
 pub mod Answers
 pub mod Asks
+pub mod BoardLaws
 pub mod Clauses
 pub mod Conversing
+pub mod ExactlyOnce
+pub mod Laws
 pub mod Lives
 pub mod LivesThrough
 pub mod Rounds

@@ -18,6 +18,7 @@ mod beside;
 mod command;
 mod counts;
 mod deciding;
+pub mod laws;
 mod questions;
 mod replies;
 mod rounds;
