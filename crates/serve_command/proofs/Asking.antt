@@ -2,7 +2,7 @@
 use Rattle.std.specs.Prelude.{Result, codes, if◌then◌else◌, is_none}
 use Rattle.std.specs.Option.{option_map_or, option_or}
 use Rattle.std.specs.Result.{result_ok}
-use Rattle.std.proofs.Common.{◌≡◌, ℕ, ◌<◌, inl, inr, Bool, false, List, [], ◌∷◌, Option}
+use Rattle.std.proofs.Common.{◌≡◌, ℕ, ◌<◌, inl, inr, Bool, false, true, List, [], ◌∷◌, Option}
 use Rattle.std.proofs.Common.{None, Some, refl, length, take, sym, ap, ◌∙◌, arith}
 use Rattle.std.proofs.lemmas.Bool.{cases_lt, lt-leb}
 use Rattle.std.proofs.lemmas.List.{length-take, take_all}
@@ -13,9 +13,11 @@ use Rattle.step_text.specs.declared.faults.StepFault.{StepFault}
 use Rattle.step_text.specs.Steps.{step_of, step_of_words}
 use Rattle.step_text.specs.Words.{words}
 use Rattle.step_text.proofs.Cuts.{words_some}
-use Rattle.serve_command.specs.Asks.{ask_of, ask_of_several, ask_of_session, ask_of_words, is_word, job_asked, request_of}
+use Rattle.serve_command.specs.Asks.{ask_of, ask_of_several, ask_of_words, is_word, job_asked, request_asked, request_of, step_asked}
+use Rattle.serve_command.specs.Asks.{wait_asked}
+use Rattle.std.specs.Str.{bytes_eq}
 use Rattle.serve_command.specs.declared.asks.Ask.{Ask}
-use Rattle.serve_command.specs.declared.asks.Ask.TheVariants.{Count, Last, Nothing, Step}
+use Rattle.serve_command.specs.declared.asks.Ask.TheVariants.{Nothing}
 
 too_long : (cell : Cell) (text : List ℕ) → 66 < length text → ask_of cell text ≡ Nothing
 unfolding ask_of
@@ -53,17 +55,16 @@ module _ {A : Type 0} (text_of : A → List ℕ) (all : List (List ℕ)) (word :
   pub several_asked : (cell : Cell) → ask_of_words cell all ≡ ask_of_several cell word (words (text_of some))
   several_asked cell = ap (ask_of_words cell) all_words ∙ ap (ask_of_several cell word) (sym (words_some (text_of some)).2)
 
+  pub wait_asked_first : (cell : Cell) (session : ℕ) → bytes_eq word (codes "wait") ≡ true
+      → wait_asked cell session (words (text_of some)) ≡ request_asked cell session all
+  wait_asked_first cell session is =
+      let more = words_some (text_of some) in
+      ap (wait_asked cell session) more.2
+      ∙ sym (ap (request_asked cell session) all_words
+      ∙ ap (λ (first : Bool). if first then wait_asked cell session (more.0 ∷ more.1) else step_asked cell session (word ∷ more.0 ∷ more.1)) is)
+
   pub no_job_asked : job_asked all ≡ Nothing
   no_job_asked = ap job_asked all_words
-
--- what a session asks in words that are neither of the two
-pub step_asked : (cell : Cell) (session : ℕ) (ws : List (List ℕ)) → is_word (codes "grants") ws ≡ false → is_word (codes "last") ws ≡ false
-    → (found : Option Request) → found ≡ request_of cell ws → option_map_or (Step session) found Nothing ≡ ask_of_session cell session ws
-step_asked cell session ws no_grants no_last found is =
-    let asked : Option Request → Ask = λ (one : Option Request). option_map_or (Step session) one Nothing in
-    let other : Bool → Ask = λ (last : Bool). if last then Last session else asked (request_of cell ws) in
-    ap asked is
-    ∙ sym (ap (λ (grants : Bool). if grants then Count session else other (is_word (codes "last") ws)) no_grants ∙ ap other no_last)
 
 -- the request of a text is its step, where it has one
 pub step_first : (cell : Cell) (text : List ℕ) (read : Result Request StepFault) → read ≡ step_of cell text

@@ -8,21 +8,19 @@ use Rattle.outside_io.specs.Puts.{SinkTold, TookAll}
 use Rattle.outside_io.specs.Source.{SourceTold}
 use Rattle.cell_base.specs.declared.cells.Cell.{Cell}
 use Rattle.cell_base.specs.declared.shifts.Grant.{Grant}
-use Rattle.cell_base.specs.Histories.{replay}
-use Rattle.cell_base.specs.Plans.{plan_of}
 use Rattle.cell_walks.specs.Observed.{Observed}
 use Rattle.cell_walks.specs.Outcomes.{Outcome}
 use Rattle.cell_walks.specs.Promises.{DiskServes, IsAnswered, Promises, TakesAll}
 use Rattle.cell_walks.specs.Statuses.{status_number}
 use Rattle.cell_walks.specs.declared.status.Status.{Status}
 use Rattle.cell_walks.specs.declared.status.Status.TheVariants.{Done, JournalRefused, SinkFault}
-use Rattle.cell_texts.specs.Blocks.{left_lines}
-use Rattle.serve_command.specs.Answers.{added_by, since}
 use Rattle.serve_command.specs.Asks.{asks_in}
 use Rattle.serve_command.specs.Serve.{EndsServing, FailedDevice, FailedSink, FullJournal, InputEnded, InputLost, IsServed, Stopped, Stops}
-use Rattle.serve_command.specs.Serve.{answered_lines, full_line, serve}
+use Rattle.serve_command.specs.Serve.{answered_lines, full_line, last_lines, serve}
 use Rattle.serve_command.specs.ServesAll.{AllAnswered, IsServedWhole, IsWhole, ServesAll, UpToFull}
+use Rattle.serve_command.specs.Talks.{Talk, added_by, opened, since, talk_after, talk_after_one}
 use Rattle.serve_command.specs.declared.asks.Ask.{Ask}
+use Rattle.serve_command.proofs.Grouping.{granted-after}
 
 -- what holds by itself of each of some holds
 of_some : {X : Type 0} (P : Type 0) (xs : List X) → 0 < length xs → All (λ (x : X). P) xs → P
@@ -30,13 +28,13 @@ of_some P [] some all = absurd (omega (arith, some))
 of_some P (x ∷ xs) some all = All-head (λ y. P) x xs all
 
 -- the grants that are added by an ask and by more asks after it are some
-some_since : (cell : Cell) (grants : List Grant) (next : Ask) (group : List Ask) → 0 < length (added_by cell grants next)
-    → 0 < length (since cell grants (next ∷ group))
-some_since cell grants next group some =
+some_since : (cell : Cell) (talk : Talk) (next : Ask) (group : List Ask) → 0 < length (added_by cell talk next)
+    → 0 < length (since cell talk (next ∷ group))
+some_since cell talk next group some =
     omega (
       arith,
       some,
-      length-append (added_by cell grants next) (since cell (grants ++ added_by cell grants next) group),
+      length-append (added_by cell talk next) (since cell (talk_after_one cell talk next) group),
     )
 
 module _ (cell : Cell) (opening : List Grant) (input : SourceTold) (sink : SinkTold) (number : ℕ) (status : Status)
@@ -46,22 +44,23 @@ module _ (cell : Cell) (opening : List Grant) (input : SourceTold) (sink : SinkT
   asked : List Ask
   asked = served.asked
 
-  ended : EndsServing cell (opening ++ since cell opening served.asked) input (answered_lines cell opening served.asked)
-      (since cell opening served.asked) served.others outcome → IsWhole cell opening input sink served.text number
+  ended : EndsServing cell (talk_after cell (opened opening) served.asked) input (answered_lines cell opening served.asked)
+      (since cell (opened opening) served.asked) served.others outcome → IsWhole cell opening input sink served.text number
   ended (InputEnded none at_end drains is) =
       let all : asks_in cell served.text ≡ served.asked =
       served.split ∙ ap (λ (later : List Ask). served.asked ++ later) none ∙ append-nil served.asked in
       AllAnswered (number_is ∙ ap status_number (status_is ∙ ap (λ (o : Outcome). o.status) is)) at_end
-      (subst (λ (asks : List Ask). length (opening ++ since cell opening asks) ≤ 1572864) (sym all)
-      (omega (
-        arith,
-        served.room,
-        length-append opening (since cell opening served.asked),
-        ap (λ (o : Outcome). length o.added) is,
-      )))
-      (subst (λ (asks : List Ask). let left = replay cell (opening ++ since cell opening asks) in
-      TookAll sink (answered_lines cell opening asks ++ left_lines cell (length left) (plan_of cell left))) (sym all)
-      (subst (TookAll sink) (ap (λ (o : Outcome). o.pieces) is) took))
+      (subst (λ (asks : List Ask). let talk = talk_after cell (opened opening) asks in (length talk.granted ≤ 1572864)
+      × TookAll sink (answered_lines cell opening asks ++ last_lines cell talk)) (sym all) (
+        omega (
+          arith,
+          served.room,
+          ap (λ (gs : List Grant). length gs) (granted-after cell (opened opening) served.asked),
+          length-append opening (since cell (opened opening) served.asked),
+          ap (λ (o : Outcome). length o.added) is,
+        ),
+        subst (TookAll sink) (ap (λ (o : Outcome). o.pieces) is) took,
+      ))
   ended (InputLost none rose is) = absurd (reads rose)
   ended (Stopped (FullJournal next rest others full is)) =
       UpToFull (number_is ∙ ap status_number (status_is ∙ ap (λ (o : Outcome). o.status) is)) served.asked next rest
@@ -69,7 +68,7 @@ module _ (cell : Cell) (opening : List Grant) (input : SourceTold) (sink : SinkT
       (subst (TookAll sink) (ap (λ (o : Outcome). o.pieces) is) took)
   ended (Stopped (FailedDevice next group rest others few some is)) =
       absurd (serves (subst (λ (o : Outcome). 0 < length o.unsure) (sym is)
-      (some_since cell (opening ++ since cell opening served.asked) next group some)))
+      (some_since cell (talk_after cell (opened opening) served.asked) next group some)))
   ended (Stopped (FailedSink is)) = absurd (takes (status_is ∙ ap (λ (o : Outcome). o.status) is))
 
   pub is_whole : IsWhole cell opening input sink served.text number

@@ -6,7 +6,7 @@ use Rattle.std.proofs.lemmas.List.{length-append, length-map, map-append}
 use Rattle.std.proofs.lemmas.List.Elements.{All-nil}
 use Rattle.std.proofs.KnownBytes.{Appends-nil, Appends-trans}
 use Rattle.outside_io.specs.Causes.{Rose}
-use Rattle.outside_io.specs.PutLaws.{failed_after, took_more}
+use Rattle.outside_io.specs.PutLaws.{took_more}
 use Rattle.outside_io.specs.Puts.{SinkTold, TookAll, TookSome, sink_told}
 use Rattle.outside_io.specs.Source.{SourceTold, source_told}
 use Rattle.admission_core.specs.CoreState.{CoreState}
@@ -18,44 +18,47 @@ use Rattle.cell_base.specs.Histories.{replay}
 use Rattle.cell_base.specs.Plans.{Drains, plan_of}
 use Rattle.cell_base.specs.Policy.{IsAdmitted}
 use Rattle.policy_laws.proofs.Plans.{plan_law}
-use Rattle.cell_texts.specs.Blocks.{left_lines, left_in_core}
+use Rattle.cell_texts.specs.Blocks.{left_in_core}
 use Rattle.input_lines.specs.Lines.{lines_after}
 use Rattle.input_lines.specs.Reading.{GivesPiece, AreLinesSoFar, LinesState}
+use Rattle.move_journal.specs.Disks.{Shows}
 use Rattle.move_journal.specs.Journals.{IsBeforeOrAfterAll, StandsFor}
 use Rattle.record_text.specs.Lines.{head_words, line_of}
-use Rattle.cell_walks.specs.Outcomes.{Cut, IsDelivered, Outcome, Whole, early}
+use Rattle.cell_walks.specs.Outcomes.{Cut, IsDelivered, Outcome, early, printed}
 use Rattle.cell_walks.specs.Statuses.{early_line}
 use Rattle.cell_walks.specs.declared.early_end.EarlyEnd.TheVariants.{NotRead}
 use Rattle.cell_walks.specs.declared.status.Status.{Status}
 use Rattle.cell_walks.specs.declared.status.Status.TheVariants.{Done, DeviceFault, JournalRefused, ReadFault, SinkFault}
-use Rattle.serve_command.specs.Answers.{added_by, answers, halted_line, line_number, since}
+use Rattle.serve_command.specs.Answers.{answers, halted_line, line_number, still_lines}
 use Rattle.serve_command.specs.Asks.{ask_of, asks_in}
-use Rattle.serve_command.specs.Conversing.{IsConversing, IsLeftWith, IsServedAfter, fresh_lines}
+use Rattle.serve_command.specs.Conversing.{IsConversing, IsLeftWith, IsServedAfter, end_lines, fresh_lines}
 use Rattle.serve_command.specs.Rounds.{StandsAfter, IsLastRound, IsRound, Moves}
 use Rattle.serve_command.specs.Serve.{FailedDevice, FailedSink, FullJournal, InputEnded, InputLost}
-use Rattle.serve_command.specs.Serve.{Stopped, Stops, answered_lines, full_line}
+use Rattle.serve_command.specs.Serve.{Stopped, Stops, answered_lines, full_line, last_lines}
 use Rattle.serve_command.specs.Serving.{IsJournalFull, HasNoGroup}
+use Rattle.serve_command.specs.Talks.{Talk, added_by, opened, since, talk_after}
 use Rattle.serve_command.specs.declared.asks.Ask.{Ask}
 use Rattle.serve_command.specs.declared.command.TheConstants.{MAX_SERVED}
 use Rattle.serve_command.specs.declared.server.Server.{Server}
 use Rattle.lent_peers.proofs.Flushing.{all_still}
 use Rattle.serve_command.proofs.Delivering.{delivered_after}
-use Rattle.serve_command.proofs.Grouping.{answers-append, answers-known, since-append}
+use Rattle.serve_command.proofs.Grouping.{answers-append, answers-known, granted-after, since-append, talk-append}
 use Rattle.serve_command.proofs.Standing.{left_begins, left_goes, shows_weaker}
 
 -- ---- asks after asks
 
 module _ (cell : Cell) (opening : List Grant) (asked group : List Ask) where
   abbrev earlier : List Grant
-  earlier = since cell opening asked
+  earlier = since cell (opened opening) asked
 
-  abbrev behind : List Grant
-  behind = opening ++ earlier
+  abbrev behind : Talk
+  behind = talk_after cell (opened opening) asked
 
-  all_grants : behind ++ since cell behind group ≡ opening ++ since cell opening (asked ++ group)
-  all_grants =
-      append_assoc opening earlier (since cell behind group)
-      ∙ ap (λ (gs : List Grant). opening ++ gs) (sym (since-append cell opening asked group))
+  all_talk : talk_after cell behind group ≡ talk_after cell (opened opening) (asked ++ group)
+  all_talk = sym (talk-append cell (opened opening) asked group)
+
+  all_added : earlier ++ since cell behind group ≡ since cell (opened opening) (asked ++ group)
+  all_added = sym (since-append cell (opened opening) asked group)
 
   -- the answers to a group come after the lines that were put
   all_lines : (number : ℕ) → line_number number ≡ line_number (length asked)
@@ -63,7 +66,8 @@ module _ (cell : Cell) (opening : List Grant) (asked group : List Ask) where
   all_lines number is =
       ap (λ (ls : List (List ℕ)). answered_lines cell opening asked ++ ls)
       (answers-known cell behind (length asked) number group is ∙ ap (λ (n : ℕ). answers cell behind n group) one_more)
-      ∙ ap (λ (ls : List (List ℕ)). line_of (head_words 0 (length opening)) ∷ ls) (sym (answers-append cell opening 1 asked group))
+      ∙ ap (λ (ls : List (List ℕ)). line_of (head_words 0 (length opening)) ∷ ls)
+      (sym (answers-append cell (opened opening) 1 asked group))
     where
       one_more : length asked + 1 ≡ 1 + length asked
       one_more = omega arith
@@ -79,35 +83,35 @@ module _ (cell : Cell) (opening : List Grant) (asked group : List Ask) where
 
   -- and more asks after those that were not answered
   stops_so : (number : ℕ) → line_number number ≡ line_number (length asked) → (others later : List Ask) (outcome : Outcome)
-      → Stops cell (behind ++ since cell behind group) (answers cell behind (number + 1) group) (since cell behind group) others outcome
-      → Stops cell (opening ++ since cell opening (asked ++ group)) (answered_lines cell opening (asked ++ group))
-      (since cell opening (asked ++ group)) (others ++ later) (after_all outcome)
+      → Stops cell (talk_after cell behind group) (answers cell behind (number + 1) group) (since cell behind group) others outcome
+      → Stops cell (talk_after cell (opened opening) (asked ++ group)) (answered_lines cell opening (asked ++ group))
+      (since cell (opened opening) (asked ++ group)) (others ++ later) (after_all outcome)
   stops_so number is others later outcome (FullJournal next rest parted full outcome_is) =
       FullJournal next (rest ++ later) (ap (λ (l : List Ask). l ++ later) parted)
-      (subst (λ (gs : List Grant). IsJournalFull cell gs next) all_grants full)
+      (subst (λ (k : Talk). IsJournalFull cell k next) all_talk full)
       (ap after_all outcome_is ∙ (λ i. record {
         status = JournalRefused;
         pieces = (sym (append_assoc (answered_lines cell opening asked) (answers cell behind (number + 1) group) (full_line ∷ []))
             ∙ ap (λ (ls : List (List ℕ)). ls ++ full_line ∷ []) (all_lines number is)) i;
-        added = sym (since-append cell opening asked group) i;
+        added = all_added i;
         unsure = [];
       }))
   stops_so number is others later outcome (FailedDevice next decided rest parted few some outcome_is) =
       FailedDevice next decided (rest ++ later)
       (ap (λ (l : List Ask). l ++ later) parted ∙ append_assoc (next ∷ decided) rest later) few
-      (subst (λ (gs : List Grant). 0 < length (added_by cell gs next)) all_grants some)
+      (subst (λ (k : Talk). 0 < length (added_by cell k next)) all_talk some)
       (ap after_all outcome_is ∙ (λ i. record {
         status = DeviceFault;
         pieces = (sym (append_assoc (answered_lines cell opening asked) (answers cell behind (number + 1) group) (halted_line cell next ∷ []))
             ∙ ap (λ (ls : List (List ℕ)). ls ++ halted_line cell next ∷ []) (all_lines number is)) i;
-        added = sym (since-append cell opening asked group) i;
-        unsure = since cell (all_grants i) (next ∷ decided);
+        added = all_added i;
+        unsure = since cell (all_talk i) (next ∷ decided);
       }))
   stops_so number is others later outcome (FailedSink outcome_is) =
       FailedSink (ap after_all outcome_is ∙ (λ i. record {
         status = SinkFault;
         pieces = all_lines number is i;
-        added = sym (since-append cell opening asked group) i;
+        added = all_added i;
         unsure = [];
       }))
 
@@ -143,8 +147,11 @@ module _ {D K : Type 0} (reads_as : D → Option (List ℕ)) (may_leave : D → 
   abbrev number_is : line_number old.asked ≡ line_number (length asked)
   number_is = so_far.asked ∙ ap line_number (sym (length-map given (ask_of cell)))
 
-  abbrev front : List Grant
-  front = opening ++ since cell opening asked
+  abbrev front : Talk
+  front = talk_after cell (opened opening) asked
+
+  front_grants : front.granted ≡ opening ++ since cell (opened opening) asked
+  front_grants = granted-after cell (opened opening) asked
 
   -- a round
   pub round_goes : (c : K) (new : Server D) (later : LinesState) (group : List (List ℕ))
@@ -157,27 +164,30 @@ module _ {D K : Type 0} (reads_as : D → Option (List ℕ)) (may_leave : D → 
       let asks : List Ask = map (ask_of cell) group in
       let every : asked ++ asks ≡ map (ask_of cell) (given ++ group) = sym (map-append (ask_of cell) given group) in
       let more : List Grant = since cell front asks in
-      let grants : front ++ more ≡ opening ++ since cell opening (map (ask_of cell) (given ++ group)) =
-      all_grants cell opening asked asks ∙ ap (λ (l : List Ask). opening ++ since cell opening l) every in
-      let added : since cell opening asked ++ more ≡ since cell opening (map (ask_of cell) (given ++ group)) =
-      sym (since-append cell opening asked asks) ∙ ap (since cell opening) every in
+      let talk_is : talk_after cell front asks ≡ talk_after cell (opened opening) (map (ask_of cell) (given ++ group)) =
+      all_talk cell opening asked asks ∙ ap (talk_after cell (opened opening)) every in
+      let added : since cell (opened opening) asked ++ more ≡ since cell (opened opening) (map (ask_of cell) (given ++ group)) =
+      all_added cell opening asked asks ∙ ap (since cell (opened opening)) every in
+      let behind_is : (talk_after cell front asks).granted ≡ opening ++ since cell (opened opening) asked ++ more =
+      granted-after cell front asks ∙ ap (λ (gs : List Grant). gs ++ more) front_grants in
       record {
         text = so_far.text;
         came = so_far.came;
         reads = round.reads;
         cell_is = round.cell_is;
         asked = round.asked ∙ omega (arith, so_far.asked, length-append given group);
-        stands_after = subst (λ (gs : List Grant). StandsAfter reads_as may_leave cell_text gs new) grants round.stands_after;
+        stands_after = subst (λ (k : Talk). StandsAfter reads_as may_leave cell_text k new) talk_is round.stands_after;
         left = subst (λ (gs : List Grant). IsLeftWith reads_as may_leave moment left_since faults cell_text opening gs [] first
             new.live.disk)
             added
-            (left_goes reads_as may_leave moment left_since faults cell_text opening (since cell opening asked) more [] first old.live.disk
-            new.live.disk so_far.left
-            (subst (λ (gs : List Grant). Moves reads_as moment left_since cell_text front gs old.live.disk new.live.disk)
-            (sym (append-nil more)) round.moves)
+            (left_goes reads_as may_leave moment left_since faults cell_text opening (since cell (opened opening) asked) more [] first
+            old.live.disk new.live.disk so_far.left
+            (subst (λ (p : List Grant × List Grant). Moves reads_as moment left_since cell_text p.0 p.1 old.live.disk new.live.disk)
+            (λ i. (front_grants i, sym (append-nil more) i)) round.moves)
             (shows_weaker reads_as may_leave moment left_since faults cell_text opening new.live.disk
-            (λ file. StandsFor file cell_text (front ++ more))
-            (λ file. IsBeforeOrAfterAll cell_text (front ++ more) [] file) (λ file stands. inl stands) round.stands_after.disk)
+            (λ file. StandsFor file cell_text (talk_after cell front asks).granted)
+            (λ file. IsBeforeOrAfterAll cell_text (opening ++ since cell (opened opening) asked ++ more) [] file)
+            (λ file stands. inl (subst (StandsFor file cell_text) behind_is stands)) round.stands_after.disk)
             (All-nil (λ grant. Rose (faults first) (faults new.live.disk))));
         took = subst (TookAll (sink_told taken was_put sink_faults a c))
             (all_lines cell opening asked asks old.asked number_is
@@ -191,8 +201,9 @@ module _ {D K : Type 0} (reads_as : D → Option (List ℕ)) (may_leave : D → 
         room = omega (
           arith,
           round.room,
-          length-append opening (since cell opening asked),
-          length-append (since cell opening asked) more,
+          ap (λ (gs : List Grant). length gs) front_grants,
+          length-append opening (since cell (opened opening) asked),
+          length-append (since cell (opened opening) asked) more,
           ap (λ (gs : List Grant). length gs) added,
         );
       }
@@ -222,14 +233,19 @@ module _ {D K : Type 0} (reads_as : D → Option (List ℕ)) (may_leave : D → 
           room = omega (
             arith,
             last.room,
-            length-append opening (since cell opening asked),
-            length-append (since cell opening asked) last.outcome.added,
+            ap (λ (gs : List Grant). length gs) front_grants,
+            length-append opening (since cell (opened opening) asked),
+            length-append (since cell (opened opening) asked) last.outcome.added,
           );
         };
         delivered = delivered_after taken was_put sink_faults a b c (answered_lines cell opening asked) so_far.took so_far.sink_still status
             last.outcome outcome refl refl last.delivered;
-        left = left_goes reads_as may_leave moment left_since faults cell_text opening (since cell opening asked) last.outcome.added
-            last.outcome.unsure first old.live.disk new.live.disk so_far.left last.moves last.disk
+        left = left_goes reads_as may_leave moment left_since faults cell_text opening (since cell (opened opening) asked)
+            last.outcome.added last.outcome.unsure first old.live.disk new.live.disk so_far.left
+            (subst (λ (gs : List Grant). Moves reads_as moment left_since cell_text gs (last.outcome.added ++ last.outcome.unsure)
+            old.live.disk new.live.disk) front_grants last.moves)
+            (subst (λ (gs : List Grant). Shows reads_as may_leave new.live.disk
+            (λ file. IsBeforeOrAfterAll cell_text (gs ++ last.outcome.added) last.outcome.unsure file)) front_grants last.disk)
             (subst (λ (n : ℕ). All (λ (grant : Grant). Rose n (faults new.live.disk)) last.outcome.unsure) so_far.disk_still last.cause);
       }
 
@@ -311,7 +327,7 @@ module _ {D : Type 0} (reads_as : D → Option (List ℕ)) (may_leave : D → Li
     stands_after = so_far.stands_after;
     left = so_far.left;
     took = all_still taken was_put sink_faults b c of_put same a (line_of (head_words 0 (length opening)))
-        (answers cell opening 1 (map (ask_of cell) given)) so_far.took;
+        (answers cell (opened opening) 1 (map (ask_of cell) given)) so_far.took;
     sink_still = still ∙ so_far.sink_still;
     input_still = so_far.input_still;
     disk_still = so_far.disk_still;
@@ -336,7 +352,7 @@ module _ {D K S : Type 0} (reads_as : D → Option (List ℕ)) (may_leave : D �
       let outcome : Outcome = record {
         status = ReadFault;
         pieces = answered_lines cell opening asked_all ++ early_line NotRead ∷ [];
-        added = since cell opening asked_all;
+        added = since cell (opened opening) asked_all;
         unsure = [];
       } in
       record {
@@ -360,7 +376,7 @@ module _ {D K S : Type 0} (reads_as : D → Option (List ℕ)) (may_leave : D �
 
 module _ {D K S : Type 0} (reads_as : D → Option (List ℕ)) (may_leave : D → List ℕ → Type 0) (moment : D → ℕ)
     (left_since : D → ℕ → List ℕ → Type 0) (faults : D → ℕ) (cell_text : List ℕ) (opening : List Grant) (server : Server D)
-    (behind : StandsAfter reads_as may_leave cell_text opening server) (ready : HasNoGroup server) (new : server.asked ≡ 0)
+    (behind : StandsAfter reads_as may_leave cell_text (opened opening) server) (ready : HasNoGroup server) (new : server.asked ≡ 0)
     (only_now : (c : List ℕ) → left_since server.live.disk (moment server.live.disk) c → may_leave server.live.disk c)
     (gave : S → Option (List ℕ)) (ended : S → Type 0) (input_faults : S → ℕ) (x y : S) (unread : gave y ≡ gave x)
     (no_read : input_faults y ≡ input_faults x) (taken : K → Option (List ℕ)) (was_put : K → List ℕ → K → Type 0) (sink_faults : K → ℕ) (a b : K) (line : List ℕ)
@@ -390,7 +406,7 @@ module _ {D K S : Type 0} (reads_as : D → Option (List ℕ)) (may_leave : D �
     reads = record { begun = []; kept = refl; goes_on = λ more. refl };
     cell_is = refl;
     asked = ap line_number new;
-    stands_after = subst (λ (gs : List Grant). StandsAfter reads_as may_leave cell_text gs server) (sym (append-nil opening)) behind;
+    stands_after = behind;
     left = nothing_left;
     took = subst (λ (l : List ℕ). TookAll (sink_told taken was_put sink_faults a b) (l ∷ [])) head_is took;
     sink_still = still;
@@ -427,34 +443,38 @@ module _ {D K : Type 0} (reads_as : D → Option (List ℕ)) (may_leave : D → 
     (sink_told taken was_put sink_faults a b) cell cell_text opening
     first server lines given)
     (spent : lines.ahead ≡ []) (at_end : input.ended) (fits : CellFits server.live.cell)
-    (admitted : IsAdmitted server.live.cell server.live.parts) (core : CoreState)
-    (core_is : core ≡ record { cell = server.live.cell; parts = server.live.parts }) where
+    (admitted : IsAdmitted server.live.cell server.live.parts) where
   abbrev asked_to_end : List Ask
   asked_to_end = map (ask_of cell) given
 
-  abbrev left : List Part
-  left = replay cell (opening ++ since cell opening asked_to_end)
+  abbrev talk_to_end : Talk
+  talk_to_end = talk_after cell (opened opening) asked_to_end
 
-  state_is : core ≡ record { cell = cell; parts = left }
-  state_is = core_is ∙ (λ i. record {
-    cell = so_far.cell_is i;
-    parts = (so_far.stands_after.at.parts
-        ∙ ap (λ (c : Cell). replay c (opening ++ since cell opening asked_to_end)) so_far.cell_is) i;
-  })
+  abbrev left : List Part
+  left = replay cell talk_to_end.granted
+
+  parts_are : server.live.parts ≡ left
+  parts_are = so_far.stands_after.at.parts ∙ ap (λ (c : Cell). replay c talk_to_end.granted) so_far.cell_is
 
   drains : Drains cell left (plan_of cell left)
-  drains = subst (λ (s : CoreState). Drains s.cell s.parts (plan_of s.cell s.parts)) (sym core_is ∙ state_is)
+  drains = subst (λ (s : CoreState). Drains s.cell s.parts (plan_of s.cell s.parts))
+      (λ i. record { cell = so_far.cell_is i; parts = parts_are i })
       (plan_law server.live.cell fits server.live.parts admitted).drains
+
+  -- what is put last
+  pub last_lines_are : end_lines server ≡ last_lines cell talk_to_end
+  last_lines_are = λ i. still_lines (so_far.cell_is i) (parts_are i) (so_far.stands_after.at.waiters i)
+      ++ left_in_core (record { cell = so_far.cell_is i; parts = parts_are i })
 
   abbrev whole : Outcome
   whole = record {
     status = Done;
-    pieces = answered_lines cell opening asked_to_end ++ left_lines cell (length left) (plan_of cell left);
-    added = since cell opening asked_to_end;
+    pieces = answered_lines cell opening asked_to_end ++ last_lines cell talk_to_end;
+    added = since cell (opened opening) asked_to_end;
     unsure = [];
   }
 
-  ends_so : (status : Status) → IsDelivered (sink_told taken was_put sink_faults a c) whole status
+  pub ends_so : (status : Status) → IsDelivered (sink_told taken was_put sink_faults b c) (printed Done (end_lines server)) status
       → IsServedAfter reads_as may_leave moment left_since faults input (sink_told taken was_put sink_faults a c) cell cell_text opening
       first server.live.disk status
   ends_so status delivered = record {
@@ -468,28 +488,8 @@ module _ {D K : Type 0} (reads_as : D → Option (List ℕ)) (may_leave : D → 
       ends = InputEnded refl at_end drains refl;
       room = omega (arith, so_far.room);
     };
-    delivered = delivered;
+    delivered = delivered_after taken was_put sink_faults a b c (answered_lines cell opening asked_to_end) so_far.took so_far.sink_still status
+        (printed Done (end_lines server)) whole refl (ap (λ (ls : List (List ℕ)). answered_lines cell opening asked_to_end ++ ls) last_lines_are)
+        delivered;
     left = so_far.left;
   }
-
-  -- the plan was put
-  pub ends_whole : TookAll (sink_told taken was_put sink_faults b c) (left_in_core core) → sink_faults c ≡ sink_faults b
-      → IsServedAfter reads_as may_leave moment left_since faults input (sink_told taken was_put sink_faults a c) cell cell_text opening
-      first server.live.disk Done
-  ends_whole took still =
-      ends_so Done (Whole refl tt
-      (took_more taken was_put sink_faults a b c (answered_lines cell opening asked_to_end)
-      (left_lines cell (length left) (plan_of cell left))
-      so_far.took (subst (λ (s : CoreState). TookAll (sink_told taken was_put sink_faults b c) (left_in_core s)) state_is took))
-      (still ∙ so_far.sink_still))
-
-  -- it was not
-  pub ends_cut : TookSome (sink_told taken was_put sink_faults b c) (left_in_core core) → Rose (sink_faults b) (sink_faults c)
-      → IsServedAfter reads_as may_leave moment left_since faults input (sink_told taken was_put sink_faults a c) cell cell_text opening
-      first server.live.disk SinkFault
-  ends_cut some rose =
-      ends_so SinkFault (Cut refl
-      (failed_after taken was_put sink_faults a b c (answered_lines cell opening asked_to_end)
-      (left_lines cell (length left) (plan_of cell left)) so_far.took
-      (subst (λ (s : CoreState). TookSome (sink_told taken was_put sink_faults b c) (left_in_core s)) state_is some))
-      (subst (λ (n : ℕ). Rose n (sink_faults c)) so_far.sink_still rose))

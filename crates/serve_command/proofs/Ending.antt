@@ -22,7 +22,7 @@ use Rattle.journal_texts.specs.Tests.{to_add}
 use Rattle.serve_command.specs.Conversing.{IsServedAfter, IsServedOnJournal}
 use Rattle.serve_command.specs.Serve.{IsServed, serve}
 use Rattle.serve_command.specs.declared.command.TheConstants.{MAX_SERVED}
-use Rattle.serve_command.specs.declared.replies.TheConstants.{GROUP_LINES}
+use Rattle.serve_command.specs.declared.replies.TheConstants.{MAX_REPLIES}
 use Rattle.serve_command.proofs.Standing.{left_told}
 
 module _ (files : FilesTold) (input : SourceTold) (disk : DiskTold) (sink : SinkTold) (name : List ℕ) (status : Status) where
@@ -49,7 +49,7 @@ module _ (files : FilesTold) (input : SourceTold) (disk : DiskTold) (sink : Sink
 module _ {D : Type 0} (reads_as : D → Option (List ℕ)) (may_leave : D → List ℕ → Type 0) (moment : D → ℕ)
     (left_since : D → ℕ → List ℕ → Type 0) (faults : D → ℕ) where
   pub opened_so : (held : KnownCell) (disk last : D) (live : LiveState D) (opening : List Grant) (input : SourceTold) (sink : SinkTold)
-      (status : Status) → live ≡ fresh held.cell live.disk opening MAX_SERVED GROUP_LINES → AreDue held.cell opening
+      (status : Status) → live ≡ fresh held.cell live.disk opening MAX_SERVED MAX_REPLIES → AreDue held.cell opening
       → IfSome (reads_as disk) (λ file. opened_as held.cell file held.text MAX_SERVED ≡ Ok opening)
       → IsOpened reads_as may_leave moment left_since disk held.text opening live.disk → faults live.disk ≡ faults disk
       → IsServedAfter reads_as may_leave moment left_since faults input sink live.cell held.text opening live.disk last status

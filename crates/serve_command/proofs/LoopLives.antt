@@ -11,39 +11,26 @@ use Rattle.outside_io.specs.Source.{SourceTold}
 use Rattle.outside_io.specs.Telling.{where_told, told, turned}
 use Rattle.cell_base.specs.declared.cells.Cell.{Cell}
 use Rattle.cell_base.specs.declared.shifts.Grant.{Grant}
-use Rattle.admission_core.specs.CoreState.{CoreState}
 use Rattle.cell_base.specs.Histories.{replay}
-use Rattle.cell_base.specs.Plans.{plan_of}
-use Rattle.cell_texts.specs.Blocks.{left_in_core, left_lines}
+use Rattle.cell_texts.specs.Blocks.{left_in_core}
 use Rattle.input_lines.specs.Reading.{LinesState}
 use Rattle.record_text.specs.Lines.{head_words, line_of}
 use Rattle.lent_peers.specs.Beside.{IsBeside}
 use Rattle.peers.specs.Meanings.{PeerMeaning, peer_gave, peer_took}
 use Rattle.peers.specs.Reads.{IsRead}
 use Rattle.peers.specs.Runs.{RunsTo, runs_on}
-use Rattle.serve_command.specs.Answers.{since}
 use Rattle.serve_command.specs.Asks.{ask_of}
-use Rattle.serve_command.specs.Conversing.{IsConversing}
-use Rattle.serve_command.specs.Lives.{AreLast, HasRoom, IsLive, IsServedTo, IsStart, LivesTo, Start, grants_then}
+use Rattle.serve_command.specs.Answers.{still_lines}
+use Rattle.serve_command.specs.Conversing.{IsConversing, end_lines}
+use Rattle.serve_command.specs.Lives.{AreLast, HasRoom, IsLive, IsServedTo, IsStart, LivesTo, Start, talk_then}
 use Rattle.serve_command.specs.Rounds.{StandsAfter}
-use Rattle.serve_command.specs.Serve.{answered_lines}
+use Rattle.serve_command.specs.Serve.{answered_lines, last_lines}
+use Rattle.serve_command.specs.Talks.{Talk, opened, since, talk_after}
 use Rattle.serve_command.specs.declared.command.TheConstants.{MAX_SERVED}
 use Rattle.serve_command.specs.declared.server.Server.{Server}
+use Rattle.serve_command.proofs.Grouping.{granted-after}
 use Rattle.serve_command.proofs.Living.{head_lives, last_run, read_run, sent_so}
 use Rattle.serve_command.proofs.RoundLives.{grown}
-
--- the plan of what is left
-pub left_lines_are : {D : Type 0} (start : Start) (server now : Server D) (given : List (List ℕ)) → server.live.cell ≡ start.cell
-    → now.live.cell ≡ server.live.cell
-    → now.live.parts ≡ replay now.live.cell (start.opening ++ since server.live.cell start.opening (map (ask_of server.live.cell) given))
-    → (core : CoreState) → core ≡ record { cell = now.live.cell; parts = now.live.parts }
-    → let left = replay start.cell (grants_then start (map (ask_of start.cell) given)) in
-    left_in_core core ≡ left_lines start.cell (length left) (plan_of start.cell left)
-left_lines_are start server now given cell_is same parts core core_is =
-    ap left_in_core (core_is ∙ (λ i. record {
-      cell = (same ∙ cell_is) i;
-      parts = (parts ∙ (λ j. replay ((same ∙ cell_is) j) (start.opening ++ since (cell_is j) start.opening (map (ask_of (cell_is j)) given)))) i;
-    }))
 
 module _ {D T : Type 0} (disk : DiskMeaning D) (peer : PeerMeaning T D) (start : Start) where
   -- one run after another
@@ -64,7 +51,7 @@ module _ {D T : Type 0} (disk : DiskMeaning D) (peer : PeerMeaning T D) (start :
   begins_live server a b line is line_is fits beside = where_told (disk.reads_as server.live.disk)
       (λ _. RunsTo disk peer a server.live.disk b server.live.disk (IsLive start))
       (λ file here. head_lives disk peer start
-      (omega (arith, fits, is.stands_after.at.number, length-append start.opening [])) server.live.disk a b
+      (omega (arith, fits, is.stands_after.at.number)) server.live.disk a b
       (subst (λ (l : List ℕ). IsBeside disk peer server.live.disk a b (l ∷ [])) line_is beside) is.given_is is.put_is is.clock
       (told _ _ file here is.stands_after.disk).1)
 
@@ -76,7 +63,7 @@ module _ {D T : Type 0} (disk : DiskMeaning D) (peer : PeerMeaning T D) (start :
   served_to server now a b lines given is so clock = record {
     cell_is = so.cell_is ∙ is.cell_is;
     stands_after = subst (λ (cell : Cell). StandsAfter disk.reads_as disk.may_leave start.text
-        (start.opening ++ since cell start.opening (map (ask_of cell) given)) now) is.cell_is so.stands_after;
+        (talk_after cell (opened start.opening) (map (ask_of cell) given)) now) is.cell_is so.stands_after;
     asked = so.asked;
     reads = so.reads;
     given_is = grown start.given (peer.given b) so.text
@@ -96,9 +83,27 @@ module _ {D T : Type 0} (disk : DiskMeaning D) (peer : PeerMeaning T D) (start :
       server.live.disk now lines given
       → HasRoom start (map (ask_of start.cell) given)
   has_room server now lines given a is so =
-      let added : Cell → List Grant = λ cell. since cell start.opening (map (ask_of cell) given) in
-      subst (λ (cell : Cell). length (start.opening ++ added cell) ≤ MAX_SERVED) is.cell_is
-      (omega (arith, so.room, length-append start.opening (added server.live.cell)))
+      let cell : Cell = server.live.cell in
+      let asks = map (ask_of cell) given in
+      let added : List Grant = since cell (opened start.opening) asks in
+      subst (λ (c : Cell). length (talk_after c (opened start.opening) (map (ask_of c) given)).granted ≤ MAX_SERVED) is.cell_is
+      (omega (
+        arith,
+        so.room,
+        ap (λ (gs : List Grant). length gs) (granted-after cell (opened start.opening) asks),
+        length-append start.opening added,
+      ))
+
+  -- what is put last
+  pub end_lines_are : (now : Server D) (lines : LinesState) (text : List ℕ) (given : List (List ℕ)) (a : T)
+      → IsServedTo disk peer start text given now lines a
+      → end_lines now ≡ last_lines start.cell (talk_then start (map (ask_of start.cell) given))
+  end_lines_are now lines text given a served =
+      let talk : Talk = talk_then start (map (ask_of start.cell) given) in
+      let parts_are : now.live.parts ≡ replay start.cell talk.granted =
+      served.stands_after.at.parts ∙ ap (λ (c : Cell). replay c talk.granted) served.cell_is in
+      λ i. still_lines (served.cell_is i) (parts_are i) (served.stands_after.at.waiters i)
+      ++ left_in_core (record { cell = served.cell_is i; parts = parts_are i })
 
   module _ (now : Server D) (lines : LinesState) (text : List ℕ) (given : List (List ℕ)) (a b : T)
       (served : IsServedTo disk peer start text given now lines a) (room : HasRoom start (map (ask_of start.cell) given)) where
@@ -111,7 +116,7 @@ module _ {D T : Type 0} (disk : DiskMeaning D) (peer : PeerMeaning T D) (start :
         (told _ _ file here served.stands_after.disk).1 read)
 
     -- the last lines are put
-    pub last_lives : (last : List (List ℕ)) → AreLast start.cell (grants_then start (map (ask_of start.cell) given)) last
+    pub last_lives : (last : List (List ℕ)) → AreLast start.cell (talk_then start (map (ask_of start.cell) given)) last
         → IsBeside disk peer now.live.disk a b last → LivesTo disk peer start now.live.disk a now.live.disk b
     last_lives last last_is beside = where_told (disk.reads_as now.live.disk)
         (λ _. RunsTo disk peer a now.live.disk b now.live.disk (IsLive start))
@@ -121,7 +126,7 @@ module _ {D T : Type 0} (disk : DiskMeaning D) (peer : PeerMeaning T D) (start :
         (told _ _ file here served.stands_after.disk).1 beside)
 
     -- a read fails, and that it did is put
-    pub lost_lives : (c : T) (last : List (List ℕ)) → AreLast start.cell (grants_then start (map (ask_of start.cell) given)) last
+    pub lost_lives : (c : T) (last : List (List ℕ)) → AreLast start.cell (talk_then start (map (ask_of start.cell) given)) last
         → IsRead disk peer now.live.disk a b → peer.given b ≡ peer.given a → IsBeside disk peer now.live.disk b c last
         → LivesTo disk peer start now.live.disk a now.live.disk c
     lost_lives c last last_is read unread beside = where_told (disk.reads_as now.live.disk)

@@ -1,7 +1,6 @@
 -- The opening of a conversation, and an end before it, as moments.
 use Rattle.std.specs.Prelude.{Option, Some, IfSome}
 use Rattle.std.proofs.Common.{◌≡◌, ◌⊎◌, ⊎_elim, inl, inr, ℕ, ◌≤◌, List, [], ◌∷◌, length, sym, subst, arith}
-use Rattle.std.proofs.lemmas.List.{length-append}
 use Rattle.outside_io.specs.Disk.{LeavesOnly}
 use Rattle.outside_io.specs.Meanings.{DiskMeaning}
 use Rattle.outside_io.specs.Moments.{started}
@@ -21,6 +20,7 @@ use Rattle.cell_texts.specs.Tests.{KnownCell}
 use Rattle.serve_command.specs.Lives.{IsLive, IsLiveSince, LivesFrom, Ready, Start}
 use Rattle.serve_command.specs.LivesThrough.{IsUnopened, start_of}
 use Rattle.serve_command.specs.Rounds.{StandsAfter}
+use Rattle.serve_command.specs.Talks.{opened}
 use Rattle.serve_command.specs.declared.command.TheConstants.{MAX_SERVED}
 use Rattle.serve_command.specs.declared.server.Server.{Server}
 use Rattle.serve_command.proofs.Living.{none_among, same_bytes}
@@ -88,7 +88,7 @@ module _ {D T : Type 0} (disk : DiskMeaning D) (peer : PeerMeaning T D) (given b
     start = start_of given before held opening
 
     pub lives_since : length opening ≤ MAX_SERVED → (server : Server D) (new : D) (b : T) (file : List ℕ) → disk.reads_as old ≡ Some file
-        → server.live.cell ≡ held.cell → StandsAfter disk.reads_as disk.may_leave held.text opening server
+        → server.live.cell ≡ held.cell → StandsAfter disk.reads_as disk.may_leave held.text (opened opening) server
         → IsOpened disk.reads_as disk.may_leave disk.moment disk.left_since old held.text opening server.live.disk
         → LivesFrom disk peer server a new b → RunsTo disk peer a old b new (IsLiveSince (disk.may_leave old) start)
     lives_since few server new b file is cell_is stands_after opened lives =
@@ -114,7 +114,7 @@ module _ {D T : Type 0} (disk : DiskMeaning D) (peer : PeerMeaning T D) (given b
         (runs_on disk peer a a b opened.found server.live.disk new (IsLiveSince (disk.may_leave old) start)
         (runs_wider disk peer a a opened.found server.live.disk
         (λ at. IsAt (peer.given a) (peer.taken a) at × StandsFor at.image held.text opening) (IsLiveSince (disk.may_leave old) start) made
-        (λ at here. inr (Ready (same_bytes given at.given (peer.given a) given_is here.0.0) (omega (arith, few, length-append opening []))
+        (λ at here. inr (Ready (same_bytes given at.given (peer.given a) given_is here.0.0) (omega (arith, few))
         (subst (λ (put : List ℕ). IsAmong before (line_of (head_words 0 (length opening)) ∷ []) put)
         (sym (same_bytes before at.put (peer.taken a) put_is here.0.1))
         (none_among before (line_of (head_words 0 (length opening)) ∷ []))) here.1)))

@@ -1,44 +1,40 @@
--- What is answered to asks, one after the other, and which grants they add.
-use Rattle.std.specs.Prelude.{codes, ℕ, ◌+◌, ◌-◌, cond, min, List, [], ◌∷◌, ◌++◌, length, Option, Some, None}
+-- The lines that answer asks, one after the other.
+use Rattle.std.specs.Prelude.{codes, ℕ, ◌+◌, ◌-◌, min, List, [], ◌∷◌, ◌++◌, length, map, Option, Some, None}
 use Rattle.std.specs.Fmt.{decimal}
 use Rattle.std.specs.List.{last_or}
 use Rattle.cell_base.specs.declared.cells.Cell.{Cell}
 use Rattle.cell_base.specs.declared.requests.JobId.{JobId}
 use Rattle.cell_base.specs.declared.requests.Part.{Part}
+use Rattle.cell_base.specs.declared.requests.Refusal.{Refusal}
 use Rattle.cell_base.specs.declared.requests.Reply.{Reply}
+use Rattle.cell_base.specs.declared.requests.Reply.TheVariants.{Granted, Refused}
 use Rattle.cell_base.specs.declared.requests.Request.{Request}
 use Rattle.cell_base.specs.declared.requests.Told.{Told}
 use Rattle.cell_base.specs.declared.requests.Told.TheVariants.{Answered, Halted}
 use Rattle.cell_base.specs.declared.shifts.Entry.{Entry}
 use Rattle.cell_base.specs.declared.shifts.Grant.{Grant}
-use Rattle.cell_base.specs.Histories.{is_granted, replay}
+use Rattle.cell_base.specs.Histories.{replay}
 use Rattle.cell_base.specs.Named.{resource_name, type_name}
 use Rattle.cell_base.specs.Outcomes.{part_of, reply_to}
 use Rattle.cell_base.specs.Plans.{plan_step, resource_of_part}
 use Rattle.cell_base.specs.Scripts.{granted_to}
-use Rattle.record_text.specs.Lines.{entry_words, left_words, line_of, told_words}
+use Rattle.record_text.specs.Lines.{entry_words, left_words, line_of, told_words, why_words}
 use Rattle.step_text.specs.Steps.{done_word, request_words}
+use Rattle.wait_queue.specs.declared.waiter.Waiter.{Waiter}
 use Rattle.serve_command.specs.declared.asks.Ask.{Ask}
-use Rattle.serve_command.specs.declared.asks.Ask.TheVariants.{Step, Count, Last, Why, Job, Next, Room, Left, Nothing}
+use Rattle.serve_command.specs.declared.asks.Ask.TheVariants.{Step, Wait, Count, Last, Why, Job, Next, Room, Left}
 use Rattle.serve_command.specs.declared.command.TheConstants.{MAX_SERVED}
+use Rattle.serve_command.specs.Talks.{Cancels, Decides, Ends, Replies, Talk, Telling, Turns, Waits, entry_of, said_to, talk_after_one}
 
 -- what a request is told after these grants
 abbrev pub reply_after : Cell → List Grant → Request → Reply
 reply_after cell grants request = reply_to cell (replay cell grants) request
 
--- the grant of a session's request, which is of shift 0
-abbrev pub session_grant : ℕ → Request → Grant
-session_grant session request = record { shift = 0; session = session; request = request }
-
 -- how many of these grants a session has
 abbrev pub count_of : ℕ → List Grant → ℕ
 count_of session grants = length (granted_to 0 session grants)
 
--- what a session asked for and was told
-abbrev pub entry_of : ℕ → Request → Told → Entry
-entry_of session request told = record { session = session; request = request; told = told }
-
--- the words of its line
+-- the words of what a session is told of its request
 abbrev pub step_words : Cell → ℕ → Request → Told → List (List ℕ)
 step_words cell session request told = entry_words cell (entry_of session request told)
 
@@ -62,46 +58,85 @@ job_words cell job (Some part) =
     ∷ done_word part.done ∷ []
 job_words cell job None = codes "job" ∷ decimal job.0 ∷ codes "none" ∷ []
 
--- the words of the answer to an ask after these grants, which is that of the line of this number
-abbrev pub answer_words : Cell → List Grant → ℕ → Ask → List (List ℕ)
-answer_words cell grants number (Step session request) = step_words cell session request (Answered (reply_after cell grants request))
-answer_words cell grants number (Count session) = decimal session ∷ codes "grants" ∷ decimal (count_of session grants) ∷ []
-answer_words cell grants number (Last session) = last_words cell session (count_of session grants) (last_of session grants)
-answer_words cell grants number (Why request) =
+-- the words of the answer to a question after these grants, which is that of the line of this number
+abbrev pub reply_words : Cell → List Grant → ℕ → Ask → List (List ℕ)
+reply_words cell grants number (Count session) = decimal session ∷ codes "grants" ∷ decimal (count_of session grants) ∷ []
+reply_words cell grants number (Last session) = last_words cell session (count_of session grants) (last_of session grants)
+reply_words cell grants number (Why request) =
     codes "why" ∷ request_words cell request ++ told_words cell (Answered (reply_after cell grants request))
-answer_words cell grants number (Job job) = job_words cell job (part_of (replay cell grants) job)
-answer_words cell grants number Next = codes "next" ∷ step_or_none cell (plan_step cell (replay cell grants))
-answer_words cell grants number Room = codes "room" ∷ decimal (MAX_SERVED - length grants) ∷ []
-answer_words cell grants number Left = left_words (length (replay cell grants))
-answer_words cell grants number Nothing = codes "line" ∷ codes "refused" ∷ decimal number ∷ []
+reply_words cell grants number (Job job) = job_words cell job (part_of (replay cell grants) job)
+reply_words cell grants number Next = codes "next" ∷ step_or_none cell (plan_step cell (replay cell grants))
+reply_words cell grants number Room = codes "room" ∷ decimal (MAX_SERVED - length grants) ∷ []
+reply_words cell grants number Left = left_words (length (replay cell grants))
+reply_words cell grants number _ = codes "line" ∷ codes "refused" ∷ decimal number ∷ []
 
--- its line
-abbrev pub answer : Cell → List Grant → ℕ → Ask → List ℕ
-answer cell grants number ask = line_of (answer_words cell grants number ask)
+-- the words of a session's request, and what is said of it
+abbrev pub asked_words : Cell → ℕ → Request → List (List ℕ) → List (List ℕ)
+asked_words cell session request more = decimal session ∷ request_words cell request ++ more
 
--- the grant that an ask adds after these: none where it is refused, or where it asks for no step
-abbrev pub added_by : Cell → List Grant → Ask → List Grant
-added_by cell grants (Step session request) =
-    cond (is_granted (reply_after cell grants request)) (session_grant session request ∷ []) []
-added_by cell grants _ = []
+-- a reason, if there is one
+abbrev pub reason_words : Cell → Option Refusal → List (List ℕ)
+reason_words cell (Some why) = why_words cell why
+reason_words cell None = []
+
+-- how a wait ends
+abbrev pub end_words : Cell → Told → List (List ℕ)
+end_words cell (Answered Granted) = codes "served" ∷ []
+end_words cell (Answered (Refused why)) = codes "dropped" ∷ why_words cell why
+end_words cell Halted = codes "halted" ∷ []
+
+-- the line of the end of a wait
+abbrev pub ended_words : Cell → Entry → List (List ℕ)
+ended_words cell entry = asked_words cell entry.session entry.request (end_words cell entry.told)
+
+abbrev pub ended_line : Cell → Entry → List ℕ
+ended_line cell entry = line_of (ended_words cell entry)
+
+-- the words of a line of an answer
+abbrev pub telling_words : Cell → List Grant → ℕ → Telling → List (List ℕ)
+telling_words cell grants number (Decides entry) = entry_words cell entry
+telling_words cell grants number (Waits session request why) = asked_words cell session request (codes "waits" ∷ why_words cell why)
+telling_words cell grants number (Ends entry) = ended_words cell entry
+telling_words cell grants number (Cancels session request) = decimal session ∷ codes "cancel" ∷ step_or_none cell request
+telling_words cell grants number (Turns session request why) = asked_words cell session request (codes "refused" ∷ why ∷ [])
+telling_words cell grants number (Replies ask) = reply_words cell grants number ask
+
+-- the line
+abbrev pub telling_line : Cell → List Grant → ℕ → Telling → List ℕ
+telling_line cell grants number telling = line_of (telling_words cell grants number telling)
+
+-- the answer to the ask of the line of this number: its own line, and one for each wait that it ends
+abbrev pub answer : Cell → Talk → ℕ → Ask → List (List ℕ)
+answer cell talk number ask = map (telling_line cell talk.granted number) (said_to cell talk ask).told
 
 -- the number that a line is known by: lines are counted as far as 64 bits go
 abbrev pub line_number : ℕ → ℕ
 line_number number = min number 18446744073709551615
 
 -- the answers to asks in turn, the first of which is in the line of this number
-abbrev pub answers : Cell → List Grant → ℕ → List Ask → List (List ℕ)
-answers cell grants number [] = []
-answers cell grants number (ask ∷ asks) =
-    answer cell grants (line_number number) ask ∷ answers cell (grants ++ added_by cell grants ask) (number + 1) asks
-
--- the grants that asks in turn add after these
-abbrev pub since : Cell → List Grant → List Ask → List Grant
-since cell grants [] = []
-since cell grants (ask ∷ asks) =
-    added_by cell grants ask ++ since cell (grants ++ added_by cell grants ask) asks
+abbrev pub answers : Cell → Talk → ℕ → List Ask → List (List ℕ)
+answers cell talk number [] = []
+answers cell talk number (ask ∷ asks) =
+    answer cell talk (line_number number) ask ++ answers cell (talk_after_one cell talk ask) (number + 1) asks
 
 -- the line of an ask whose grant could not be written
 abbrev pub halted_line : Cell → Ask → List ℕ
 halted_line cell (Step session request) = line_of (step_words cell session request Halted)
+halted_line cell (Wait session request) = line_of (step_words cell session request Halted)
 halted_line cell _ = []
+
+-- ---- the end of the input
+
+-- why a request is refused
+abbrev pub refusal_words : Cell → Reply → List (List ℕ)
+refusal_words cell Granted = []
+refusal_words cell (Refused why) = why_words cell why
+
+-- what a session is told that waits still: what its request would be told now
+abbrev pub still_line : Cell → List Part → Waiter → List ℕ
+still_line cell parts waiter =
+    line_of (asked_words cell waiter.session waiter.request (codes "still" ∷ refusal_words cell (reply_to cell parts waiter.request)))
+
+-- the lines of those that wait, in the order in which they began to
+abbrev pub still_lines : Cell → List Part → List Waiter → List (List ℕ)
+still_lines cell parts waiters = map (still_line cell parts) waiters

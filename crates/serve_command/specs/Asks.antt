@@ -13,12 +13,14 @@ use Rattle.step_text.specs.Steps.{IsStep, step_of_words}
 use Rattle.step_text.specs.Words.{number_of, words}
 use Rattle.serve_command.specs.declared.asks.Ask.{Ask}
 use Rattle.record_text.specs.Reading.{placing_of}
-use Rattle.serve_command.specs.declared.asks.Ask.TheVariants.{Step, Count, Last, Why, Job, Next, Room, Left, Nothing}
+use Rattle.serve_command.specs.declared.asks.Ask.TheVariants.{Step, Wait, Cancel, Count, Last, Why, Job, Next, Room, Left, Nothing}
 use Rattle.serve_command.specs.declared.asks.TheConstants.{MAX_ASK_BYTES, MAX_JOB, MAX_SESSION}
 
 -- | Line           | Ask                                               |
 -- | `K STEP`       | session K asks for a step                         |
 -- | `K place ..`   | it says that it has put a part in, as a step does |
+-- | `K wait STEP`  | it asks for a step, and waits where there is no room |
+-- | `K cancel`     | it waits no longer                                |
 -- | `K grants`     | how many grants session K has                     |
 -- | `K last`       | the same, and the last of them                    |
 -- | `why STEP`     | what the step would be told                       |
@@ -37,12 +39,31 @@ is_word word _ = false
 abbrev pub request_of : Cell → List (List ℕ) → Option Request
 request_of cell words = option_or (result_ok (step_of_words cell words)) (placing_of cell words)
 
+-- a session asks for the request that words are
+abbrev pub step_asked : Cell → ℕ → List (List ℕ) → Ask
+step_asked cell session words = option_map_or (Step session) (request_of cell words) Nothing
+
+-- the same of a step, for which it may wait
+abbrev pub step_waited : ℕ → Result Request StepFault → Ask
+step_waited session (Ok request) = Wait session request
+step_waited session (Err fault) = Nothing
+
+abbrev pub wait_asked : Cell → ℕ → List (List ℕ) → Ask
+wait_asked cell session words = step_waited session (step_of_words cell words)
+
+-- a session asks for a request, with the word before it or without
+abbrev pub request_asked : Cell → ℕ → List (List ℕ) → Ask
+request_asked cell session (first ∷ next ∷ rest) =
+    if bytes_eq first (codes "wait") then wait_asked cell session (next ∷ rest) else step_asked cell session (first ∷ next ∷ rest)
+request_asked cell session words = step_asked cell session words
+
 -- what a session asks in these words
 abbrev pub ask_of_session : Cell → ℕ → List (List ℕ) → Ask
 ask_of_session cell session rest =
     if is_word (codes "grants") rest then Count session
     else (if is_word (codes "last") rest then Last session
-    else option_map_or (Step session) (request_of cell rest) Nothing)
+    else (if is_word (codes "cancel") rest then Cancel session
+    else request_asked cell session rest))
 
 -- the same of a number that a word is
 abbrev pub ask_of_number : Cell → Option ℕ → List (List ℕ) → Ask
@@ -95,5 +116,6 @@ asks_in cell text = map (ask_of cell) (whole_lines text)
 -- what is asked of a cell fits it, and a step of which it is asked what it would be told is one
 abbrev pub AskFits : Cell → Ask → Type 0
 AskFits cell (Step session request) = RequestFits cell request
+AskFits cell (Wait session request) = RequestFits cell request
 AskFits cell (Why request) = IsStep cell request
 AskFits cell _ = ⊤

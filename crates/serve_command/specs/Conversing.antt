@@ -15,24 +15,38 @@ use Rattle.cell_walks.specs.Allowed.{AtOpening, StandsForAdded}
 use Rattle.cell_walks.specs.DiskTold.{DiskTold}
 use Rattle.cell_walks.specs.Outcomes.{IsDelivered, Outcome, early}
 use Rattle.cell_walks.specs.declared.status.Status.{Status}
+use Rattle.cell_texts.specs.Blocks.{left_in_core}
 use Rattle.cell_texts.specs.Tests.{KnownCell}
 use Rattle.journal_texts.specs.Tests.{to_add}
-use Rattle.serve_command.specs.Answers.{line_number, since}
+use Rattle.serve_command.specs.Answers.{line_number, still_lines}
 use Rattle.serve_command.specs.Asks.{ask_of}
+use Rattle.serve_command.specs.Talks.{opened, since, talk_after}
 use Rattle.serve_command.specs.Rounds.{StandsAfter}
 use Rattle.serve_command.specs.Serve.{IsServed, answered_lines}
 use Rattle.serve_command.specs.Serving.{HasCounts}
 use Rattle.serve_command.specs.declared.command.Desk.{Desk}
 use Rattle.serve_command.specs.declared.command.TheConstants.{MAX_SERVED}
+use Rattle.serve_command.specs.declared.replies.TheConstants.{MAX_WAITERS}
 use Rattle.serve_command.specs.declared.server.Server.{Server}
+use Rattle.wait_queue.specs.Queues.{QueueState}
 
 -- nothing was read
 abbrev pub fresh_lines : LinesState
 fresh_lines = record { begun = []; ahead = []; line = [] }
 
+-- nobody waits
+abbrev pub no_waiters : QueueState
+no_waiters = record { waiters = []; watches = []; room = MAX_WAITERS }
+
+-- what a server puts last: who waits still, and the plan of what is left
+abbrev pub end_lines : {D : Type 0} → Server D → List (List ℕ)
+end_lines server = still_lines server.live.cell server.live.parts server.queue.waiters
+    ++ left_in_core (record { cell = server.live.cell; parts = server.live.parts })
+
 -- a desk on which nothing lies
 pub record IsDesk (desk : Desk) : Type 0 where
   pub counts : HasCounts [] desk.counts
+  pub queue : desk.queue ≡ no_waiters
   pub replies : desk.replies ≡ []
   pub lines : desk.lines ≡ fresh_lines
 
@@ -56,13 +70,13 @@ module _ {D : Type 0} (reads_as : D → Option (List ℕ)) (may_leave : D → Li
       pub reads : AreLinesSoFar text given lines
       pub cell_is : server.live.cell ≡ cell
       pub asked : line_number server.asked ≡ line_number (length given)
-      pub stands_after : StandsAfter reads_as may_leave cell_text (opening ++ since cell opening (map (ask_of cell) given)) server
-      pub left : IsLeftWith cell_text opening (since cell opening (map (ask_of cell) given)) [] first server.live.disk
+      pub stands_after : StandsAfter reads_as may_leave cell_text (talk_after cell (opened opening) (map (ask_of cell) given)) server
+      pub left : IsLeftWith cell_text opening (since cell (opened opening) (map (ask_of cell) given)) [] first server.live.disk
       pub took : TookAll sink (answered_lines cell opening (map (ask_of cell) given))
       pub sink_still : sink.faults_after ≡ sink.faults
       pub input_still : input.faults_after ≡ input.faults
       pub disk_still : faults server.live.disk ≡ faults first
-      pub room : length opening + length (since cell opening (map (ask_of cell) given)) ≤ MAX_SERVED
+      pub room : length opening + length (since cell (opened opening) (map (ask_of cell) given)) ≤ MAX_SERVED
 
     -- It has ended.
     pub record IsServedAfter (last : D) (status : Status) : Type 0 where

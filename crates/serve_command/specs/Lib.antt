@@ -1,5 +1,6 @@
 pub mod Answers
 pub mod Asks
+pub mod BoardLaws
 pub mod Clauses
 pub mod Conversing
 pub mod ExactlyOnce
@@ -11,3 +12,5 @@ pub mod Serve
 pub mod ServesAll
 pub mod Serving
 pub mod Sessions
+pub mod Talks
+pub mod Waits

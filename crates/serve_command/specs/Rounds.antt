@@ -11,42 +11,34 @@ use Rattle.move_journal.specs.Disks.{Shows}
 use Rattle.move_journal.specs.Journals.{IsBeforeOrAfterAll, StandsFor}
 use Rattle.cell_walks.specs.Outcomes.{IsDelivered, Outcome}
 use Rattle.cell_walks.specs.declared.status.Status.{Status}
-use Rattle.serve_command.specs.Answers.{answers, line_number, since}
+use Rattle.serve_command.specs.Answers.{answers, line_number}
 use Rattle.serve_command.specs.Asks.{ask_of}
+use Rattle.serve_command.specs.Talks.{Talk, since, talk_after}
 pub use Rattle.serve_command.specs.Serve.{Stops, full_line}
-pub use Rattle.serve_command.specs.Serving.{IsJournalFull, IsAnsweredGroup, HasNoGroup, StandsAt}
+pub use Rattle.serve_command.specs.Serving.{IsJournalFull, IsAnsweredGroup, HasNoGroup, KeepsWaiters, StandsAt, Stays}
 use Rattle.serve_command.specs.declared.asks.Ask.{Ask}
 pub use Rattle.serve_command.specs.declared.command.TheConstants.{MAX_SERVED}
 pub use Rattle.serve_command.specs.declared.replies.TheConstants.{GROUP_LINES}
 use Rattle.serve_command.specs.declared.server.Server.{Server}
 
--- the cell, the disk and the room stay, and so many grants more may be pending as are not
-pub record Stays {D : Type 0} (old new : Server D) : Type 0 where
-  pub cell : new.live.cell ≡ old.live.cell
-  pub disk : new.live.disk ≡ old.live.disk
-  pub len : new.live.len ≡ old.live.len
-  pub room : new.live.room ≡ old.live.room
-  pub runs : new.live.is_halted ≡ old.live.is_halted
-  pub spare : new.live.spare + length new.live.pending ≡ old.live.spare + length old.live.pending
-
 -- which lines were taken: those of the group, and the one that found the journal full
-abbrev pub AreGroupLines : Cell → List Grant → List ℕ → List (List ℕ) → List (List ℕ) → LinesState → Bool → Type 0
-AreGroupLines cell grants text given group lines false = AreLinesSoFar text (given ++ group) lines
-AreGroupLines cell grants text given group lines true =
+abbrev pub AreGroupLines : Cell → Talk → List ℕ → List (List ℕ) → List (List ℕ) → LinesState → Bool → Type 0
+AreGroupLines cell talk text given group lines false = AreLinesSoFar text (given ++ group) lines
+AreGroupLines cell talk text given group lines true =
     (line : List ℕ) × AreLinesSoFar text (given ++ group ++ line ∷ []) lines
-    × IsJournalFull cell (grants ++ since cell grants (map (ask_of cell) group)) (ask_of cell line)
+    × IsJournalFull cell (talk_after cell talk (map (ask_of cell) group)) (ask_of cell line)
 
--- lines were answered as a group
-abbrev pub IsGroupOfLines : {D : Type 0} → Cell → List Grant → ℕ → List ℕ → List (List ℕ) → Server D → LinesState → Bool → Type 0
-IsGroupOfLines cell grants number text given server lines full =
-    (group : List (List ℕ)) × IsAnsweredGroup cell grants number (map (ask_of cell) group) server
-    × AreGroupLines cell grants text given group lines full
+-- at most so many lines were answered as a group
+abbrev pub IsGroupOfLines : {D : Type 0} → Cell → Talk → ℕ → List ℕ → List (List ℕ) → Server D → LinesState → Bool → Type 0
+IsGroupOfLines cell talk number text given server lines full =
+    (group : List (List ℕ)) × IsAnsweredGroup cell talk number (map (ask_of cell) group) server
+    × AreGroupLines cell talk text given group lines full × (length group ≤ GROUP_LINES)
 
--- The server stands after these grants, and so does its disk, with this cell text.
-pub record StandsAfter {D : Type 0} (reads_as : D → Option (List ℕ)) (may_leave : D → List ℕ → Type 0) (cell_text : List ℕ)
-    (grants : List Grant) (server : Server D) : Type 0 where
-  pub at : StandsAt grants server
-  pub disk : Shows reads_as may_leave server.live.disk (λ file. StandsFor file cell_text grants)
+-- The server stands after this talk, and so does its disk, with this cell text.
+pub record StandsAfter {D : Type 0} (reads_as : D → Option (List ℕ)) (may_leave : D → List ℕ → Type 0) (cell_text : List ℕ) (talk : Talk)
+    (server : Server D) : Type 0 where
+  pub at : StandsAt talk server
+  pub disk : Shows reads_as may_leave server.live.disk (λ file. StandsFor file cell_text talk.granted)
 
 -- The disk tells where it told, and at each moment each image stood for the grants, or for these and all of the others.
 pub record Moves {D : Type 0} (reads_as : D → Option (List ℕ)) (moment : D → ℕ) (left_since : D → ℕ → List ℕ → Type 0)
@@ -55,19 +47,18 @@ pub record Moves {D : Type 0} (reads_as : D → Option (List ℕ)) (moment : D �
   pub any_moment : IfSome (reads_as old) (λ _. LeavesOnly moment left_since old new (IsBeforeOrAfterAll cell_text grants more))
 
 module _ {D : Type 0} (reads_as : D → Option (List ℕ)) (may_leave : D → List ℕ → Type 0) (moment : D → ℕ)
-    (left_since : D → ℕ → List ℕ → Type 0) (faults : D → ℕ) (cell : Cell) (sink : SinkTold) (cell_text : List ℕ) (grants : List Grant)
+    (left_since : D → ℕ → List ℕ → Type 0) (faults : D → ℕ) (cell : Cell) (sink : SinkTold) (cell_text : List ℕ) (talk : Talk)
     (text : List ℕ) (given : List (List ℕ)) (old new : Server D) (lines : LinesState) where
   -- These lines were answered, and their grants are on the disk.
   pub record IsRound (group : List (List ℕ)) : Type 0 where
     pub cell_is : new.live.cell ≡ cell
-    pub stands_after : let more = since cell grants (map (ask_of cell) group) in
-        StandsAfter reads_as may_leave cell_text (grants ++ more) new
-    pub moves : let more = since cell grants (map (ask_of cell) group) in
-        Moves reads_as moment left_since cell_text grants more old.live.disk new.live.disk
+    pub stands_after : StandsAfter reads_as may_leave cell_text (talk_after cell talk (map (ask_of cell) group)) new
+    pub moves : Moves reads_as moment left_since cell_text talk.granted (since cell talk (map (ask_of cell) group)) old.live.disk
+        new.live.disk
     pub asked : line_number new.asked ≡ line_number (old.asked + length group)
     pub reads : AreLinesSoFar text (given ++ group) lines
-    pub took : TookAll sink (answers cell grants (old.asked + 1) (map (ask_of cell) group))
-    pub room : length grants + length (since cell grants (map (ask_of cell) group)) ≤ MAX_SERVED
+    pub took : TookAll sink (answers cell talk (old.asked + 1) (map (ask_of cell) group))
+    pub room : length talk.granted + length (since cell talk (map (ask_of cell) group)) ≤ MAX_SERVED
 
   -- The conversation stops: of what these lines ask, the first asks were answered, and the others were not.
   pub record IsLastRound (status : Status) : Type 0 where
@@ -77,13 +68,12 @@ module _ {D : Type 0} (reads_as : D → Option (List ℕ)) (may_leave : D → Li
     pub parted : map (ask_of cell) taken ≡ group ++ others
     pub reads : AreLinesSoFar text (given ++ taken) lines
     pub outcome : Outcome
-    pub stops : Stops cell (grants ++ since cell grants group) (answers cell grants (old.asked + 1) group) (since cell grants group)
-        others outcome
+    pub stops : Stops cell (talk_after cell talk group) (answers cell talk (old.asked + 1) group) (since cell talk group) others outcome
     pub delivered : IsDelivered sink outcome status
-    pub disk : Shows reads_as may_leave new.live.disk (λ file. IsBeforeOrAfterAll cell_text (grants ++ outcome.added) outcome.unsure file)
-    pub moves : Moves reads_as moment left_since cell_text grants (outcome.added ++ outcome.unsure) old.live.disk new.live.disk
+    pub disk : Shows reads_as may_leave new.live.disk (λ file. IsBeforeOrAfterAll cell_text (talk.granted ++ outcome.added) outcome.unsure file)
+    pub moves : Moves reads_as moment left_since cell_text talk.granted (outcome.added ++ outcome.unsure) old.live.disk new.live.disk
     pub cause : All (λ grant. Rose (faults old.live.disk) (faults new.live.disk)) outcome.unsure
-    pub room : length grants + length outcome.added + length outcome.unsure ≤ MAX_SERVED
+    pub room : length talk.granted + length outcome.added + length outcome.unsure ≤ MAX_SERVED
 
   -- one of the two
   abbrev pub Rounds : Result ⊤ Status → Type 0

@@ -17,59 +17,65 @@ use Rattle.cell_walks.specs.declared.status.Status.TheVariants.{Done, DeviceFaul
 use Rattle.cell_texts.specs.Blocks.{Lines, left_lines}
 use Rattle.cell_texts.specs.Tests.{cell_file}
 use Rattle.journal_texts.specs.Tests.{journal_line, to_add}
-use Rattle.serve_command.specs.Answers.{added_by, answers, halted_line, since}
+use Rattle.serve_command.specs.Answers.{answers, halted_line, still_lines}
 use Rattle.serve_command.specs.Serving.{IsJournalFull}
 use Rattle.serve_command.specs.Asks.{asks_in}
+use Rattle.serve_command.specs.Talks.{Talk, added_by, opened, since, talk_after}
 use Rattle.serve_command.specs.declared.asks.Ask.{Ask}
 use Rattle.serve_command.specs.declared.command.TheConstants.{MAX_SERVED}
 use Rattle.serve_command.specs.declared.replies.TheConstants.{GROUP_LINES}
 
 -- the head, and the answers to these asks
 abbrev pub answered_lines : Cell → List Grant → List Ask → Lines
-answered_lines cell opening asked = line_of (head_words 0 (length opening)) ∷ answers cell opening 1 asked
+answered_lines cell opening asked = line_of (head_words 0 (length opening)) ∷ answers cell (opened opening) 1 asked
 
 -- the line of a journal that has no room for one grant more
 abbrev pub full_line : List ℕ
 full_line = journal_line (Long (MAX_SERVED + 1))
 
--- How a conversation stops after these grants, with the next asks not answered: these lines were put, and these grants were added.
-pub data Stops (cell : Cell) (grants : List Grant) (put : Lines) (added : List Grant) (others : List Ask) (outcome : Outcome) : Type 0 where
-  -- The next ask would be granted, and the journal has as many grants as it may have.
-  FullJournal : (next : Ask) (rest : List Ask) → others ≡ next ∷ rest → IsJournalFull cell grants next
+-- what is put last: that those wait still that do, how many parts are left, and the plan that drains them
+abbrev pub last_lines : Cell → Talk → Lines
+last_lines cell talk =
+    let left = replay cell talk.granted in still_lines cell left talk.waiters ++ left_lines cell (length left) (plan_of cell left)
+
+-- How a conversation stops after this talk, with the next asks not answered: these lines were put, and these grants were added.
+pub data Stops (cell : Cell) (talk : Talk) (put : Lines) (added : List Grant) (others : List Ask) (outcome : Outcome) : Type 0 where
+  -- The next ask would be granted, and the journal has no room for its grant and one of each session that waits.
+  FullJournal : (next : Ask) (rest : List Ask) → others ≡ next ∷ rest → IsJournalFull cell talk next
       → outcome ≡ record { status = JournalRefused; pieces = put ++ full_line ∷ []; added = added; unsure = [] }
-      → Stops cell grants put added others outcome
+      → Stops cell talk put added others outcome
   -- The device failed at the grant of the next ask, which is told to have halted, and at those of the asks after it in its group.
   FailedDevice : (next : Ask) (group rest : List Ask) → others ≡ next ∷ group ++ rest → length (next ∷ group) ≤ GROUP_LINES
-      → 0 < length (added_by cell grants next)
+      → 0 < length (added_by cell talk next)
       → outcome ≡ record {
         status = DeviceFault;
         pieces = put ++ halted_line cell next ∷ [];
         added = added;
-        unsure = since cell grants (next ∷ group);
+        unsure = since cell talk (next ∷ group);
       }
-      → Stops cell grants put added others outcome
+      → Stops cell talk put added others outcome
   -- The sink failed at an answer.
   FailedSink : outcome ≡ record { status = SinkFault; pieces = put; added = added; unsure = [] }
-      → Stops cell grants put added others outcome
+      → Stops cell talk put added others outcome
 
 -- how it ends
-pub data EndsServing (cell : Cell) (grants : List Grant) (input : SourceTold) (put : Lines) (added : List Grant) (others : List Ask)
+pub data EndsServing (cell : Cell) (talk : Talk) (input : SourceTold) (put : Lines) (added : List Grant) (others : List Ask)
     (outcome : Outcome) : Type 0 where
-  -- The input has ended: the parts that are left are told, and the plan that drains them.
-  InputEnded : others ≡ [] → input.ended → (let left = replay cell grants in Drains cell left (plan_of cell left))
-      → (let left = replay cell grants in outcome ≡ record {
+  -- The input has ended: each session that waits is told so, then the parts that are left are told, and the plan that drains them.
+  InputEnded : others ≡ [] → input.ended → (let left = replay cell talk.granted in Drains cell left (plan_of cell left))
+      → outcome ≡ record {
         status = Done;
-        pieces = put ++ left_lines cell (length left) (plan_of cell left);
+        pieces = put ++ last_lines cell talk;
         added = added;
         unsure = [];
-      })
-      → EndsServing cell grants input put added others outcome
+      }
+      → EndsServing cell talk input put added others outcome
   -- It could not be read.
   InputLost : others ≡ [] → Rose input.faults input.faults_after
       → outcome ≡ record { status = ReadFault; pieces = put ++ early_line NotRead ∷ []; added = added; unsure = [] }
-      → EndsServing cell grants input put added others outcome
+      → EndsServing cell talk input put added others outcome
   -- It stops before.
-  Stopped : Stops cell grants put added others outcome → EndsServing cell grants input put added others outcome
+  Stopped : Stops cell talk put added others outcome → EndsServing cell talk input put added others outcome
 
 -- The source gave this text. What its whole lines ask was answered in turn, up to the end of the conversation. The journal has room for
 -- all grants.
@@ -79,8 +85,8 @@ pub record IsServed (cell : Cell) (opening : List Grant) (input : SourceTold) (o
   pub asked : List Ask
   pub others : List Ask
   pub split : asks_in cell text ≡ asked ++ others
-  pub ends : EndsServing cell (opening ++ since cell opening asked) input (answered_lines cell opening asked) (since cell opening asked)
-      others outcome
+  pub ends : EndsServing cell (talk_after cell (opened opening) asked) input (answered_lines cell opening asked)
+      (since cell (opened opening) asked) others outcome
   pub room : length opening + length outcome.added + length outcome.unsure ≤ MAX_SERVED
 
 -- the walk of `serve`

@@ -3,7 +3,7 @@ ghost use Rattle.std.specs.Prelude.{◌≡◌, ◌∷◌, [], Ok, Err, IfSome};
 ghost use Rattle.cell_base.specs.declared.cells.Cell.{Cell};
 ghost use Rattle.cell_base.specs.Fits.{CellFits, RequestFits};
 ghost use Rattle.serve_command.specs.Asks.{AskFits, ask_of, ask_of_one, ask_of_several, ask_of_session, ask_of_words};
-ghost use Rattle.serve_command.specs.Asks.{is_word, job_asked, request_of, why_asked};
+ghost use Rattle.serve_command.specs.Asks.{is_word, job_asked, request_asked, request_of, step_asked, wait_asked, why_asked};
 ghost use Rattle.step_text.specs.Words.{words};
 
 use cell_base::{Cell, JobId, Request};
@@ -33,11 +33,19 @@ const GRANTS: &[u8] = b"grants";
 
 const LAST: &[u8] = b"last";
 
+const WAIT: &[u8] = b"wait";
+
+const CANCEL: &[u8] = b"cancel";
+
 /// What a line asks for.
 #[derive(Clone, Copy)]
 pub enum Ask {
     /// A session asks for a step, or says that it has put a part in.
     Step { session: u16, request: Request },
+    /// The same of a step, and where there is no room for it the session waits.
+    Wait { session: u16, request: Request },
+    /// A session waits no longer.
+    Cancel { session: u16 },
     /// How many grants of a session are on the disk.
     Count { session: u16 },
     /// The same, and the last of them.
@@ -160,6 +168,43 @@ fn ask_of_session(cell: &Cell, session: u16, text: &[u8]) -> Ask
     if is_word(text, LAST) {
         return Ask::Last { session };
     }
+    if is_word(text, CANCEL) {
+        return Ask::Cancel { session };
+    }
+    request_asked(cell, session, text)
+}
+
+// What a session asks in words that are none of these.
+fn request_asked(cell: &Cell, session: u16, text: &[u8]) -> Ask
+    requires { CellFits cell.now }
+    ensures ask { result ≡ request_asked cell.now session (words text.now) }
+    ensures fits { AskFits cell.now result }
+{
+    let (word, rest) = cut(text);
+    match rest {
+        Some(rest) if word == WAIT => wait_of(cell, session, rest),
+        _ => step_of(cell, session, text),
+    }
+}
+
+// A session asks for a step, and it may wait.
+fn wait_of(cell: &Cell, session: u16, text: &[u8]) -> Ask
+    requires { CellFits cell.now }
+    ensures ask { result ≡ wait_asked cell.now session (words text.now) }
+    ensures fits { AskFits cell.now result }
+{
+    match read_step(cell, text) {
+        Ok(request) => Ask::Wait { session, request },
+        Err(_) => Ask::Nothing,
+    }
+}
+
+// A session asks for a step, or says that it has put a part in.
+fn step_of(cell: &Cell, session: u16, text: &[u8]) -> Ask
+    requires { CellFits cell.now }
+    ensures ask { result ≡ step_asked cell.now session (words text.now) }
+    ensures fits { AskFits cell.now result }
+{
     match request_of(cell, text) {
         Some(request) => Ask::Step { session, request },
         None => Ask::Nothing,

@@ -12,7 +12,7 @@ ghost use Rattle.serve_command.specs.LivesThrough.{LivesOnJournal, LivesThrough,
 
 use crate::beside::finish_beside;
 use crate::counts::SessionCounts;
-use crate::replies::{GROUP_LINES, Replies};
+use crate::replies::{MAX_REPLIES, MAX_WAITERS, Replies};
 use crate::server::Server;
 use crate::serving::serve_live;
 use cell_base::NoMemory;
@@ -26,6 +26,7 @@ use peers::Peer;
 use shift_recovery::{OpenError, OpenFault};
 use std::alloc::Global;
 use std::sync::Wait;
+use wait_queue::WaitQueue;
 
 /// The most grants of a journal that is served: a drain always has room after them.
 pub const MAX_SERVED: u64 = 1_572_864;
@@ -33,6 +34,7 @@ pub const MAX_SERVED: u64 = 1_572_864;
 // The memory of a conversation, beside that of the live cell.
 struct Desk {
     counts: SessionCounts,
+    queue: WaitQueue,
     replies: Replies,
     lines: InputLines,
 }
@@ -75,12 +77,13 @@ fn end_early<D: Disk, T: Peer<D>>(peer: &mut T, end: EarlyEnd, disk: D) -> Comma
     }
 }
 
-// No session has a grant, nothing is to be answered, and nothing was read.
+// No session has a grant or waits, nothing is to be answered, and nothing was read.
 fn reserve(alloc: Global) -> Result<Desk, NoMemory>
     ensures { IfOk result IsDesk }
 {
     Ok(Desk {
         counts: SessionCounts::new(alloc)?,
+        queue: WaitQueue::with_room(alloc, MAX_WAITERS)?,
         replies: Replies::with_room(alloc)?,
         lines: InputLines::new(alloc)?,
     })
@@ -106,14 +109,16 @@ fn serve_journal<R: Wait, D: Disk, T: Peer<D>>(
     let CellFile { cell, text } = held;
     let Desk {
         counts,
+        queue,
         replies,
         lines,
     } = desk;
-    match LiveCell::open(alloc, cell, &text, disk, MAX_SERVED, GROUP_LINES, counts) {
+    match LiveCell::open(alloc, cell, &text, disk, MAX_SERVED, MAX_REPLIES, counts) {
         Ok(OpenedLive { live, kept: counts }) => {
             let server = Server {
                 live,
                 counts,
+                queue,
                 asked: 0,
                 replies,
                 first: None,

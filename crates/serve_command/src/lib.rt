@@ -17,12 +17,15 @@ mod asks;
 mod beside;
 mod command;
 mod counts;
+mod deciding;
 pub mod laws;
 mod questions;
 mod replies;
 mod rounds;
+mod said_lines;
 mod server;
 mod serving;
+mod waiting;
 
 pub use asks::{Ask, MAX_ASK_BYTES, MAX_SESSION, read_ask};
 pub use beside::print_usage_beside;

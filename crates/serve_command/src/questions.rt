@@ -45,8 +45,8 @@ pub fn next_line(core: &Core) -> Line
     line.end()
 }
 
-// Appends a step, or that there is none.
-fn add_step(line: &mut Line, cell: &Cell, step: Option<Request>)
+/// Appends a step, or that there is none.
+pub fn add_step(line: &mut Line, cell: &Cell, step: Option<Request>)
     requires fits { IfSome step (RequestFits cell.now) }
     requires room { length line.old ≤ 40 }
     ensures words { line.new ≡ line.old ++ spaced (step_or_none cell.now step) }

@@ -9,6 +9,13 @@ use std::marker::Model;
 /// The most lines of a group.
 pub const GROUP_LINES: u64 = 512;
 
+/// The most sessions that wait: as many as parts may be in a cell.
+pub const MAX_WAITERS: u16 = 4_096;
+
+/// The most answers of a group: one of each line, and one at the end of each wait. Each session may end a wait that waited before the group,
+/// and each line of the group may begin one.
+pub const MAX_REPLIES: u64 = 5_120;
+
 /// Answers in their order, with room for those of a group. Contracts see them as lines.
 #[derive(Drop)]
 pub struct Replies {
@@ -22,7 +29,7 @@ impl Model for Replies {
 
     ghost view = { λ s. s.lines.items };
 
-    ghost invariant = { λ s. 512 ≤ vec_capacity s.lines };
+    ghost invariant = { λ s. 5120 ≤ vec_capacity s.lines };
 }
 
 impl Replies {
@@ -30,13 +37,13 @@ impl Replies {
     pub fn with_room(alloc: Global) -> Result<Replies, NoMemory>
         ensures { IfOk result (λ replies. replies ≡ []) }
     {
-        let lines = Vec::with_capacity(alloc, GROUP_LINES as usize)?;
+        let lines = Vec::with_capacity(alloc, MAX_REPLIES as usize)?;
         Ok(Replies { lines })
     }
 
     /// Appends an answer. It takes no memory.
     pub fn push(&mut self, line: Line)
-        requires { length self.old < GROUP_LINES }
+        requires { length self.old < MAX_REPLIES }
         ensures { self.new ≡ self.old ++ line ∷ [] }
     {
         self.lines.push_reserved(line);

@@ -1,13 +1,13 @@
 //! One round of a conversation: the lines at hand are answered as a group.
 ghost use Rattle.std.specs.Prelude.{◌≡◌, List, ℕ, Ok, IfSome, OnOk, take, length, ◌≤◌, ◌++◌, ◌∷◌, []};
-ghost use Rattle.cell_base.specs.declared.shifts.Grant.{Grant};
 ghost use Rattle.input_lines.specs.Reading.{AreLinesSoFar};
 ghost use Rattle.peers.specs.Meanings.{peer_took};
 ghost use Rattle.lent_peers.specs.Beside.{IsBeside};
 ghost use Rattle.cell_walks.specs.Clauses.{IsDelivered, printed};
 ghost use Rattle.cell_walks.specs.declared.status.Status.TheVariants.{DeviceFault, JournalRefused};
 ghost use Rattle.serve_command.specs.Lives.{LivesOn};
-ghost use Rattle.serve_command.specs.Rounds.{GROUP_LINES, StandsAfter, HasNoGroup, IsGroupOfLines, Rounds, StandsAt, Stays, full_line};
+ghost use Rattle.serve_command.specs.Rounds.{StandsAfter, HasNoGroup, IsGroupOfLines, KeepsWaiters, Rounds, StandsAt, Stays, full_line};
+ghost use Rattle.serve_command.specs.Talks.{Talk};
 
 use crate::asks::read_ask;
 use crate::beside::{finish_beside, print_beside};
@@ -28,11 +28,11 @@ impl<D: Disk> Server<D> {
     /// journal was full at a line after these, which is taken too.
     pub fn take_group(&mut self, lines: &mut InputLines) -> bool
         requires ready { HasNoGroup self.old }
-        ensures taken { (grants : List Grant) (text : List ℕ) (given : List (List ℕ)) → StandsAt grants self.old
+        ensures taken { (talk : Talk) (text : List ℕ) (given : List (List ℕ)) → StandsAt talk self.old
             → AreLinesSoFar text given lines.old
-            → IsGroupOfLines self.old.live.cell grants self.old.asked text given self.new lines.new result }
+            → IsGroupOfLines self.old.live.cell talk self.old.asked text given self.new lines.new result }
         ensures stays { Stays self.old self.new }
-        ensures few { length self.new.replies ≤ GROUP_LINES }
+        ensures waiters { KeepsWaiters self.new }
     {
         for _i in 0..GROUP_LINES {
             if !lines.next_line() {
@@ -50,11 +50,11 @@ impl<D: Disk> Server<D> {
     /// the conversation stops.
     pub fn round<T: Peer<D>>(&mut self, lines: &mut InputLines, peer: &mut T) -> Result<(), Status>
         requires ready { HasNoGroup self.old }
-        ensures round { (cell_text : List ℕ) (grants : List Grant) (text : List ℕ) (given : List (List ℕ))
-            → StandsAfter D.reads_as D.may_leave cell_text grants self.old → AreLinesSoFar text given lines.old
+        ensures round { (cell_text : List ℕ) (talk : Talk) (text : List ℕ) (given : List (List ℕ))
+            → StandsAfter D.reads_as D.may_leave cell_text talk self.old → AreLinesSoFar text given lines.old
             → Rounds D.reads_as D.may_leave D.moment D.left_since D.faults self.old.live.cell
             (peer_took T.Peer peer.old peer.new)
-            cell_text grants text given self.old self.new lines.new result }
+            cell_text talk text given self.old self.new lines.new result }
         ensures ready { OnOk result (HasNoGroup self.new) }
         ensures still { OnOk result (T.faults peer.new ≡ T.faults peer.old) }
         ensures fed { OnOk result (D.faults self.new.live.disk ≡ D.faults self.old.live.disk) }

@@ -1,22 +1,19 @@
 //! A live cell that answers asks, in groups.
-ghost use Rattle.std.specs.Prelude.{◌≡◌, ◌<◌, ◌+◌, ◌++◌, ◌∷◌, false, [], List, length, codes, IfSome, OnOk, OnErr};
-ghost use Rattle.cell_base.specs.declared.shifts.Grant.{Grant};
-ghost use Rattle.record_text.specs.Fitting.{EntryFits};
+ghost use Rattle.std.specs.Prelude.{◌≡◌, ◌<◌, ◌+◌, ◌++◌, ◌∷◌, [], length, codes, IfSome, OnOk, OnErr};
 ghost use Rattle.record_text.specs.Lines.{line_of, told_words};
 ghost use Rattle.step_text.specs.Steps.{request_words};
-ghost use Rattle.serve_command.specs.Clauses.{Answered, AskFits, CountsGrant, GROUP_LINES, TakesOneLine, IsAskAnswered, IsJournalFull};
-ghost use Rattle.serve_command.specs.Clauses.{IsStep, MAX_SERVED, RequestFits, StandsAt, Step, count_of, entry_of, last_of};
-ghost use Rattle.serve_command.specs.Clauses.{last_words, line_number, reply_to, step_words};
+ghost use Rattle.serve_command.specs.Clauses.{Answered, AskFits, IsAskAnswered, IsJournalFull, IsOpen, IsStep, KeepsWaiters, MAX_REPLIES};
+ghost use Rattle.serve_command.specs.Clauses.{RequestFits, StandsAt, TakesOneLine, Talk, count_of, last_of, last_words, line_number, reply_to};
 
 use crate::asks::Ask;
 use crate::counts::SessionCounts;
 use crate::questions::{count_line, job_line, last_line, next_line, refused_line, room_line};
 use crate::replies::Replies;
-use cell_base::{Cell, Entry, Grant, Reply, Request, Told, request_fits};
+use cell_base::{Cell, Request, request_fits};
 use live_cell::{JournalFull, LiveCell};
 use outside_io::Disk;
-use policy_laws::refusal_law;
-use record_text::{Line, left_line, line_of, why_line};
+use record_text::{Line, left_line, why_line};
+use wait_queue::WaitQueue;
 
 /// Where the answer to the first grant of a group stands among the answers, and the line that says that it halted.
 #[derive(Drop)]
@@ -25,12 +22,13 @@ pub struct FirstGrant {
     pub line: Line,
 }
 
-/// A live cell, the number of each session's grants, and how many lines were asked, as far as 64 bits count. Of the group that is under
-/// way, the answers, which are put once its grants are stable, and its first grant.
+/// A live cell, the number of each session's grants, the sessions that wait, and how many lines were asked, as far as 64 bits count. Of the
+/// group that is under way, the answers, which are put once its grants are stable, and its first grant.
 #[derive(Drop)]
 pub struct Server<D: Disk> {
     pub live: LiveCell<D>,
     pub counts: SessionCounts,
+    pub queue: WaitQueue,
     pub asked: u64,
     pub replies: Replies,
     pub first: Option<FirstGrant>,
@@ -40,18 +38,18 @@ impl<D: Disk> Server<D> {
     /// Answers an ask after all that were asked before it. Where it would be granted and the journal has no room, nothing changes.
     pub fn answer(&mut self, ask: &Ask) -> Result<(), JournalFull>
         requires fits { AskFits self.old.live.cell ask.now }
-        requires runs { self.old.live.is_halted ≡ false }
-        requires room { self.old.live.room ≡ MAX_SERVED }
-        requires spare { 0 < self.old.live.spare }
-        requires short { length self.old.replies < GROUP_LINES }
-        ensures answered { (grants : List Grant) → StandsAt grants self.old
-            → OnOk result (IsAskAnswered self.old.live.cell grants self.old ask.now self.new) }
+        requires ready { IsOpen self.old }
+        ensures answered { (talk : Talk) → StandsAt talk self.old
+            → OnOk result (IsAskAnswered self.old.live.cell talk self.old ask.now self.new) }
         ensures goes_on { OnOk result (TakesOneLine self.old self.new) }
-        ensures full { (grants : List Grant) → StandsAt grants self.old → OnErr result (IsJournalFull self.old.live.cell grants ask.now) }
+        ensures waiters { OnOk result (KeepsWaiters self.new) }
+        ensures full { (talk : Talk) → StandsAt talk self.old → OnErr result (IsJournalFull self.old.live.cell talk ask.now) }
         ensures same { OnErr result (self.new ≡ self.old) }
     {
         match ask {
-            Ask::Step { session, request } => return self.answer_step(*session, request),
+            Ask::Step { session, request } => return self.answer_request(*session, request, false),
+            Ask::Wait { session, request } => return self.answer_request(*session, request, true),
+            Ask::Cancel { session } => self.cancel(*session),
             Ask::Count { session } => {
                 let line = count_line(*session, self.counts.of(*session));
                 self.keep(line);
@@ -88,64 +86,6 @@ impl<D: Disk> Server<D> {
         Ok(())
     }
 
-    // Answers a step of a session.
-    fn answer_step(&mut self, session: u16, request: &Request) -> Result<(), JournalFull>
-        requires fits { RequestFits self.old.live.cell request.now }
-        requires runs { self.old.live.is_halted ≡ false }
-        requires room { self.old.live.room ≡ MAX_SERVED }
-        requires spare { 0 < self.old.live.spare }
-        requires short { length self.old.replies < GROUP_LINES }
-        ensures answered { (grants : List Grant) → StandsAt grants self.old
-            → OnOk result (IsAskAnswered self.old.live.cell grants self.old (Step session request.now) self.new) }
-        ensures goes_on { OnOk result (TakesOneLine self.old self.new) }
-        ensures full { (grants : List Grant) → StandsAt grants self.old
-            → OnErr result (IsJournalFull self.old.live.cell grants (Step session request.now)) }
-        ensures same { OnErr result (self.new ≡ self.old) }
-    {
-        let core = self.live.core();
-        refusal_law(core.cell());
-        let reply = match self.live.ask(session, request) {
-            Ok(reply) => reply,
-            Err(full) => return Err(full),
-        };
-        let line = told_line(
-            self.live.core().cell(),
-            session,
-            request,
-            Told::Answered(reply),
-        );
-        match reply {
-            Reply::Granted => {
-                self.count_grant(session, request);
-                self.keep(line);
-                Ok(())
-            }
-            Reply::Refused(_) => {
-                self.keep(line);
-                Ok(())
-            }
-        }
-    }
-
-    // Counts a grant, and keeps its halted line where it is the first of the group.
-    fn count_grant(&mut self, session: u16, request: &Request)
-        requires { RequestFits self.old.live.cell request.now }
-        ensures counted { CountsGrant self.old session request.now self.new }
-    {
-        self.counts.add(&Grant {
-            shift: 0,
-            session,
-            request: *request,
-        });
-        if self.first.is_none() {
-            let line = told_line(self.live.core().cell(), session, request, Told::Halted);
-            self.first = Some(FirstGrant {
-                at: self.replies.len(),
-                line,
-            });
-        }
-    }
-
     // The line of what a step would be told. Nothing changes.
     fn look(&self, request: &Request) -> Line
         requires { IsStep self.now.live.cell request.now }
@@ -160,18 +100,19 @@ impl<D: Disk> Server<D> {
 
     // The line of how many grants a session has, and of the last of them. Nothing changes.
     fn look_back(&self, session: u16) -> Line
-        ensures { (grants : List Grant) → StandsAt grants self.now
-            → result ≡ line_of (last_words self.now.live.cell session (count_of session grants) (last_of session grants)) }
+        ensures { (talk : Talk) → StandsAt talk self.now
+            → result ≡ line_of (last_words self.now.live.cell session (count_of session talk.granted) (last_of session talk.granted)) }
     {
         let cell = self.live.core().cell();
         let last = fitting(cell, self.counts.last_of(session));
         last_line(cell, session, self.counts.of(session), last)
     }
 
-    // Keeps an answer.
-    fn keep(&mut self, line: Line)
-        requires short { length self.old.replies < GROUP_LINES }
-        ensures { self.new ≡ record self.old { replies = self.old.replies ++ line ∷ []; asked = line_number (self.old.asked + 1) } }
+    /// Keeps the answer to a line.
+    pub fn keep(&mut self, line: Line)
+        requires short { length self.old.replies < MAX_REPLIES }
+        ensures kept { self.new ≡ record self.old { replies = self.old.replies ++ line ∷ []; asked = line_number (self.old.asked + 1) } }
+        ensures waiters { KeepsWaiters self.old → KeepsWaiters self.new }
     {
         self.replies.push(line);
         self.asked = self.asked.saturating_add(1);
@@ -187,19 +128,4 @@ fn fitting(cell: &Cell, request: Option<Request>) -> Option<Request>
         Some(request) if request_fits(cell, &request) => Some(request),
         _ => None,
     }
-}
-
-// The line of a step of a session.
-fn told_line(cell: &Cell, session: u16, request: &Request, told: Told) -> Line
-    requires { EntryFits cell.now (entry_of session request.now told) }
-    ensures { result ≡ line_of (step_words cell.now session request.now told) }
-{
-    line_of(
-        cell,
-        &Entry {
-            session,
-            request: *request,
-            told,
-        },
-    )
 }

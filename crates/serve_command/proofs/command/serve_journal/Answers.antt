@@ -19,6 +19,7 @@ use Rattle.peers.specs.Meanings.{peer_gave, peer_took}
 use Rattle.peers.specs.Runs.{RunsTo}
 use Rattle.cell_walks.specs.Statuses.{early_line}
 use Rattle.cell_walks.specs.declared.early_end.EarlyEnd.TheVariants.{DeviceFailed, WantOfMemory}
+use Rattle.wait_queue.specs.Queues.{QueueState}
 use Rattle.serve_command.specs.LivesThrough.{IsUnopened, Opened, Unopened}
 use Rattle.serve_command.proofs.OpeningLives.{either_end, lives_since}
 use Rattle.serve_command.specs.Conversing.{IsServedOnJournal}
@@ -49,6 +50,7 @@ returns-in-Ok-clause-served g c =
             ∙ ap (λ (cell : Cell). replay cell opening) (sym (ap (λ (l : LiveState _). l.cell) after.state));
         counts = after.taken.1 c.requires.desk.counts (omega (arith, after.few));
         number = omega (arith, ap (λ (l : LiveState _). l.len) after.state, ap (λ (l : LiveState _). length l.pending) after.state);
+        waiters = ap (λ (q : QueueState). q.waiters) c.requires.desk.queue;
       };
       disk = opened.stands;
     }))
@@ -120,6 +122,7 @@ returns-in-Ok-clause-moments g c = λ given before given_is put_is clock.
             ∙ ap (λ (cell : Cell). replay cell opening) (sym (ap (λ (l : LiveState _). l.cell) after.state));
         counts = after.taken.1 c.requires.desk.counts (omega (arith, after.few));
         number = omega (arith, ap (λ (l : LiveState _). l.len) after.state, ap (λ (l : LiveState _). length l.pending) after.state);
+        waiters = ap (λ (q : QueueState). q.waiters) c.requires.desk.queue;
       };
       disk = opened.stands;
     }) opened c.serve_live.ensures.lives))

@@ -1,6 +1,6 @@
 -- By the asks in turn.
-use Rattle.serve_command.proofs.Histories.{is_block}
+use Rattle.serve_command.proofs.Histories.{is-block}
 use Rattle.serve_command.proofs.laws.steps_are_a_record.Goals as goal
 
 pub returns : goal.returns
-returns c = is_block c.args.cell.now
+returns c = is-block c.args.cell.now

@@ -10,11 +10,11 @@ use Rattle.cell_walks.specs.declared.early_end.EarlyEnd.TheVariants.{NotRead}
 use Rattle.outside_io.specs.Causes.{Rose}
 use Rattle.outside_io.specs.Puts.{TookAll, TookSome}
 use Rattle.record_text.specs.Lines.{head_words, line_of}
-use Rattle.serve_command.specs.Answers.{since}
 use Rattle.serve_command.specs.Asks.{ask_of}
 use Rattle.serve_command.specs.Conversing.{IsConversing}
 use Rattle.serve_command.specs.Lives.{LivesTo}
 use Rattle.serve_command.specs.Rounds.{IsLastRound, IsRound}
+use Rattle.serve_command.specs.Talks.{opened, talk_after}
 use Rattle.serve_command.proofs.Conversing.{begins, head_is, input_kept, is_lost, none_is_ahead, not_begun, piece_comes, round_goes}
 use Rattle.serve_command.proofs.Conversing.{sink_kept, stops}
 use Rattle.serve_command.proofs.LoopLives.{begins_live, has_room, lives_then, lost_lives, read_lives, served_to}
@@ -89,7 +89,7 @@ returns-in-Err-round-clause-converses g c = λ cell_text opening behind.
     let server = c.args.server.now in
     let cell = server.live.cell in
     let so = c.loop-round.invariant.goes_on cell_text opening behind in
-    let front = opening ++ since cell opening (map (ask_of cell) so.0) in
+    let front = talk_after cell (opened opening) (map (ask_of cell) so.0) in
     let last = c.in-Err-round.ensures.round cell_text front so.1.text so.0 so.1.stands_after so.1.reads in
     stops g.D.Disk.reads_as g.D.Disk.may_leave g.D.Disk.moment g.D.Disk.left_since g.D.Disk.faults cell cell_text opening server.live.disk
     c.loop-round.server c.loop-round.lines so.0
@@ -116,7 +116,7 @@ returns-in-Ok-eq0-clause-converses g c = λ cell_text opening behind.
     let server = c.args.server.now in
     let cell = server.live.cell in
     let so = c.loop-round.invariant.goes_on cell_text opening behind in
-    let front = opening ++ since cell opening (map (ask_of cell) so.0) in
+    let front = talk_after cell (opened opening) (map (ask_of cell) so.0) in
     let said = c.in_default-round.ensures.round cell_text front so.1.text so.0 so.1.stands_after so.1.reads in
     let round = subst (λ (x : Cell). IsRound g.D.Disk.reads_as g.D.Disk.may_leave g.D.Disk.moment g.D.Disk.left_since g.D.Disk.faults x
     (peer_took g.T.Peer c.loop-round.peer c.round.new.peer) cell_text front so.1.text so.0
@@ -157,7 +157,7 @@ returns-in-Ok-eq0-clause-lives g c = λ start is.
     let server = c.args.server.now in
     let cell = server.live.cell in
     let so = c.loop-round.invariant.goes_on start.text start.opening is.stands_after in
-    let front = start.opening ++ since cell start.opening (map (ask_of cell) so.0) in
+    let front = talk_after cell (opened start.opening) (map (ask_of cell) so.0) in
     let said = c.in_default-round.ensures.round start.text front so.1.text so.0 so.1.stands_after so.1.reads in
     let round = subst (λ (x : Cell). IsRound g.D.Disk.reads_as g.D.Disk.may_leave g.D.Disk.moment g.D.Disk.left_since g.D.Disk.faults x
     (peer_took g.T.Peer c.loop-round.peer c.round.new.peer) start.text front so.1.text so.0
@@ -188,7 +188,7 @@ returns-in-Err-fill-clause-converses g c = λ cell_text opening behind.
     let server = c.args.server.now in
     let cell = server.live.cell in
     let so = c.loop-round.invariant.goes_on cell_text opening behind in
-    let front = opening ++ since cell opening (map (ask_of cell) so.0) in
+    let front = talk_after cell (opened opening) (map (ask_of cell) so.0) in
     let said = c.in_default-round.ensures.round cell_text front so.1.text so.0 so.1.stands_after so.1.reads in
     let round = subst (λ (x : Cell). IsRound g.D.Disk.reads_as g.D.Disk.may_leave g.D.Disk.moment g.D.Disk.left_since g.D.Disk.faults x
     (peer_took g.T.Peer c.loop-round.peer c.round.new.peer) cell_text front so.1.text so.0
@@ -218,7 +218,7 @@ returns-in-Err-fill-clause-lives g c = λ start is.
     let server = c.args.server.now in
     let cell = server.live.cell in
     let so = c.loop-round.invariant.goes_on start.text start.opening is.stands_after in
-    let front = start.opening ++ since cell start.opening (map (ask_of cell) so.0) in
+    let front = talk_after cell (opened start.opening) (map (ask_of cell) so.0) in
     let said = c.in_default-round.ensures.round start.text front so.1.text so.0 so.1.stands_after so.1.reads in
     let round = subst (λ (x : Cell). IsRound g.D.Disk.reads_as g.D.Disk.may_leave g.D.Disk.moment g.D.Disk.left_since g.D.Disk.faults x
     (peer_took g.T.Peer c.loop-round.peer c.round.new.peer) start.text front so.1.text so.0
@@ -256,7 +256,7 @@ loop-round-preserved-in-Ok g c = record {
       let server = c.args.server.now in
       let cell = server.live.cell in
       let so = c.loop-round.invariant.goes_on cell_text opening behind in
-      let front = opening ++ since cell opening (map (ask_of cell) so.0) in
+      let front = talk_after cell (opened opening) (map (ask_of cell) so.0) in
       let said = c.in_default-round.ensures.round cell_text front so.1.text so.0 so.1.stands_after so.1.reads in
       let round = subst (λ (x : Cell). IsRound g.D.Disk.reads_as g.D.Disk.may_leave g.D.Disk.moment g.D.Disk.left_since g.D.Disk.faults x
       (peer_took g.T.Peer c.loop-round.peer c.round.new.peer) cell_text front so.1.text so.0
@@ -283,7 +283,7 @@ loop-round-preserved-in-Ok g c = record {
       let server = c.args.server.now in
       let cell = server.live.cell in
       let so = c.loop-round.invariant.goes_on start.text start.opening is.stands_after in
-      let front = start.opening ++ since cell start.opening (map (ask_of cell) so.0) in
+      let front = talk_after cell (opened start.opening) (map (ask_of cell) so.0) in
       let said = c.in_default-round.ensures.round start.text front so.1.text so.0 so.1.stands_after so.1.reads in
       let round = subst (λ (x : Cell). IsRound g.D.Disk.reads_as g.D.Disk.may_leave g.D.Disk.moment g.D.Disk.left_since g.D.Disk.faults x
       (peer_took g.T.Peer c.loop-round.peer c.round.new.peer) start.text front so.1.text so.0
@@ -318,7 +318,7 @@ loop-round-preserved g c = record {
       let server = c.args.server.now in
       let cell = server.live.cell in
       let so = c.loop-round.invariant.goes_on cell_text opening behind in
-      let front = opening ++ since cell opening (map (ask_of cell) so.0) in
+      let front = talk_after cell (opened opening) (map (ask_of cell) so.0) in
       let said = c.in_default-round.ensures.round cell_text front so.1.text so.0 so.1.stands_after so.1.reads in
       let round = subst (λ (x : Cell). IsRound g.D.Disk.reads_as g.D.Disk.may_leave g.D.Disk.moment g.D.Disk.left_since g.D.Disk.faults x
       (peer_took g.T.Peer c.loop-round.peer c.round.new.peer) cell_text front so.1.text so.0

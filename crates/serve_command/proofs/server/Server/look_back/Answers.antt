@@ -12,7 +12,8 @@ use Rattle.serve_command.proofs.Counting.{last_fits}
 use Rattle.serve_command.proofs.server.Server.look_back.Goals as goal
 
 pub returns : goal.returns
-returns g c = λ grants at.
+returns g c = λ talk at.
+    let grants = talk.granted in
     let server = c.args.self.now in
     let session = c.args.session in
     let within : session < 65536 = c.ranges.session.fits in
