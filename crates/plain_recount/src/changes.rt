@@ -1,4 +1,4 @@
-//! The changes of granted requests.
+//! The changes of granted requests, in a plain list of parts, which keeps the order of their arrival.
 ghost use Rattle.std.specs.Prelude.{◌≡◌, ◌≤◌, ◌<◌, length, position, IfSome};
 ghost use Rattle.std.specs.Vec.{vec_capacity};
 ghost use Rattle.plain_recount.specs.Clauses.{Granted, IsStage, RequestFits, is_of_job, outcome_of_entry, outcome_of_move, part_of};
@@ -6,12 +6,12 @@ ghost use Rattle.plain_recount.specs.Clauses.{reply_to, stage_of, state_after, u
 ghost use Rattle.plain_recount.specs.Asking.{place_asked};
 ghost use Rattle.plain_recount.specs.RecountState.{IsSound};
 
-use crate::lead_table::LeadTable;
 use crate::parts::{finish, part_at, take_out};
+use crate::stage_masks::StageMasks;
 use cell_base::{JobId, Part, Request};
 
 /// The change of a granted request, whose part stands there.
-pub fn apply(table: &LeadTable<'_>, parts: &mut Vec<Part>, found: Option<usize>, request: &Request)
+pub fn apply(table: &StageMasks<'_>, parts: &mut Vec<Part>, found: Option<usize>, request: &Request)
     requires sound { IsSound table.now parts.old.items (vec_capacity parts.old) }
     requires found { found ≡ place_asked table.now parts.old.items request.now }
     requires within { IfSome found (λ at. at < length parts.old.items) }
@@ -23,7 +23,7 @@ pub fn apply(table: &LeadTable<'_>, parts: &mut Vec<Part>, found: Option<usize>,
     match *request {
         Request::Load { job, kind } => enter(table, parts, table.entry(job, kind)),
         Request::Process { .. } => finish(parts.as_mut_slice(), found),
-        Request::Move { job, branch } => go_on(table, parts, found, job, branch),
+        Request::Move { job, branch } => move_job(table, parts, found, job, branch),
         Request::Unload { .. } => take_out(parts, found),
         Request::Place {
             job,
@@ -44,7 +44,7 @@ pub fn apply(table: &LeadTable<'_>, parts: &mut Vec<Part>, found: Option<usize>,
 }
 
 /// A part that is granted to enter.
-fn enter(table: &LeadTable<'_>, parts: &mut Vec<Part>, part: Part)
+fn enter(table: &StageMasks<'_>, parts: &mut Vec<Part>, part: Part)
     requires sound { IsSound table.now parts.old.items (vec_capacity parts.old) }
     requires stage { IsStage table.now (stage_of part) }
     requires granted { (outcome_of_entry table.now parts.old.items part).0 ≡ Granted }
@@ -55,8 +55,8 @@ fn enter(table: &LeadTable<'_>, parts: &mut Vec<Part>, part: Part)
 }
 
 /// A part that is granted to go on.
-fn go_on(
-    table: &LeadTable<'_>,
+fn move_job(
+    table: &StageMasks<'_>,
     parts: &mut Vec<Part>,
     found: Option<usize>,
     job: JobId,

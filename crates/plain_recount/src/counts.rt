@@ -7,11 +7,11 @@ ghost use Rattle.cell_base.specs.Policy.{IsAdmitted, first_over};
 ghost use Rattle.cell_base.specs.Outcomes.{part_of, without};
 ghost use Rattle.plain_recount.specs.Entering.{enters};
 
-use crate::lead_table::LeadTable;
+use crate::stage_masks::StageMasks;
 use cell_base::{Part, ResId};
 
 /// How many parts the neighborhood of a resource holds.
-pub fn count(table: &LeadTable<'_>, parts: &[Part], r: ResId) -> u64
+pub fn count(table: &StageMasks<'_>, parts: &[Part], r: ResId) -> u64
     requires resource { r.0 < length table.now.resources }
     requires standing { All (λ part. IsStage table.now (stage_of part)) parts.now }
     ensures value { result ≡ count table.now parts.now r.0 }
@@ -21,7 +21,7 @@ pub fn count(table: &LeadTable<'_>, parts: &[Part], r: ResId) -> u64
 }
 
 /// Whether a neighborhood holds as many parts as its resource has units.
-fn is_full(table: &LeadTable<'_>, parts: &[Part], r: ResId) -> bool
+fn is_full(table: &StageMasks<'_>, parts: &[Part], r: ResId) -> bool
     requires resource { r.0 < length table.now.resources }
     requires standing { All (λ part. IsStage table.now (stage_of part)) parts.now }
     ensures { result ≡ nat_le (capacity_of table.now r.0) (count table.now parts.now r.0) }
@@ -31,7 +31,7 @@ fn is_full(table: &LeadTable<'_>, parts: &[Part], r: ResId) -> bool
 
 /// The neighborhoods in which a part would be counted anew, as a mask: it comes in the place of the present part of its job, if there
 /// is one.
-fn entered(table: &LeadTable<'_>, present: Option<Part>, part: Part) -> u64
+fn entered(table: &StageMasks<'_>, present: Option<Part>, part: Part) -> u64
     requires present { IfSome present (λ part. IsStage table.now (stage_of part)) }
     requires stage { IsStage table.now (stage_of part) }
     ensures bits { (r : ℕ) → has_bit result r ≡ enters table.now present part r }
@@ -48,7 +48,7 @@ fn entered(table: &LeadTable<'_>, present: Option<Part>, part: Part) -> u64
 /// part doesn't enter holds no more than it does now, so only the others are counted.
 #[inline(always)]
 pub fn first_over(
-    table: &LeadTable<'_>,
+    table: &StageMasks<'_>,
     parts: &[Part],
     present: Option<Part>,
     part: Part,

@@ -16,11 +16,11 @@
 
 mod changes;
 mod counts;
-mod lead_table;
 mod mask;
 mod parts;
 mod recount;
 mod replies;
+mod stage_masks;
 mod sweep;
 
 pub use recount::Recount;

@@ -5,8 +5,8 @@ ghost use Rattle.cell_base.specs.Neighborhoods.{count};
 ghost use Rattle.cell_base.specs.Outcomes.{reply_to, state_after};
 ghost use Rattle.cell_base.specs.Fits.{CellFits, RequestFits, units_of};
 
-use crate::lead_table::LeadTable;
 use crate::parts::place_asked;
+use crate::stage_masks::StageMasks;
 use crate::{changes, counts, replies};
 use cell_base::{Cell, NoMemory, Part, Reply, Request, ResId};
 use std::alloc::Global;
@@ -16,7 +16,7 @@ use std::marker::Model;
 /// aside. Contracts see it as a `RecountState`.
 #[derive(Drop)]
 pub struct Recount<'a> {
-    table: LeadTable<'a>,
+    table: StageMasks<'a>,
     parts: Vec<Part>,
     kept: Vec<Part>,
 }
@@ -40,7 +40,7 @@ impl<'a> Recount<'a> {
         ensures { IfOk result (λ recount. recount ≡ record { cell = cell.now; parts = []; kept = [] }) }
     {
         let room = units(cell);
-        let table = LeadTable::new(alloc, cell)?;
+        let table = StageMasks::new(alloc, cell)?;
         let parts = Vec::with_capacity(alloc, room)?;
         let kept = Vec::with_capacity(alloc, room)?;
         Ok(Recount { table, parts, kept })

@@ -1,4 +1,4 @@
-//! Replies to requests.
+//! Replies to requests, each by a look at every part: what the core keeps as running numbers is counted here anew.
 ghost use Rattle.std.specs.Prelude.{◌≡◌, ◌≤◌, ◌<◌, ◌++◌, ◌∷◌, [], length, position, List, Some, IfSome};
 ghost use Rattle.cell_base.specs.declared.limits.TheConstants.{MAX_UNITS};
 ghost use Rattle.cell_base.specs.declared.requests.Part.{Part};
@@ -9,14 +9,14 @@ ghost use Rattle.cell_base.specs.Fits.{RequestFits};
 ghost use Rattle.plain_recount.specs.Asking.{place_asked};
 
 use crate::counts::{count, first_over};
-use crate::lead_table::LeadTable;
 use crate::parts::part_at;
+use crate::stage_masks::StageMasks;
 use cell_base::{Part, Refusal, Reply, Request};
 
 /// The reply to a request, whose part stands there.
 #[inline(always)]
 pub fn reply_to(
-    table: &LeadTable<'_>,
+    table: &StageMasks<'_>,
     parts: &[Part],
     found: Option<usize>,
     request: &Request,
@@ -64,7 +64,7 @@ pub fn reply_to(
 }
 
 /// The reply to a part that comes new into the cell, where its job has no part yet.
-fn reply_to_entry(table: &LeadTable<'_>, parts: &[Part], found: Option<usize>, part: Part) -> Reply
+fn reply_to_entry(table: &StageMasks<'_>, parts: &[Part], found: Option<usize>, part: Part) -> Reply
     requires few { length parts.now ≤ MAX_UNITS }
     requires admitted { IsAdmitted table.now parts.now }
     requires stage { IsStage table.now (stage_of part) }
@@ -78,7 +78,7 @@ fn reply_to_entry(table: &LeadTable<'_>, parts: &[Part], found: Option<usize>, p
 }
 
 /// The reply to the move of a part.
-fn reply_to_move(table: &LeadTable<'_>, parts: &[Part], part: Part, branch: u16) -> Reply
+fn reply_to_move(table: &StageMasks<'_>, parts: &[Part], part: Part, branch: u16) -> Reply
     requires few { length parts.now ≤ MAX_UNITS }
     requires admitted { IsAdmitted table.now parts.now }
     requires stage { IsStage table.now (stage_of part) }
@@ -103,7 +103,7 @@ fn reply_to_move(table: &LeadTable<'_>, parts: &[Part], part: Part, branch: u16)
 }
 
 /// The reply to the unload of a part.
-fn reply_to_unload(table: &LeadTable<'_>, part: Part) -> Reply
+fn reply_to_unload(table: &StageMasks<'_>, part: Part) -> Reply
     requires { IsStage table.now (stage_of part) }
     ensures { (parts : List Part) → result ≡ (outcome_of_unload table.now parts (Some part)).0 }
 {
@@ -119,7 +119,7 @@ fn reply_to_unload(table: &LeadTable<'_>, part: Part) -> Reply
 /// The reply where the part would come in the place of its job's present one.
 #[inline(always)]
 fn reply_to_arrival(
-    table: &LeadTable<'_>,
+    table: &StageMasks<'_>,
     parts: &[Part],
     present: Option<Part>,
     part: Part,

@@ -13,13 +13,13 @@ use std::marker::Model;
 
 /// A cell that fits, with the masks of its stages. Contracts see it as the cell.
 #[derive(Drop)]
-pub struct LeadTable<'a> {
+pub struct StageMasks<'a> {
     cell: &'a Cell,
     /// By type and place: a bit for each resource to which the stage leads.
     masks: List<List<u64>>,
 }
 
-impl<'a> Model for LeadTable<'a> {
+impl<'a> Model for StageMasks<'a> {
     ghost use Rattle.std.specs.Prelude.{◌≡◌};
     ghost use Rattle.cell_base.specs.declared.cells.Cell.{Cell};
     ghost use Rattle.cell_base.specs.Fits.{CellFits};
@@ -32,14 +32,14 @@ impl<'a> Model for LeadTable<'a> {
     ghost invariant = { λ s. CellFits s.cell.now × (s.masks ≡ leading_table s.cell.now) };
 }
 
-impl<'a> LeadTable<'a> {
+impl<'a> StageMasks<'a> {
     /// The cell with its table.
-    pub fn new(alloc: Global, cell: &'a Cell) -> Result<LeadTable<'a>, NoMemory>
+    pub fn new(alloc: Global, cell: &'a Cell) -> Result<StageMasks<'a>, NoMemory>
         requires { CellFits cell.now }
         ensures { IfOk result (λ table. table ≡ cell.now) }
     {
         let masks = sweep::table(alloc, cell)?;
-        Ok(LeadTable { cell, masks })
+        Ok(StageMasks { cell, masks })
     }
 
     /// The cell.

@@ -10,9 +10,9 @@ use Rattle.cell_base.specs.Fits.{steps_of}
 use Rattle.cell_base.specs.Histories.{entries_of}
 use Rattle.cell_base.specs.Rounds.{IsSession}
 use Rattle.cell_base.specs.Scripts.{Progress, IsTrace, IsWholeTrace, begin_at, script_of, first_step}
+use Rattle.durable_cell.specs.declared.replays.TheConstants.{MAX_BEFORE_DRAIN}
 use Rattle.cell_walks.specs.Outcomes.{Outcome}
 use Rattle.cell_walks.specs.Walks.{Walk, Tests, Opens, Answers}
-use Rattle.run_command.specs.declared.run.TheConstants.{MAX_RUN_ROOM}
 use Rattle.cell_texts.specs.Tests.{cell_file, shift_file}
 use Rattle.journal_texts.specs.Tests.{to_add}
 use Rattle.journal_texts.specs.Starting.{start_test}
@@ -20,7 +20,7 @@ use Rattle.journal_texts.specs.Records.{IsRecordedOrHalted}
 
 -- how many grants a journal may have before a shift: so many that it has room for the steps of the shift and of a drain after it
 abbrev pub run_room : Shift → ℕ
-run_room shift = MAX_RUN_ROOM - steps_of shift
+run_room shift = MAX_BEFORE_DRAIN - steps_of shift
 
 -- so the entries of each session go through its script, from the step on that it has reached by the grants
 abbrev pub EachSession : (List Request → ℕ → Progress → List Entry → Type 0) → Shift → List Grant → List Entry → Type 0

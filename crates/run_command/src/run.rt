@@ -10,15 +10,13 @@ use cell_base::Shift;
 use cell_sessions::ShiftGrants;
 use cell_texts::{CellFile, CommandEnd, read_cell, read_shift};
 use cell_walks::leaves_only_now;
+use durable_cell::MAX_BEFORE_DRAIN;
 use journal_texts::{Made, Recorded, open_journal_with, print_recorded};
 use outside_io::{Disk, Files, Pace, Sink};
 use solo_rounds::{asks_of, steps_of};
 use std::alloc::Global;
 use std::sync::Wait;
 use std::thread::Threads;
-
-/// The most grants of a journal and steps of a shift together that runs on it, so that a drain after it has room.
-const MAX_RUN_ROOM: u64 = 1_572_864;
 
 /// Runs `run CELL SHIFT JOURNAL`. All memory is taken before the sessions start, and they have all ended before the first line is
 /// printed.
@@ -88,7 +86,7 @@ fn run_journal<R: Threads + Wait + Sync, D: Disk + Send, P: Pace + Sync>(
         result.made }
     ensures fits { IfOk result.made EntriesFit }
 {
-    let room = MAX_RUN_ROOM - steps_of(shift);
+    let room = MAX_BEFORE_DRAIN - steps_of(shift);
     let own = ShiftGrants::of(alloc, shift.number);
     match open_journal_with(alloc, held, disk, room, asks_of(shift), own) {
         Ok(opened) => start(rt, alloc, opened.durable, &opened.kept, shift, pace),

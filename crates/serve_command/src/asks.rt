@@ -1,14 +1,14 @@
 //! What a line asks.
 ghost use Rattle.std.specs.Prelude.{◌≡◌, ◌∷◌, [], Ok, Err, IfSome};
 ghost use Rattle.cell_base.specs.declared.cells.Cell.{Cell};
-ghost use Rattle.cell_base.specs.Fits.{CellFits, RequestFits};
+ghost use Rattle.cell_base.specs.Fits.{RequestFits};
 ghost use Rattle.serve_command.specs.Asks.{AskFits, ask_of, ask_of_one, ask_of_several, ask_of_session, ask_of_words};
 ghost use Rattle.serve_command.specs.Asks.{is_word, job_asked, request_asked, request_of, step_asked, wait_asked, why_asked};
 ghost use Rattle.step_text.specs.Words.{words};
 
-use cell_base::{Cell, JobId, Request};
+use cell_base::{JobId, Request};
 use record_text::read_place;
-use step_text::{cut, number_of, read_step};
+use step_text::{IndexedCell, cut, number_of};
 
 /// The most bytes of a line that asks something: the longest places a part.
 pub const MAX_ASK_BYTES: usize = 66;
@@ -66,8 +66,7 @@ pub enum Ask {
 
 /// What a line asks. What it asks for fits the cell.
 #[tactic(auto, unfolding(crate::specs::Asks::ask_of))]
-pub fn read_ask(cell: &Cell, line: &[u8]) -> Ask
-    requires { CellFits cell.now }
+pub fn read_ask(cell: &IndexedCell<'_>, line: &[u8]) -> Ask
     ensures ask { result ≡ ask_of cell.now line.now }
     ensures fits { AskFits cell.now result }
 {
@@ -78,8 +77,7 @@ pub fn read_ask(cell: &Cell, line: &[u8]) -> Ask
 }
 
 // The same, however long the line is.
-fn ask_of_words(cell: &Cell, line: &[u8]) -> Ask
-    requires { CellFits cell.now }
+fn ask_of_words(cell: &IndexedCell<'_>, line: &[u8]) -> Ask
     ensures ask { result ≡ ask_of_words cell.now (words line.now) }
     ensures fits { AskFits cell.now result }
 {
@@ -105,8 +103,7 @@ fn ask_of_one(word: &[u8]) -> Ask
     }
 }
 
-fn ask_of_several(cell: &Cell, word: &[u8], rest: &[u8]) -> Ask
-    requires { CellFits cell.now }
+fn ask_of_several(cell: &IndexedCell<'_>, word: &[u8], rest: &[u8]) -> Ask
     ensures ask { result ≡ ask_of_several cell.now word.now (words rest.now) }
     ensures fits { AskFits cell.now result }
 {
@@ -122,12 +119,11 @@ fn ask_of_several(cell: &Cell, word: &[u8], rest: &[u8]) -> Ask
     }
 }
 
-fn why_of(cell: &Cell, text: &[u8]) -> Ask
-    requires { CellFits cell.now }
+fn why_of(cell: &IndexedCell<'_>, text: &[u8]) -> Ask
     ensures ask { result ≡ why_asked cell.now (words text.now) }
     ensures fits { AskFits cell.now result }
 {
-    match read_step(cell, text) {
+    match cell.read(text) {
         Ok(request) => Ask::Why { request },
         Err(_) => Ask::Nothing,
     }
@@ -157,8 +153,7 @@ fn job_of_word(word: &[u8]) -> Ask
     }
 }
 
-fn ask_of_session(cell: &Cell, session: u16, text: &[u8]) -> Ask
-    requires { CellFits cell.now }
+fn ask_of_session(cell: &IndexedCell<'_>, session: u16, text: &[u8]) -> Ask
     ensures ask { result ≡ ask_of_session cell.now session (words text.now) }
     ensures fits { AskFits cell.now result }
 {
@@ -175,8 +170,7 @@ fn ask_of_session(cell: &Cell, session: u16, text: &[u8]) -> Ask
 }
 
 // What a session asks in words that are none of these.
-fn request_asked(cell: &Cell, session: u16, text: &[u8]) -> Ask
-    requires { CellFits cell.now }
+fn request_asked(cell: &IndexedCell<'_>, session: u16, text: &[u8]) -> Ask
     ensures ask { result ≡ request_asked cell.now session (words text.now) }
     ensures fits { AskFits cell.now result }
 {
@@ -188,20 +182,18 @@ fn request_asked(cell: &Cell, session: u16, text: &[u8]) -> Ask
 }
 
 // A session asks for a step, and it may wait.
-fn wait_of(cell: &Cell, session: u16, text: &[u8]) -> Ask
-    requires { CellFits cell.now }
+fn wait_of(cell: &IndexedCell<'_>, session: u16, text: &[u8]) -> Ask
     ensures ask { result ≡ wait_asked cell.now session (words text.now) }
     ensures fits { AskFits cell.now result }
 {
-    match read_step(cell, text) {
+    match cell.read(text) {
         Ok(request) => Ask::Wait { session, request },
         Err(_) => Ask::Nothing,
     }
 }
 
 // A session asks for a step, or says that it has put a part in.
-fn step_of(cell: &Cell, session: u16, text: &[u8]) -> Ask
-    requires { CellFits cell.now }
+fn step_of(cell: &IndexedCell<'_>, session: u16, text: &[u8]) -> Ask
     ensures ask { result ≡ step_asked cell.now session (words text.now) }
     ensures fits { AskFits cell.now result }
 {
@@ -220,12 +212,11 @@ fn is_word(text: &[u8], word: &[u8]) -> bool
 }
 
 // A step, or the place of a part.
-fn request_of(cell: &Cell, text: &[u8]) -> Option<Request>
-    requires { CellFits cell.now }
+fn request_of(cell: &IndexedCell<'_>, text: &[u8]) -> Option<Request>
     ensures request { result ≡ request_of cell.now (words text.now) }
     ensures fits { IfSome result (RequestFits cell.now) }
 {
-    match read_step(cell, text) {
+    match cell.read(text) {
         Ok(request) => Some(request),
         Err(_) => read_place(cell, text),
     }

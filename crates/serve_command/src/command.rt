@@ -18,6 +18,7 @@ use crate::serving::serve_live;
 use cell_base::NoMemory;
 use cell_texts::{CellFile, CommandEnd, read_cell};
 use cell_walks::EarlyEnd;
+use durable_cell::MAX_BEFORE_DRAIN;
 use input_lines::InputLines;
 use journal_texts::at_journal_fault;
 use live_cell::{LiveCell, OpenedLive};
@@ -26,10 +27,11 @@ use peers::Peer;
 use shift_recovery::{OpenError, OpenFault};
 use std::alloc::Global;
 use std::sync::Wait;
+use step_text::NameIndex;
 use wait_queue::WaitQueue;
 
-/// The most grants of a journal that is served: a drain always has room after them.
-pub const MAX_SERVED: u64 = 1_572_864;
+/// The most grants of a journal that is served.
+pub const MAX_SERVED: u64 = MAX_BEFORE_DRAIN;
 
 // The memory of a conversation, beside that of the live cell.
 struct Desk {
@@ -113,6 +115,7 @@ fn serve_journal<R: Wait, D: Disk, T: Peer<D>>(
         replies,
         lines,
     } = desk;
+    let names = NameIndex::of(&cell);
     match LiveCell::open(alloc, cell, &text, disk, MAX_SERVED, MAX_REPLIES, counts) {
         Ok(OpenedLive { live, kept: counts }) => {
             let server = Server {
@@ -122,6 +125,7 @@ fn serve_journal<R: Wait, D: Disk, T: Peer<D>>(
                 asked: 0,
                 replies,
                 first: None,
+                names,
             };
             serve_live(rt, server, lines, peer)
         }

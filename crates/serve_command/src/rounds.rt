@@ -22,6 +22,7 @@ use outside_io::Disk;
 use peers::Peer;
 use shift_recovery::JournalFault;
 use std::slice;
+use step_text::IndexedCell;
 
 impl<D: Disk> Server<D> {
     /// Answers the lines that are at hand, up to a group of them: the answers are kept, and the grants are pending. Says whether the
@@ -38,7 +39,8 @@ impl<D: Disk> Server<D> {
             if !lines.next_line() {
                 return false;
             }
-            let ask = read_ask(self.live.core().cell(), lines.line());
+            let indexed = IndexedCell::over(self.live.core().cell(), &self.names);
+            let ask = read_ask(&indexed, lines.line());
             if let Err(_) = self.answer(&ask) {
                 return true;
             }

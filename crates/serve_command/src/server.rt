@@ -13,6 +13,7 @@ use cell_base::{Cell, Request, request_fits};
 use live_cell::{JournalFull, LiveCell};
 use outside_io::Disk;
 use record_text::{Line, left_line, why_line};
+use step_text::NameIndex;
 use wait_queue::WaitQueue;
 
 /// Where the answer to the first grant of a group stands among the answers, and the line that says that it halted.
@@ -23,7 +24,8 @@ pub struct FirstGrant {
 }
 
 /// A live cell, the number of each session's grants, the sessions that wait, and how many lines were asked, as far as 64 bits count. Of the
-/// group that is under way, the answers, which are put once its grants are stable, and its first grant.
+/// group that is under way, the answers, which are put once its grants are stable, and its first grant. And the index of the cell's names,
+/// by which lines are read.
 #[derive(Drop)]
 pub struct Server<D: Disk> {
     pub live: LiveCell<D>,
@@ -32,6 +34,7 @@ pub struct Server<D: Disk> {
     pub asked: u64,
     pub replies: Replies,
     pub first: Option<FirstGrant>,
+    pub names: NameIndex,
 }
 
 impl<D: Disk> Server<D> {

@@ -9,7 +9,7 @@ use Rattle.policy_laws.proofs.Lists.{All-found}
 use Rattle.policy_laws.proofs.Parts.{part_of-found}
 use Rattle.policy_laws.proofs.Room.{room_for}
 use Rattle.policy_laws.proofs.Granting.{move-granted}
-use Rattle.plain_recount.proofs.changes.go_on.Goals as goal
+use Rattle.plain_recount.proofs.changes.move_job.Goals as goal
 
 pub next_place-requires : goal.next_place-requires
 next_place-requires c =

@@ -4,7 +4,7 @@ use Rattle.cell_base.specs.declared.requests.Part.{Part}
 use Rattle.cell_base.specs.Stages.{IsStage, stage_of}
 use Rattle.cell_base.specs.Fits.{CellFits}
 use Rattle.policy_laws.proofs.Stages.{first_stage}
-use Rattle.plain_recount.proofs.lead_table.LeadTable.entry.Goals as goal
+use Rattle.plain_recount.proofs.stage_masks.StageMasks.entry.Goals as goal
 
 pub arrival-requires : goal.arrival-requires
 arrival-requires c =

@@ -3,7 +3,7 @@ use Rattle.std.proofs.Common.{ap, arith, ◌∙◌}
 use Rattle.cell_base.specs.Masks.{has_bit}
 use Rattle.cell_base.specs.Stages.{stage_of}
 use Rattle.policy_laws.proofs.Masks.{mask_law}
-use Rattle.plain_recount.proofs.lead_table.LeadTable.leads.Goals as goal
+use Rattle.plain_recount.proofs.stage_masks.StageMasks.leads.Goals as goal
 
 pub has_bit-requires : goal.has_bit-requires
 has_bit-requires c = omega (arith, c.mask.ensures.fits.resource_count.1, c.requires.resource)

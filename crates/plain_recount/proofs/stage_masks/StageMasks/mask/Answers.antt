@@ -5,7 +5,7 @@ use Rattle.cell_base.specs.Neighborhoods.{mask_of}
 use Rattle.plain_recount.specs.Leading.{leading_row, leading_table}
 use Rattle.cell_base.proofs.Growing.{length-made, made_at}
 use Rattle.policy_laws.proofs.Stages.{kind_within}
-use Rattle.plain_recount.proofs.lead_table.LeadTable.mask.Goals as goal
+use Rattle.plain_recount.proofs.stage_masks.StageMasks.mask.Goals as goal
 
 pub get-requires : goal.get-requires
 get-requires c =

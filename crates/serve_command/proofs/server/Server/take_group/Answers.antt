@@ -57,7 +57,7 @@ returns-in-Err-clause-taken g c = λ talk text given at reads.
     let cell = old.live.cell in
     let so = c.loop-i.invariant.goes_on talk text given at reads in
     let line = c.next_line.ensures.whole c.if-not-next_line.false text _ so.2 in
-    let cell_is = c.cell.ensures.cell ∙ ap (λ (s : CoreState). s.cell) c.core.ensures.core ∙ so.1.cell_is in
+    let cell_is = c.over-indexed.ensures ∙ c.cell.ensures.cell ∙ ap (λ (s : CoreState). s.cell) c.core.ensures.core ∙ so.1.cell_is in
     let ask_is = c.read_ask-ask.ensures.ask ∙ (λ i. ask_of (cell_is i) ((c.line.ensures ∙ line.1) i)) ∙ ask_of-kept cell line.0 in (
       so.0,
       subst (λ (s : Server _). IsAnsweredGroup cell talk old.asked (map (ask_of cell) so.0) s) (sym c.in-Err.ensures.same) so.1,
@@ -81,7 +81,7 @@ loop-i-preserved g c =
           let cell = old.live.cell in
           let taken = so.goes_on talk text given at reads in
           let line = c.next_line.ensures.whole c.if-not-next_line.false text _ taken.2 in
-          let cell_is = c.cell.ensures.cell ∙ ap (λ (s : CoreState). s.cell) c.core.ensures.core ∙ taken.1.cell_is in
+          let cell_is = c.over-indexed.ensures ∙ c.cell.ensures.cell ∙ ap (λ (s : CoreState). s.cell) c.core.ensures.core ∙ taken.1.cell_is in
           let ask_is = c.read_ask-ask.ensures.ask ∙ (λ i. ask_of (cell_is i) ((c.line.ensures ∙ line.1) i)) ∙ ask_of-kept cell line.0 in
           one_more cell talk old.asked text given taken.0 _ taken.1 line.0 _ ask_is c.answer.new.self c.next_line.new.self _ taken.3
           (c.in_default.ensures.answered _ taken.1.at) goes line.2;
