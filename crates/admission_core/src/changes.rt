@@ -1,4 +1,5 @@
-//! The changes of granted requests.
+//! The changes of granted requests. A part that comes, goes on or leaves changes four things in step: the table of parts, the counts of the
+//! neighborhoods by the masks of its stages, the steps that all parts need together, and the marks of the resources that are occupied.
 ghost use Rattle.std.specs.Prelude.{◌≡◌, ◌<◌, ◌++◌, ◌∷◌, [], length, Some, None};
 ghost use Rattle.cell_base.specs.Policy.{first_over};
 ghost use Rattle.cell_base.specs.Outcomes.{finish_first, is_waiting_on, outcome_of_entry, outcome_of_move, without};

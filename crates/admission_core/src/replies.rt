@@ -1,4 +1,5 @@
-//! Replies to requests.
+//! Replies to requests, by the tests of the policy in their order. Room is the last of them: of the neighborhoods that a part would enter,
+//! which a mask has, the lowest full one refuses it.
 ghost use Rattle.std.specs.Prelude.{◌≡◌, List, Some};
 ghost use Rattle.cell_base.specs.Outcomes.{outcome_of_process, outcome_of_entry, outcome_of_move, outcome_of_unload};
 ghost use Rattle.neighborhood_counts.specs.Counts.{IsMaskOf, first_full};

@@ -157,7 +157,14 @@ impl StageMasks {
         ensures value { result ≡ arrival self.now job kind 0 }
         ensures stage { IsStage self.now (stage_of result) }
     {
-        let _cell = self.cell();
+        table_law(self);
         self.arrival(job, kind, 0)
     }
+}
+
+/// The cell of a table fits.
+fn table_law(table: &StageMasks)
+    ensures { CellFits table.now }
+{
+    let _cell = table.cell();
 }

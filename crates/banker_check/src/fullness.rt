@@ -6,7 +6,7 @@ ghost use Rattle.banker_check.specs.WayMasks.{HoldBeyond, AreFull};
 ghost use Rattle.banker_check.specs.Counts.{is_held_up_by};
 
 use crate::held::RESOURCES;
-use crate::lead_table::LeadTable;
+use crate::stage_masks::{StageMasks, table_law};
 use cell_base::{Cell, Part, ResId};
 
 /// The resources on which as many parts stand as they have units, and those on which more stand, as masks.
@@ -17,7 +17,7 @@ pub struct Fullness {
 }
 
 /// The masks of some numbers of parts.
-pub fn fullness_of(table: &LeadTable, held: &[u32; RESOURCES]) -> Fullness
+pub fn fullness_of(table: &StageMasks, held: &[u32; RESOURCES]) -> Fullness
     ensures { AreFull table.now held.now result }
 {
     let cell = table.cell();
@@ -45,11 +45,11 @@ fn holding(cell: &Cell, held: &[u32; RESOURCES], beyond: u32) -> u64
 }
 
 /// Whether the others hold up a part: on some resource of its way they hold each unit. A unit that the part itself holds does not count.
-pub fn is_held_up(table: &LeadTable, held: Fullness, part: Part) -> bool
+pub fn is_held_up(table: &StageMasks, held: Fullness, part: Part) -> bool
     requires { IsStage table.now (stage_of part) }
     ensures { (counts : List ℕ) → AreFull table.now counts held → result ≡ is_held_up_by table.now counts part }
 {
-    let _cell = table.cell();
+    table_law(table);
     let own = 1 << table.resource_at(part).0;
     table.way(part) & (held.full & !own | held.over) != 0
 }

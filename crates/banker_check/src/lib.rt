@@ -33,12 +33,12 @@ mod fullness;
 mod held;
 mod hybrid;
 pub mod laws;
-mod lead_table;
 mod ordering;
 mod parts;
 mod planning;
 mod replies;
 mod rounds;
+mod stage_masks;
 mod tally;
 mod ways;
 

@@ -1,4 +1,4 @@
-//! The durable cell.
+//! The durable cell: its journal is written before its core is changed, and its core is changed before a grant is answered.
 ghost use Rattle.std.specs.Prelude.{◌≡◌, ◌≤◌, ℕ, List as Sequence, [], Some, length, IfOk, IfSome};
 ghost use Rattle.durable_cell.specs.Clauses.{AreDue, CellFits, Grant, Granted, IsAdmitted, IsLegal, IsReserved, RequestFits, StandsFor};
 ghost use Rattle.durable_cell.specs.Clauses.{first_parts, opened_as, parts, reply_to};
@@ -13,6 +13,7 @@ use crate::recalled::{Recall, Recalled};
 use crate::recalling::Recalling;
 use crate::{AskFault, Finished, Heard, MAX_ROOM, Opening, Resumed, resume};
 use admission_core::Core;
+use admission_core::laws::core_law;
 use atomic_table::Badge;
 use cell_base::{Cell, Entry, Grant, List, NoMemory, Reply, Request, Shelf, Told};
 use move_journal::{Journal, MAX_CELL_TEXT};
@@ -143,7 +144,7 @@ impl<D: Disk> Durable<D> {
 }
 
 impl<D: Disk> Durable<D, Recalled> {
-    /// The same without a list of the grants: each is handed on as it is read.
+    /// Opens a disk as `open` does, without a list of the grants: each is handed on as it is read.
     pub fn open_with<K: Taker + Drop>(
         alloc: Global,
         cell: Cell,
@@ -350,7 +351,7 @@ impl<D: Disk, G: Recall> Durable<D, G> {
         ensures kept { KeepsHistory self.now }
         ensures acknowledged { HasSince D.reads_as D.moment D.left_since self.now (D.moment self.now.disk) (length self.now.added) }
     {
-        let _cell = self.core.cell();
+        core_law(&self.core);
         &self.core
     }
 

@@ -1,4 +1,4 @@
-//! Why a request is not decided.
+//! Why a request is not decided: no answer of the policy, but what the disk or the room for the history doesn't allow.
 
 /// Why a request is not decided, in the order of the tests.
 #[derive(Clone, Copy, Debug, PartialEq, Eq)]

@@ -1,4 +1,4 @@
-//! A durable cell that is taken apart.
+//! A durable cell that is taken apart: what stands on its disk, and what its core and its history say of that.
 use admission_core::Core;
 use cell_base::{Entry, List};
 

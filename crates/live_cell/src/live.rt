@@ -1,4 +1,5 @@
-//! The live cell.
+//! The live cell: its core is ahead of its journal by a group of grants, which a commit makes stable together, and which are told only
+//! then.
 ghost use Rattle.std.specs.Prelude.{◌≡◌, ◌+◌, ◌<◌, ◌≤◌, ℕ, List as Sequence, [], ◌++◌, length};
 ghost use Rattle.std.specs.Prelude.{Some, true, false, OnOk, OnErr, IfOk, IfErr, IfSome, ⊤};
 ghost use Rattle.durable_cell.specs.Clauses.{CellFits, Grant, IsAdmitted, RequestFits, StandsFor, reply_to};
@@ -8,6 +9,7 @@ ghost use Rattle.live_cell.specs.LiveState.{asked, committed};
 
 use crate::{JournalFull, LiveParts, OpenedLive};
 use admission_core::Core;
+use admission_core::laws::core_law;
 use cell_base::{Cell, Grant, Reply, Request};
 use durable_cell::{MAX_ROOM, Resumed, resume};
 use move_journal::{Group, Journal, MAX_CELL_TEXT, MAX_GROUP};
@@ -219,7 +221,7 @@ impl<D: Disk> LiveCell<D> {
         ensures admitted { IsAdmitted self.now.cell self.now.parts }
         ensures room { self.now.len + length self.now.pending ≤ self.now.room }
     {
-        let _cell = self.core.cell();
+        core_law(&self.core);
         &self.core
     }
 

@@ -173,7 +173,7 @@ impl Arrivals {
         }
     }
 
-    /// The same by a table, which is asked for each part.
+    /// The job of the first part that waits on a resource, by a table of stages, which is asked for each part.
     pub fn first_waiting_by(&self, table: &StageTable, on: ResId) -> Option<JobId>
         ensures { result ≡ option_map (λ part. part.job) (find (is_waiting_on table.now on.0) (parts_of self.now.items)) }
     {

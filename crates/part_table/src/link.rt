@@ -75,7 +75,7 @@ impl Model for Packed {
 const _: () = prove!(size_of::<Packed>() == 20);
 
 impl Packed {
-    /// The same link.
+    /// A link, packed.
     #[inline(always)]
     pub fn of(link: Link) -> Packed
         ensures { result ≡ link }

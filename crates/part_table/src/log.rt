@@ -118,7 +118,7 @@ impl Log {
         if self.is_at(job, at) { Some(at) } else { None }
     }
 
-    /// The same, where the part may stand at a place that is told: there it is found without a look-up of its job.
+    /// The place of the entry of a job, where one stays. Where that is the place that is told, it is found without a look-up of the job.
     #[inline(always)]
     pub fn place_near(&self, job: JobId, near: u32) -> Option<u32>
         ensures { MatchOption result (IsAbsent self.now.entries job) (IsPlaceOf self.now.entries job) }

@@ -1,4 +1,4 @@
-//! The table of parts.
+//! The table of parts: an order of arrival for all, and where a cell was told, one more for each of its resources.
 ghost use Rattle.std.specs.Prelude.{◌≡◌, ◌+◌, ◌<◌, ◌≤◌, ◌==◌, true, false, [], ◌∷◌, ◌++◌, length, Some, None};
 ghost use Rattle.std.specs.Prelude.{slice_get, find, IfOk, IfSome, IsSome};
 ghost use Rattle.std.specs.Option.{option_map, ForSome};
@@ -165,7 +165,7 @@ impl Parts {
         }
     }
 
-    /// The same of a part that was found, without a look-up of its job.
+    /// A part that was found goes on to another place, and comes last, without a look-up of its job.
     pub fn advance_found(&mut self, found: Found, place: u16, done: bool)
         requires { part_of self.old.parts found.part.job ≡ Some found.part }
         ensures parts { self.new.parts ≡ gone_on self.old.parts found.part.job place done }
@@ -210,7 +210,7 @@ impl Parts {
         }
     }
 
-    /// The same of a part that was found, without a look-up of its job.
+    /// A part that was found leaves the cell, without a look-up of its job.
     pub fn depart_found(&mut self, found: Found)
         requires { part_of self.old.parts found.part.job ≡ Some found.part }
         ensures parts { self.new.parts ≡ without self.old.parts found.part.job }

@@ -8,6 +8,7 @@ ghost use Rattle.refusal_reason.specs.Reasons.{IsPresent};
 ghost use Rattle.refusal_reason.specs.Shown.{IsLine, show_lines};
 
 use admission_core::Core;
+use admission_core::laws::core_law;
 use cell_base::{Cell, Refusal, Request};
 
 /// The refusal of a request in the present state is a present one.
@@ -16,7 +17,7 @@ pub fn refusal_is_present(core: &Core, request: &Request, refusal: &Refusal)
     requires refused { reply_to core.now.cell core.now.parts request.now ≡ Refused refusal.now }
     ensures { IsPresent core.now.cell core.now.parts refusal.now }
 {
-    let _cell = core.cell();
+    core_law(core);
 }
 
 /// Each line that shows a cell has one newline, at its end.

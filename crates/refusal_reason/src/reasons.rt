@@ -7,8 +7,9 @@ ghost use Rattle.cell_base.specs.Fits.{CellFits};
 ghost use Rattle.refusal_reason.specs.Reasons.{IsPresent, jobs_of, reason, units_named};
 
 use admission_core::Core;
+use admission_core::laws::core_law;
 use cell_base::{JobId, List, NoMemory, Part, Refusal, ResId};
-use route_table::{StageNo, StageTable};
+use route_table::{StageNo, StageTable, table_law};
 use std::alloc::Global;
 use upstream_sets::Upstream;
 
@@ -30,7 +31,7 @@ fn counted_jobs(alloc: Global, core: &Core, r: ResId) -> Result<List<JobId>, NoM
     requires { r.0 < length core.now.cell.resources }
     ensures { IfOk result (λ jobs. jobs ≡ jobs_of (counted core.now.cell core.now.parts r.0)) }
 {
-    let _fits = core.cell();
+    core_law(core);
     let parts = core.parts(alloc)?;
     let mut jobs = List::new(alloc);
     for part in parts.as_slice() {
@@ -59,6 +60,6 @@ fn is_member(table: &StageTable, upstream: &Upstream, stage: StageNo, r: ResId) 
     requires resource { r.0 < length table.now.resources }
     ensures { result ≡ leads table.now (stage_numbered table.now stage.0) r.0 }
 {
-    let _fits = table.cell();
+    table_law(table);
     upstream.mask(stage) >> r.0 & 1 == 1
 }

@@ -18,6 +18,8 @@
 #![tactic(auto)]
 
 mod entries;
+mod laws;
 mod stage_table;
 
+pub use laws::table_law;
 pub use stage_table::{StageNo, StageTable};

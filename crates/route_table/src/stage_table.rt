@@ -1,4 +1,4 @@
-//! The table of the stages of a cell.
+//! The table of the stages of a cell: a number for each, and under it what is looked up of the stage, so that no look-up walks a route.
 ghost use Rattle.std.specs.Prelude.{◌≡◌, ◌<◌, length, option_map, IfOk, IfSome};
 ghost use Rattle.std.specs.Arc.{arc_value};
 ghost use Rattle.std.specs.Option.{SomeIff};

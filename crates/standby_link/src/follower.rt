@@ -1,4 +1,5 @@
-//! The standby's side of the link.
+//! The standby's side of the link: the grant of the next frame is appended, and stable before it is answered; of every other frame it is
+//! told whether it can be of the same controller.
 ghost use Rattle.std.specs.Prelude.{◌≡◌, ◌≤◌, [], None, IfOk, IfErr};
 ghost use Rattle.cell_base.specs.Histories.{replay};
 ghost use Rattle.durable_cell.specs.Acknowledged.{MovesSafely};
@@ -8,7 +9,7 @@ ghost use Rattle.standby_link.specs.Deliveries.{Delivers, LeavesDelivered, Stand
 
 use crate::{Frame, TakeFault};
 use cell_base::{Grant, NoMemory, Reply, Shelf, request_fits};
-use durable_cell::Durable;
+use durable_cell::{Durable, durable_law};
 use outside_io::Disk;
 use std::alloc::Global;
 use std::marker::Model;
@@ -51,8 +52,7 @@ fn shelve(alloc: Global, opening: &[Grant], room: u64) -> Result<Shelf<Grant>, N
 fn stays<D: Disk>(durable: &Durable<D>)
     ensures { MovesSafely D.reads_as D.may_leave D.moment D.left_since durable.now durable.now }
 {
-    let _history = durable.history();
-    let _core = durable.core();
+    durable_law(durable);
 }
 
 impl<D: Disk> Follower<D> {
@@ -68,7 +68,7 @@ impl<D: Disk> Follower<D> {
         ensures none_added { IfOk result (λ follower. kept follower ≡ durable.opening) }
         ensures back { IfErr result (λ back. back.0 ≡ durable) }
     {
-        let _history = durable.history();
+        durable_law(&durable);
         match shelve(alloc, durable.opening(), room) {
             Ok(grants) => Ok(Follower {
                 durable,
@@ -102,7 +102,7 @@ impl<D: Disk> Follower<D> {
         self.answer(bytes)
     }
 
-    // The same, by what is answered.
+    // Takes a frame, by what is answered; what holds at each moment of the call follows of it.
     fn answer(&mut self, bytes: &[u8; 24]) -> Result<u64, TakeFault>
         ensures answer { Takes self.old bytes.now result self.new }
         ensures cause { HasTakeCause D.faults self.old.durable.disk self.new.durable.disk result }

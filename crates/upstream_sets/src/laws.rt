@@ -9,7 +9,7 @@ ghost use Rattle.policy_laws.specs.Laws.{IsBelow};
 
 use crate::Upstream;
 use cell_base::ResId;
-use route_table::{StageNo, StageTable};
+use route_table::{StageNo, StageTable, table_law};
 
 /// On a step to a resource of no lesser order, each bit of the mask of the next stage is set in that of the present one.
 pub fn up_law(table: &StageTable, upstream: &Upstream, from: StageNo, to: StageNo)
@@ -20,7 +20,7 @@ pub fn up_law(table: &StageTable, upstream: &Upstream, from: StageNo, to: StageN
     requires order { order_at table.now (stage_numbered table.now from.0) ≤ order_at table.now (stage_numbered table.now to.0) }
     ensures { (r : ℕ) → has_bit (slice_index upstream.now to.0) r ≡ true → has_bit (slice_index upstream.now from.0) r ≡ true }
 {
-    let _fits = table.cell();
+    table_law(table);
 }
 
 /// On a step to a resource of lesser order, a bit that the mask of the next stage has and that of the present one has not is
@@ -36,5 +36,5 @@ pub fn down_law(table: &StageTable, upstream: &Upstream, from: StageNo, to: Stag
     requires old { has_bit (slice_index upstream.now from.0) k.0 ≡ false }
     ensures { IsBelow table.now k.0 (stage_numbered table.now from.0) }
 {
-    let _fits = table.cell();
+    table_law(table);
 }

@@ -6,6 +6,7 @@ ghost use Rattle.wait_queue.specs.Watching.{AreCovered, AreFit, AreWatched, AreW
 
 use crate::Waiter;
 use admission_core::Core;
+use admission_core::laws::core_law;
 use cell_base::{Refusal, Reply, Request, ResId};
 
 /// Whether a mask has the bit of a resource.
@@ -45,7 +46,7 @@ pub fn look(
     ensures watched { AreWatched watches.old.items → AreWatched watches.new.items }
     ensures capacity { vec_capacity watches.new ≡ vec_capacity watches.old }
 {
-    let _cell = core.cell();
+    core_law(core);
     let mut exactly = 0;
     for i in 0..waiters.len() {
         match held_by(core, full, &waiters[i].request, watches[i]) {
@@ -67,7 +68,7 @@ fn held_by(core: &Core, full: u64, request: &Request, watch: Option<ResId>) -> O
     requires watch { IsWatch core.now.cell core.now.parts request.now watch }
     ensures { IsHeld core.now.cell core.now.parts request.now result }
 {
-    let _cell = core.cell();
+    core_law(core);
     match watch {
         Some(at) if has(full, at) => Some(at),
         _ => named(core, request),
@@ -79,7 +80,7 @@ fn named(core: &Core, request: &Request) -> Option<ResId>
     requires fit { RequestFits core.now.cell request.now }
     ensures { IsHeld core.now.cell core.now.parts request.now result }
 {
-    let _cell = core.cell();
+    core_law(core);
     match core.decide(request) {
         Reply::Refused(Refusal::Saturated { at, .. }) => Some(at),
         _ => None,

@@ -13,6 +13,7 @@ use crate::job_counts::{JobCounts, is_of, job_of};
 use crate::looking::{Found, look};
 use crate::waiter::{renew_all, waiter_of};
 use admission_core::Core;
+use admission_core::laws::core_law;
 use cell_base::{JobId, NoMemory, Request, ResId};
 use std::alloc::Global;
 use std::marker::Model;
@@ -95,7 +96,7 @@ impl WaitQueue {
         ensures watching { AreWatching core.now.cell core.now.parts self.new.waiters self.new.watches }
         ensures room { self.new.room ≡ self.old.room }
     {
-        let _cell = core.cell();
+        core_law(core);
         let full = core.full();
         if !self.is_stale && self.watched & !full == 0 {
             return None;

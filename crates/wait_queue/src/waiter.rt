@@ -1,4 +1,4 @@
-//! A session that waits.
+//! A session that waits: with one request, and one refusal that it was told, or would be told now.
 ghost use Rattle.std.specs.Prelude.{◌≡◌, map, vec_capacity};
 ghost use Rattle.cell_base.specs.Fits.{RequestFits};
 ghost use Rattle.wait_queue.specs.Waiting.{renewed, waiter_of};

@@ -11,7 +11,7 @@ use Rattle.banker_check.proofs.changes.enter.Goals as goal
 
 pub shift-requires-clause-few : goal.shift-requires-clause-few
 shift-requires-clause-few c =
-    counts-few c.args.table.now c.cell-cell.ensures.fits c.args.tally.now.parts.items c.requires.tallied.state.distinct
+    counts-few c.args.table.now c.table_law.ensures c.args.tally.now.parts.items c.requires.tallied.state.distinct
     c.args.tally.now.counts c.requires.tallied.counts c.requires.few
 
 pub returns-clause-counts : goal.returns-clause-counts
@@ -23,7 +23,7 @@ returns-clause-counts c r =
       c.requires.tallied.counts r,
       bit_at-zero r,
       ap (λ m. bit_at m r) c.mask.ensures,
-      bit_at-mask_of cell c.cell-cell.ensures.fits (stage_of c.args.part) r,
+      bit_at-mask_of cell c.table_law.ensures (stage_of c.args.part) r,
       count_push cell c.args.tally.now.parts.items c.args.part r,
       ap (λ parts. count cell parts r) c.push_reserved.ensures.items,
     )

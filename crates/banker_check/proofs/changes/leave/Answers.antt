@@ -8,14 +8,14 @@ use Rattle.banker_check.proofs.changes.leave.Goals as goal
 
 pub shift-requires-clause-few : goal.shift-requires-clause-few
 shift-requires-clause-few c =
-    counts-few c.args.table.now c.cell-cell.ensures.fits c.args.tally.now.parts.items c.requires.tallied.state.distinct
+    counts-few c.args.table.now c.table_law.ensures c.args.tally.now.parts.items c.requires.tallied.state.distinct
     c.args.tally.now.counts c.requires.tallied.counts c.requires.few
 
 pub shift-requires-clause-held : goal.shift-requires-clause-held
 shift-requires-clause-held c r =
     omega (
       arith,
-      counts-held c.args.table.now c.cell-cell.ensures.fits c.args.tally.now.parts.items c.requires.tallied.state.distinct
+      counts-held c.args.table.now c.table_law.ensures c.args.tally.now.parts.items c.requires.tallied.state.distinct
           c.args.tally.now.counts c.requires.tallied.counts c.args.job r,
       ap (λ m. bit_at m r) c.mask_of_job-from.ensures,
     )
@@ -29,6 +29,6 @@ returns-clause-counts c r =
       c.requires.tallied.counts r,
       bit_at-zero r,
       ap (λ m. bit_at m r) c.mask_of_job-from.ensures,
-      count-gone cell c.cell-cell.ensures.fits c.args.tally.now.parts.items c.requires.tallied.state.distinct c.args.job r,
+      count-gone cell c.table_law.ensures c.args.tally.now.parts.items c.requires.tallied.state.distinct c.args.job r,
       ap (λ parts. count cell parts r) c.take_out.ensures.items,
     )

@@ -10,7 +10,7 @@ pub returns : goal.returns
 returns c parts are =
     let cell = c.args.table.now in
     let counts = c.args.held.now in
-    let within : resource_at cell (stage_of c.args.part) < length cell.resources = resource_within cell c.cell-cell.ensures.fits
+    let within : resource_at cell (stage_of c.args.part) < length cell.resources = resource_within cell c.table_law.ensures
     (stage_of c.args.part) c.requires.stage in
     subst (λ r. AreUnitsHeld cell (parts ++ c.args.part ∷ []) (record {
       on = set counts.on r
@@ -18,4 +18,4 @@ returns c parts are =
       parts = counts.parts + 1;
     }))
     (sym c.resource_at-r.ensures.value) (AreHeld-push cell parts c.args.part counts
-    (omega (arith, within, c.cell-cell.ensures.fits.resource_count.1)) are)
+    (omega (arith, within, c.table_law.ensures.resource_count.1)) are)

@@ -28,6 +28,6 @@ present cell fits parts admitted request fit NoBranch e = tt
 
 pub returns : goal.returns
 returns c =
-    present c.args.core.now.cell c.cell-cell.ensures.fits c.args.core.now.parts c.cell-cell.ensures.admitted c.args.request.now
+    present c.args.core.now.cell c.core_law.ensures.fits c.args.core.now.parts c.core_law.ensures.admitted c.args.request.now
     c.requires.request
     c.args.refusal.now c.requires.refused

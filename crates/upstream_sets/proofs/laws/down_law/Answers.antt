@@ -8,7 +8,7 @@ use Rattle.upstream_sets.proofs.laws.down_law.Goals as goal
 pub returns : goal.returns
 returns c =
     let cell = c.args.table.now in
-    let fits = c.cell-fits.ensures.fits in
+    let fits = c.table_law.ensures in
     let bit = bit_at_number cell fits c.args.upstream.now c.requires.made in
     law cell fits (stage_numbered cell c.args.from.0) (stage_numbered cell c.args.to.0) c.args.k.0 c.requires.next c.requires.order
     (sym (bit c.args.to.0 c.args.k.0 c.requires.to) ∙ c.requires.new)

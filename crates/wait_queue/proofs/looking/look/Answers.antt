@@ -16,17 +16,17 @@ held_by-requires-clause-watch c =
     (sym c.index.ensures) (c.loop-i.invariant.watching c.loop-i.i nobody c.index.result.now c.loop-i-test.true)
 
 pub overflow_shl-watched : goal.overflow_shl-watched
-overflow_shl-watched c = omega (arith, c.in-Some.ensures.0.0, c.cell-cell.ensures.fits.resource_count.1)
+overflow_shl-watched c = omega (arith, c.in-Some.ensures.0.0, c.core_law.ensures.fits.resource_count.1)
 
 pub overflow_shl-exactly : goal.overflow_shl-exactly
-overflow_shl-exactly c = omega (arith, c.in-Some.ensures.0.0, c.cell-cell.ensures.fits.resource_count.1)
+overflow_shl-exactly c = omega (arith, c.in-Some.ensures.0.0, c.core_law.ensures.fits.resource_count.1)
 
 pub loop-i-preserved : goal.loop-i-preserved
 loop-i-preserved c =
     let now = c.loop-i.watches.items in let i = c.loop-i.i in let at = c.in-Some.at in let ws = c.args.waiters.now in
     let cell = c.args.core.now.cell in let parts = c.args.core.now.parts in
     let inv = c.loop-i.invariant in
-    let few : at.0 < 64 = omega (arith, c.in-Some.ensures.0.0, c.cell-cell.ensures.fits.resource_count.1) in
+    let few : at.0 < 64 = omega (arith, c.in-Some.ensures.0.0, c.core_law.ensures.fits.resource_count.1) in
     let within : i < length ws = c.loop-i-test.true in
     let here : i < length now = omega (arith, inv.pairs, within) in
     let new : Option ResId = Some at in

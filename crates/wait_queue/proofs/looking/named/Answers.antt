@@ -11,5 +11,5 @@ returns-in-Refused-Saturated c =
     let arm = c.in-Refused-Saturated in
     let is : reply_to c.args.core.now.cell c.args.core.now.parts c.args.request.now ≡ Refused (Saturated arm.at arm.field-0-1 arm.field-0-2) =
     cc (arm.is, arm.field-0-is, c.decide.ensures.reply) in
-    saturated-held c.args.core.now.cell c.args.core.now.parts c.cell-cell.ensures.admitted c.cell-cell.ensures.fits c.args.request.now c.requires.fit
+    saturated-held c.args.core.now.cell c.args.core.now.parts c.core_law.ensures.admitted c.core_law.ensures.fits c.args.request.now c.requires.fit
     arm.at arm.field-0-1 arm.field-0-2 is

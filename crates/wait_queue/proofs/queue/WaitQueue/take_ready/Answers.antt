@@ -14,8 +14,8 @@ pub returns-then-self-full-eq0-clause-found : goal.returns-then-self-full-eq0-cl
 returns-then-self-full-eq0-clause-found c =
     let i = c.self.inside in let cell = c.args.core.now.cell in let parts = c.args.core.now.parts in
     let test = is_ready cell parts in
-    let none = nobody-ready cell parts i.waiters.items i.watches.items i.watched c.full-full.result c.cell-cell.ensures.fits
-    c.cell-cell.ensures.admitted (subst (λ (q : QueueState). AreFit cell q.waiters) (sym c.self.view_is) c.requires.fit)
+    let none = nobody-ready cell parts i.waiters.items i.watches.items i.watched c.full-full.result c.core_law.ensures.fits
+    c.core_law.ensures.admitted (subst (λ (q : QueueState). AreFit cell q.waiters) (sym c.self.view_is) c.requires.fit)
     c.self.invariant.pairs
     (subst (λ (q : QueueState). AreWatching cell parts q.waiters q.watches) (sym c.self.view_is) c.requires.watching)
     c.self.invariant.covered (c.self.invariant.fresh c.if-not-self.true) c.full-full.ensures c.full-full.type_inv c.if-self-full-eq0.true in
@@ -25,8 +25,8 @@ pub returns-then-self-full-eq0-clause-others : goal.returns-then-self-full-eq0-c
 returns-then-self-full-eq0-clause-others c =
     let i = c.self.inside in let cell = c.args.core.now.cell in let parts = c.args.core.now.parts in
     let test = is_ready cell parts in
-    let none = nobody-ready cell parts i.waiters.items i.watches.items i.watched c.full-full.result c.cell-cell.ensures.fits
-    c.cell-cell.ensures.admitted (subst (λ (q : QueueState). AreFit cell q.waiters) (sym c.self.view_is) c.requires.fit)
+    let none = nobody-ready cell parts i.waiters.items i.watches.items i.watched c.full-full.result c.core_law.ensures.fits
+    c.core_law.ensures.admitted (subst (λ (q : QueueState). AreFit cell q.waiters) (sym c.self.view_is) c.requires.fit)
     c.self.invariant.pairs
     (subst (λ (q : QueueState). AreWatching cell parts q.waiters q.watches) (sym c.self.view_is) c.requires.watching)
     c.self.invariant.covered (c.self.invariant.fresh c.if-not-self.true) c.full-full.ensures c.full-full.type_inv c.if-self-full-eq0.true in

@@ -6,7 +6,7 @@ use Rattle.cell_base.specs.Stages.{IsStage, stage_of}
 use Rattle.cell_base.specs.Numbers.{number_of}
 use Rattle.policy_laws.proofs.Numbering.{numbering_law}
 use Rattle.banker_check.specs.WayMasks.{IsWayMask}
-use Rattle.banker_check.proofs.lead_table.LeadTable.way.Goals as goal
+use Rattle.banker_check.proofs.stage_masks.StageMasks.way.Goals as goal
 
 pub index-requires : goal.index-requires
 index-requires c =

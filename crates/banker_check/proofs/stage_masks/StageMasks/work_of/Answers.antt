@@ -4,7 +4,7 @@ use Rattle.cell_base.specs.Stages.{IsStage, stage_of}
 use Rattle.cell_base.specs.Numbers.{IsNumber, stage_numbered}
 use Rattle.cell_base.specs.Plans.{work_from, work_of}
 use Rattle.policy_laws.proofs.Numbering.{numbering_law}
-use Rattle.banker_check.proofs.lead_table.LeadTable.work_of.Goals as goal
+use Rattle.banker_check.proofs.stage_masks.StageMasks.work_of.Goals as goal
 
 pub remaining-requires : goal.remaining-requires
 remaining-requires c =

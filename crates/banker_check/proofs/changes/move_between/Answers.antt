@@ -9,11 +9,11 @@ use Rattle.cell_base.specs.Outcomes.{without}
 use Rattle.cell_base.specs.Stages.{stage_of}
 use Rattle.banker_check.specs.Tallies.{mask_of_job}
 use Rattle.banker_check.proofs.Tallying.{counts-few, counts-held, count-next}
-use Rattle.banker_check.proofs.changes.put_on.Goals as goal
+use Rattle.banker_check.proofs.changes.move_between.Goals as goal
 
 pub shift-requires-clause-few : goal.shift-requires-clause-few
 shift-requires-clause-few c =
-    counts-few c.args.table.now c.cell-cell.ensures.fits c.args.tally.now.parts.items c.requires.tallied.state.distinct
+    counts-few c.args.table.now c.table_law.ensures c.args.tally.now.parts.items c.requires.tallied.state.distinct
     c.args.tally.now.counts c.requires.tallied.counts c.requires.few
 
 pub shift-requires-clause-held : goal.shift-requires-clause-held
@@ -24,7 +24,7 @@ shift-requires-clause-held c r =
     ap (λ o. option_map_or (λ part. mask_of cell (stage_of part)) o 0) c.requires.found in
     omega (
       arith,
-      counts-held cell c.cell-cell.ensures.fits parts c.requires.tallied.state.distinct c.args.tally.now.counts c.requires.tallied.counts
+      counts-held cell c.table_law.ensures parts c.requires.tallied.state.distinct c.args.tally.now.counts c.requires.tallied.counts
           c.args.part.job r,
       ap (λ m. bit_at m r) from,
       ap (λ m. bit_at m r) c.mask.ensures,
@@ -47,6 +47,6 @@ returns-clause-counts c r =
       ap (λ m. bit_at m r) c.mask.ensures,
       ap (λ m. bit_at m r) c.mask-2.ensures,
       ap (λ (job : JobId). bit_at (mask_of_job cell parts job) r) c.requires.same,
-      count-next cell c.cell-cell.ensures.fits parts c.requires.tallied.state.distinct c.args.next r,
+      count-next cell c.table_law.ensures parts c.requires.tallied.state.distinct c.args.next r,
       ap (λ parts. count cell parts r) now,
     )

@@ -3,7 +3,7 @@ use Rattle.std.proofs.Common.{List, ℕ, length, get_or, ap, ◌∙◌, sym, sub
 use Rattle.cell_base.specs.Stages.{IsStage, stage_of}
 use Rattle.cell_base.specs.Neighborhoods.{mask_of, masks_of}
 use Rattle.policy_laws.proofs.Masks.{stage_has_mask, mask_at_stage}
-use Rattle.banker_check.proofs.lead_table.LeadTable.mask.Goals as goal
+use Rattle.banker_check.proofs.stage_masks.StageMasks.mask.Goals as goal
 
 pub mask-requires : goal.mask-requires
 mask-requires c =
