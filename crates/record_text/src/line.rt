@@ -100,7 +100,7 @@ impl Line {
         self.word(digits.format(n).as_bytes());
     }
 
-    /// The same of a number of 32 bits, which is mostly a short one.
+    /// Appends a space and the digits of a number of 32 bits, which is mostly a short one.
     #[inline(always)]
     pub fn short_number(&mut self, n: u32)
         requires { length self.old + 11 ≤ LINE_BYTES }
@@ -192,7 +192,7 @@ impl Line {
         }
     }
 
-    // The same, however many digits there are.
+    // Appends the digits of a number, however many there are.
     fn long_digits(&mut self, n: u32)
         requires { length self.old + 10 ≤ LINE_BYTES }
         ensures bytes { self.new ≡ self.old ++ decimal n }
@@ -218,7 +218,7 @@ fn digit_count(n: u32) -> usize
     }
 }
 
-/// The same of a number of at most four.
+/// How many digits a number of at most four has.
 fn short_count(n: u32) -> usize
     requires { n < 10000 }
     ensures count { result ≡ length (decimal n) }

@@ -63,7 +63,7 @@ fn asked_at(cell: &IndexedCell<'_>, rest: Rest<'_>) -> Option<(Request, Told)>
     }
 }
 
-// The same of a step. Its first two words are cut once, whether it has two or three.
+// A step and what was told of it. Its first two words are cut once, whether it has two or three.
 #[tactic(auto, unfolding(crate::specs::Reading::two_at, crate::specs::Reading::three_at, crate::specs::Reading::told_after))]
 fn step_told(cell: &IndexedCell<'_>, rest: Rest<'_>) -> Option<(Request, Told)>
     ensures { result ≡ option_or (told_after cell.now (two_at cell.now (words_of_rest (option_copied rest.entry))))

@@ -105,7 +105,7 @@ pub fn place_line(cell: &Cell, request: &Request) -> Line
     }
 }
 
-// The same of the fields of the request.
+// The line of a place, by the fields of the request.
 fn line_of_place(cell: &Cell, job: JobId, kind: TypeId, place: u16, done: bool) -> Line
     requires fits { CellFits cell.now }
     requires placing { IsPlacing cell.now (Place done kind job place) }

@@ -3,6 +3,9 @@ ghost use Rattle.std.specs.Prelude.{◌≡◌};
 ghost use Rattle.std.specs.Option.{option_copied};
 ghost use Rattle.record_text.specs.Reading.{words_of_rest, saturated_at, plain_refusal, why_at, told_at};
 
+use crate::refusal_words::{
+    AT_LAST, IDLE, JOB_LOADED, NO_BRANCH, NO_SUCH_JOB, NOT_LAST, NOT_PROCESSED, SATURATED,
+};
 use crate::words::{Rest, after_word, is_end, number_at, resource_at, word_at};
 use cell_base::{Refusal, Reply, ResId, Told};
 use step_text::IndexedCell;
@@ -12,22 +15,6 @@ const GRANTED: &[u8] = b"granted";
 const REFUSED: &[u8] = b"refused";
 
 const HALTED: &[u8] = b"halted";
-
-const JOB_LOADED: &[u8] = b"job-loaded";
-
-const NO_SUCH_JOB: &[u8] = b"no-such-job";
-
-const NOT_PROCESSED: &[u8] = b"not-processed";
-
-const AT_LAST: &[u8] = b"at-last";
-
-const NOT_LAST: &[u8] = b"not-last";
-
-const IDLE: &[u8] = b"idle";
-
-const NO_BRANCH: &[u8] = b"no-branch";
-
-const SATURATED: &[u8] = b"saturated";
 
 const OF: &[u8] = b"of";
 
