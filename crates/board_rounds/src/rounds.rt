@@ -1,4 +1,5 @@
-//! The rounds, and the turns in them.
+//! The rounds in which the sessions of a shift ask a board. A session that waits has no turn until it is served, and a round in which none
+//! asks is the last.
 ghost use Rattle.std.specs.Prelude.{◌≡◌, ◌+◌, ◌*◌, ◌<◌, ◌≤◌, length};
 ghost use Rattle.std.specs.Bool.{OnTrue, OnFalse};
 ghost use Rattle.std.specs.Option.{is_some};

@@ -1,4 +1,4 @@
-//! The lock.
+//! The lock: a durable cell in a table that threads share, and the passes that are made of it once, and given back with it.
 ghost use Rattle.std.specs.Prelude.{◌≡◌, ◌↔◌, ℕ, ◌≤◌, None, [], length, IfOk, IfErr, All};
 ghost use mathlib.Core.List.{IsPrefix};
 ghost use Rattle.cell_lock.specs.Clauses.{HasSince, IsLegal, KeepsDisk, RequestFits, after, entries_of, grants, plan_step, unsure_grant};

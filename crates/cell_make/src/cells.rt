@@ -1,4 +1,4 @@
-//! The cell.
+//! The cell of a number: the units and the order of each of sixteen resources are drawn, and then the route of each of eight types.
 ghost use Rattle.std.specs.Prelude.{◌≡◌, ◌+◌, ◌<◌, ◌≤◌, length, IfOk, OnOk};
 ghost use Rattle.cell_base.specs.Successors.{place_after, default_next};
 ghost use Rattle.cell_make.specs.Draws.{next_number, number_after};

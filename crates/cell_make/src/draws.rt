@@ -1,4 +1,4 @@
-//! The draws.
+//! The draws that a number gives, one after the other, the same at each call and on each computer.
 ghost use Rattle.std.specs.Prelude.{◌≡◌, ◌<◌};
 ghost use Rattle.cell_make.specs.Draws.{draw, next_number};
 

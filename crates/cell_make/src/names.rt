@@ -1,4 +1,4 @@
-//! The names.
+//! The names of what is drawn: a letter for its kind and a number.
 ghost use Rattle.std.specs.Prelude.{◌≡◌, ◌<◌, true};
 ghost use Rattle.cell_base.specs.Names.{is_name_byte};
 ghost use Rattle.cell_make.specs.Names.{numbered_name};

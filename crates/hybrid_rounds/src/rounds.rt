@@ -1,4 +1,4 @@
-//! The rounds, and the turns in them.
+//! The rounds in which the sessions of a shift ask a hybrid: each that has not ended has one turn in each.
 ghost use Rattle.std.specs.Prelude.{◌≡◌, ℕ, ◌+◌, ◌*◌, ◌<◌, ◌≤◌, List, [], length, All};
 ghost use Rattle.std.specs.Bool.{OnTrue, OnFalse};
 ghost use Rattle.hybrid_rounds.specs.Clauses.{AsksHybrid, HasEndedAt, HaveEnded, HybridEntry, IsHybridRoundRobin, IsReady};

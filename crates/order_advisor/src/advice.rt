@@ -58,8 +58,8 @@ pub fn advise(alloc: Global, cell: &Cell) -> Result<Advice, AdviceFault>
     best_within(alloc, cell, Weighing::Alike, ADVISED)
 }
 
-/// The same for a cell of at most `ARRANGED` resources, where each membership is weighed by the capacity of its resource. It takes a
-/// table of two to the number of resources.
+/// The orders of the least weight for a cell of at most `ARRANGED` resources, where each membership is weighed by the capacity of its
+/// resource. It takes a table of two to the number of resources.
 pub fn arrange(alloc: Global, cell: &Cell) -> Result<Advice, AdviceFault>
     requires { CellFits cell.now }
     ensures few { OnOk result (length cell.now.resources ≤ ARRANGED) }
@@ -69,7 +69,7 @@ pub fn arrange(alloc: Global, cell: &Cell) -> Result<Advice, AdviceFault>
     best_within(alloc, cell, Weighing::ByCapacity, ARRANGED)
 }
 
-/// The same by a weighing, for a limit, which is at most `ARRANGED`.
+/// The orders of the least weight by a weighing, for a limit, which is at most `ARRANGED`.
 pub fn best_within(
     alloc: Global,
     cell: &Cell,
@@ -102,7 +102,7 @@ fn best(alloc: Global, cell: &Cell, resources: u16, weighing: Weighing) -> Resul
     best_of(alloc, &table, resources, weighing)
 }
 
-/// The same over the stages of the cell.
+/// The orders of the least weight by a weighing, over the stages of the cell.
 fn best_of(
     alloc: Global,
     table: &StageTable,

@@ -1,4 +1,4 @@
-//! What the memberships in a neighborhood weigh.
+//! What the memberships in a neighborhood weigh: each the same, or more where the resource has few units, since a place there is dearer.
 ghost use Rattle.std.specs.Prelude.{◌≡◌, ◌*◌, ◌<◌, ◌≤◌, length};
 ghost use Rattle.cell_base.specs.Fits.{CellFits};
 ghost use Rattle.order_advisor.specs.Orders.{unit_weight};

@@ -1,4 +1,4 @@
-//! The changes of granted requests.
+//! The changes of granted requests, in a plain list of parts, which keeps the order of their arrival.
 ghost use Rattle.std.specs.Prelude.{◌≡◌, ◌≤◌, ◌<◌, length, position, IfSome};
 ghost use Rattle.std.specs.Vec.{vec_capacity};
 ghost use Rattle.plain_recount.specs.Clauses.{Granted, IsStage, RequestFits, is_of_job, outcome_of_entry, outcome_of_move, part_of};

@@ -1,4 +1,4 @@
-//! Replies to requests.
+//! Replies to requests, each by a look at every part: what the core keeps as running numbers is counted here anew.
 ghost use Rattle.std.specs.Prelude.{◌≡◌, ◌≤◌, ◌<◌, ◌++◌, ◌∷◌, [], length, position, List, Some, IfSome};
 ghost use Rattle.cell_base.specs.declared.limits.TheConstants.{MAX_UNITS};
 ghost use Rattle.cell_base.specs.declared.requests.Part.{Part};

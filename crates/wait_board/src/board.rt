@@ -1,4 +1,4 @@
-//! The board.
+//! The board: a core and a queue beside it, with a history of all that was told, which has room for an end of each waiting that began.
 ghost use Rattle.std.specs.Prelude.{◌≡◌, ◌<◌, ◌≤◌, None, [], length, IfOk, IfErr};
 ghost use Rattle.cell_base.specs.Fits.{RequestFits, IsWithin};
 ghost use Rattle.wait_queue.specs.Waiting.{waiter_of};
@@ -121,7 +121,7 @@ impl Board {
         )
     }
 
-    /// The same, where the session does not wait and there is room; else nothing changes.
+    /// Decides a request, as `ask` does, where the session does not wait and there is room; else nothing changes.
     pub fn try_ask(&mut self, session: u16, request: &Request) -> Result<BoardReply, BoardFault>
         requires request { RequestFits self.old.cell request.now }
         requires session { IsWithin 1 self.old.sessions session }

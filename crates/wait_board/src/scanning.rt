@@ -1,4 +1,4 @@
-//! The scan of the waiters.
+//! The scan of the waiters: after each one that is served it begins anew, since room that was made may be that of an earlier one.
 ghost use Rattle.std.specs.Prelude.{◌≡◌, ◌+◌, ◌<◌, ◌≤◌, [], ◌∷◌, ◌++◌, length};
 ghost use Rattle.cell_base.specs.Fits.{RequestFits};
 ghost use Rattle.cell_base.specs.Outcomes.{reply_to, state_after};
