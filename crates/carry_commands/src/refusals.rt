@@ -5,11 +5,11 @@ ghost use Rattle.cell_walks.specs.Walks.{end_with};
 ghost use Rattle.record_text.specs.Fitting.{RefusalFits};
 ghost use Rattle.record_text.specs.Lines.{why_words};
 ghost use Rattle.record_text.specs.Spaced.{spaced};
-ghost use Rattle.carry_commands.specs.Refusals.{IsOfPlace, UncarriedFits, carry_refused, other_start, start_refused};
+ghost use Rattle.carry_commands.specs.Refusals.{UncarriedFits, carry_refused, other_start, start_refused};
 
 use cell_base::{Cell, JobId, Refusal};
 use cell_walks::{EarlyEnd, Subject};
-use record_text::{Line, add_resource};
+use record_text::{Line, add_why};
 
 /// Why a part can't be carried to another cell.
 #[derive(Clone, Copy, Debug, PartialEq, Eq)]
@@ -54,8 +54,7 @@ pub fn at_carry_fault(new: &Cell, fault: &CarryFault) -> EarlyEnd
 
 /// The end at a request of a start that isn't granted.
 pub fn at_start_fault(cell: &Cell, fault: &StartFault) -> EarlyEnd
-    requires place { IsOfPlace fault.now.why }
-    requires fits { RefusalFits cell.now fault.now.why }
+    requires { RefusalFits cell.now fault.now.why }
     ensures { result ≡ end_with Command (Some (start_refused cell.now fault.now)) }
 {
     let mut line = Line::of_word(b"start");
@@ -63,30 +62,6 @@ pub fn at_start_fault(cell: &Cell, fault: &StartFault) -> EarlyEnd
     line.number(fault.line);
     add_why(&mut line, cell, &fault.why);
     refused(Subject::Command, line)
-}
-
-// Why a place is refused.
-fn add_why(line: &mut Line, cell: &Cell, why: &Refusal)
-    requires place { IsOfPlace why.now }
-    requires fits { RefusalFits cell.now why.now }
-    requires room { length line.old ≤ 80 }
-    ensures words { line.new ≡ line.old ++ spaced (why_words cell.now why.now) }
-    ensures len { length line.new ≤ length line.old + 68 }
-{
-    match *why {
-        Refusal::Saturated {
-            at,
-            count,
-            capacity,
-        } => {
-            line.word(b"saturated");
-            add_resource(line, cell, at);
-            line.number(count);
-            line.word(b"of");
-            line.number(capacity);
-        }
-        _ => line.word(b"job-loaded"),
-    }
 }
 
 /// The end at a journal whose grant at this index is not the start's.

@@ -3,7 +3,7 @@ ghost use Rattle.std.specs.Prelude.{◌≡◌, ◌≤◌, [], length};
 ghost use Rattle.standby_commands.specs.Following.{IsFreshFollower, HasTaken};
 ghost use Rattle.standby_commands.specs.FrameFiles.{frames_in};
 
-use crate::frames::first_frame;
+use crate::frames::{FRAME_BYTES, first_frame};
 use cell_base::Shelf;
 use outside_io::Disk;
 use standby_link::{Follower, TakeFault, index_in};
@@ -27,7 +27,7 @@ pub fn take_frames<D: Disk>(
     ensures { HasTaken follower.old (frames_in bytes.now) follower.new acks.new.items result }
 {
     let mut rest = bytes;
-    while rest.len() >= 24 {
+    while rest.len() >= FRAME_BYTES as usize {
         let (frame, more) = first_frame(rest);
         match follower.take(&frame) {
             Ok(ack) => acks.push(ack),

@@ -44,7 +44,7 @@ fn have_room(bytes: &[u8]) -> bool
     ensures { result ≡ have_room (frames_in bytes.now) }
 {
     let mut rest = bytes;
-    while rest.len() >= 24 {
+    while rest.len() >= FRAME_BYTES as usize {
         let (frame, more) = first_frame(rest);
         if index_in(&frame) == MAX_ROOM {
             return false;
@@ -55,13 +55,13 @@ fn have_room(bytes: &[u8]) -> bool
 }
 
 /// The first frame of some bytes, and those after it.
-pub fn first_frame(bytes: &[u8]) -> ([u8; 24], &[u8])
-    requires { 24 ≤ length bytes.now }
-    ensures frame { result.0 ≡ take 24 bytes.now }
-    ensures rest { result.1.now ≡ drop 24 bytes.now }
+pub fn first_frame(bytes: &[u8]) -> ([u8; FRAME_BYTES as usize], &[u8])
+    requires { FRAME_BYTES ≤ length bytes.now }
+    ensures frame { result.0 ≡ take FRAME_BYTES bytes.now }
+    ensures rest { result.1.now ≡ drop FRAME_BYTES bytes.now }
 {
-    let (first, rest) = bytes.split_at(24);
-    let mut frame = [0; 24];
+    let (first, rest) = bytes.split_at(FRAME_BYTES as usize);
+    let mut frame = [0; FRAME_BYTES as usize];
     frame.copy_from_slice(first);
     (frame, rest)
 }

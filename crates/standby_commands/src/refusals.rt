@@ -7,9 +7,9 @@ ghost use Rattle.cell_walks.specs.declared.early_end.Subject.TheVariants.{Comman
 ghost use Rattle.cell_walks.specs.Walks.{end_with};
 ghost use Rattle.standby_commands.specs.Lines.{FaultFits, ack_line, feed_refused, follow_refused, frames_refused};
 
-use cell_base::{Cell, Refusal as Reason};
+use cell_base::Cell;
 use cell_walks::{EarlyEnd, Refusal, Subject};
-use record_text::{Line, add_resource};
+use record_text::{Line, add_why};
 use standby_link::TakeFault;
 
 /// The end at a file that is no list of frames.
@@ -60,33 +60,4 @@ pub fn follow_refused(cell: &Cell, index: u64, why: &TakeFault) -> Line
         TakeFault::Halted { .. } | TakeFault::Full { .. } | TakeFault::Device => {}
     }
     line.end()
-}
-
-// Appends the words of a reason for a refusal.
-fn add_why(line: &mut Line, cell: &Cell, why: &Reason)
-    requires known { RefusalFits cell.now why.now }
-    requires room { length line.old ≤ 80 }
-    ensures words { line.new ≡ line.old ++ spaced (why_words cell.now why.now) }
-    ensures len { length line.new ≤ length line.old + 68 }
-{
-    match why {
-        Reason::JobLoaded => line.word(b"job-loaded"),
-        Reason::NoSuchJob => line.word(b"no-such-job"),
-        Reason::NotProcessed => line.word(b"not-processed"),
-        Reason::AtLast => line.word(b"at-last"),
-        Reason::NotLast => line.word(b"not-last"),
-        Reason::Idle => line.word(b"idle"),
-        Reason::NoBranch => line.word(b"no-branch"),
-        Reason::Saturated {
-            at,
-            count,
-            capacity,
-        } => {
-            line.word(b"saturated");
-            add_resource(line, cell, *at);
-            line.number(*count);
-            line.word(b"of");
-            line.number(*capacity);
-        }
-    }
 }
