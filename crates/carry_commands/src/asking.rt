@@ -8,9 +8,9 @@ ghost use Rattle.carry_commands.specs.BeginClauses.{IsPlacing, KeepsHistory, MAX
 
 use crate::refusals::at_other_start;
 use cell_base::Request;
-use cell_texts::Made;
+use cell_texts::{Answered, Made};
 use durable_cell::{Durable, Recalled, durable_law};
-use journal_texts::{Closed, Recorded, give_back, record_of};
+use journal_texts::{Recorded, give_back, record_of};
 use outside_io::Disk;
 
 /// Asks the requests that the journal does not hold yet; or gives the disk back with the early end, where the journal holds other grants,
@@ -19,7 +19,7 @@ pub fn begin_opened<D: Disk>(
     durable: Durable<D, Recalled>,
     requests: &[Request],
     other: Option<u64>,
-) -> Made<Recorded, D>
+) -> Answered<Recorded, D>
     requires fresh { IsFresh durable }
     requires limit { durable.limit ≡ MAX_START_LINES }
     requires placing { All (IsPlacing durable.cell) requests.now }
@@ -36,7 +36,10 @@ pub fn begin_opened<D: Disk>(
     match other {
         None => {
             let held = durable.held() as usize;
-            let Closed { recorded, disk } = ask_all(durable, &requests[held..]);
+            let Made {
+                made: recorded,
+                disk,
+            } = ask_all(durable, &requests[held..]);
             Made {
                 made: Ok(recorded),
                 disk,
@@ -47,16 +50,16 @@ pub fn begin_opened<D: Disk>(
 }
 
 // Asks these requests, and takes the durable cell apart.
-fn ask_all<D: Disk>(mut durable: Durable<D, Recalled>, requests: &[Request]) -> Closed<D>
+fn ask_all<D: Disk>(mut durable: Durable<D, Recalled>, requests: &[Request]) -> Made<Recorded, D>
     requires fresh { IsFresh durable }
     requires limit { length requests.now ≤ durable.limit }
     requires placing { All (IsPlacing durable.cell) requests.now }
     requires granted { all_granted durable.cell (first_parts durable) requests.now ≡ true }
-    ensures begun { AreAsked durable.cell durable.opening requests.now (recorded_outcome result.recorded) }
-    ensures stands { let outcome = recorded_outcome result.recorded in
+    ensures begun { AreAsked durable.cell durable.opening requests.now (recorded_outcome result.made) }
+    ensures stands { let outcome = recorded_outcome result.made in
         StandsForAdded (disk_told D.reads_as D.may_leave D.moment D.left_since D.faults durable.entry result.disk)
         durable.text durable.opening outcome.added outcome.unsure }
-    ensures fits { EntriesFit result.recorded }
+    ensures fits { EntriesFit result.made }
 {
     ask_each(&mut durable, requests);
     record_of(durable, 0)

@@ -12,7 +12,7 @@ use crate::compared::Compared;
 use crate::starts::{check_start, read_start_file};
 use cell_base::Request;
 use cell_driver::Command;
-use cell_texts::{CellFile, Made};
+use cell_texts::{Answered, CellFile, Made};
 use cell_walks::Status;
 use durable_cell::{Heard, MAX_ROOM};
 use journal_texts::{Recorded, open_journal_with, print_record};
@@ -46,19 +46,13 @@ impl<'a> Command for Begin<'a> {
         held: CellFile,
         files: &mut F,
         disk: D,
-    ) -> Made<Recorded, D> {
+    ) -> Answered<Recorded, D> {
         match read_start_file(alloc, files, &held.cell, self.start) {
             Ok(requests) => match check_start(alloc, &held.cell, requests.as_slice()) {
                 Ok(()) => begin_journal(alloc, held, requests.as_slice(), disk),
-                Err(end) => Made {
-                    made: Err(end),
-                    disk,
-                },
+                Err(end) => Made::ended(end, disk),
             },
-            Err(end) => Made {
-                made: Err(end),
-                disk,
-            },
+            Err(end) => Made::ended(end, disk),
         }
     }
 
@@ -78,7 +72,7 @@ fn begin_journal<D: Disk>(
     held: CellFile,
     requests: &[Request],
     disk: D,
-) -> Made<Recorded, D>
+) -> Answered<Recorded, D>
     requires fits { CellFits held.cell }
     requires short { length held.text.items ≤ MAX_CELL_BYTES }
     requires placing { All (IsPlacing held.cell) requests.now }
@@ -91,9 +85,6 @@ fn begin_journal<D: Disk>(
     let compared = Compared::new(requests);
     match open_journal_with(alloc, held, disk, MAX_ROOM, MAX_START_LINES, compared) {
         Ok(Heard { durable, kept }) => begin_opened(durable, requests, kept.other),
-        Err(unopened) => Made {
-            made: Err(unopened.end),
-            disk: unopened.disk,
-        },
+        Err(unopened) => Made::ended(unopened.made, unopened.disk),
     }
 }

@@ -11,7 +11,7 @@ ghost use Rattle.carry_commands.specs.CarryClauses.{CellFits, EndsAfter, HasCarr
 use crate::carrying::{Carried, carry_parts};
 use cell_base::{Cell, Request};
 use cell_driver::Command;
-use cell_texts::{CellFile, Made, read_cell};
+use cell_texts::{Answered, CellFile, Made, read_cell};
 use cell_walks::Status;
 use journal_texts::read_journal;
 use outside_io::{Disk, Files, Sink};
@@ -44,13 +44,10 @@ impl<'a> Command for Carry<'a> {
         held: CellFile,
         files: &mut F,
         disk: D,
-    ) -> Made<Carried, D> {
+    ) -> Answered<Carried, D> {
         match read_cell(alloc, files, self.other) {
             Ok(new) => carried_of_journal(alloc, held, new.cell, disk),
-            Err(end) => Made {
-                made: Err(end),
-                disk,
-            },
+            Err(end) => Made::ended(end, disk),
         }
     }
 
@@ -71,7 +68,7 @@ fn carried_of_journal<D: Disk>(
     held: CellFile,
     new: Cell,
     disk: D,
-) -> Made<Carried, D>
+) -> Answered<Carried, D>
     requires fits { CellFits held.cell }
     requires short { length held.text.items ≤ MAX_CELL_BYTES }
     requires new { CellFits new }
@@ -85,10 +82,7 @@ fn carried_of_journal<D: Disk>(
             made: carry_parts(alloc, &after.core, new),
             disk,
         },
-        Err(end) => Made {
-            made: Err(end),
-            disk,
-        },
+        Err(end) => Made::ended(end, disk),
     }
 }
 

@@ -6,7 +6,7 @@ ghost use Rattle.cell_commands.specs.Check.{verdict_outcome, verdict_status};
 
 use crate::verdicts::{check_record, verdict_line};
 use cell_driver::Command;
-use cell_texts::{CellFile, Made};
+use cell_texts::{Answered, CellFile, Made};
 use cell_walks::Status;
 use outside_io::{Disk, Files, Sink};
 use printer::Printer;
@@ -39,7 +39,7 @@ impl<'a> Command for Check<'a> {
         held: CellFile,
         files: &mut F,
         disk: D,
-    ) -> Made<Verdict, D> {
+    ) -> Answered<Verdict, D> {
         Made {
             made: check_record(alloc, files, &held.cell, self.record_file),
             disk,

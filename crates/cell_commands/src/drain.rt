@@ -6,10 +6,10 @@ ghost use Rattle.cell_commands.specs.Draining.{AreDue, IsAdmitted, IsDrained, Is
 ghost use Rattle.cell_commands.specs.declared.drain.TheConstants.{MAX_PLAN};
 
 use cell_driver::Command;
-use cell_texts::{CellFile, Made};
+use cell_texts::{Answered, CellFile, Made};
 use cell_walks::Status;
 use durable_cell::{Durable, MAX_ROOM, Recalled, durable_law};
-use journal_texts::{Closed, Recorded, open_journal_with, print_record, record_of};
+use journal_texts::{Recorded, open_journal_with, print_record, record_of};
 use outside_io::{Disk, Files, Sink};
 use printer::Printer;
 use shift_recovery::Unkept;
@@ -40,19 +40,19 @@ impl Command for Drain {
         held: CellFile,
         _files: &mut F,
         disk: D,
-    ) -> Made<Recorded, D> {
+    ) -> Answered<Recorded, D> {
         match open_journal_with(alloc, held, disk, MAX_ROOM, MAX_PLAN, Unkept) {
             Ok(opened) => {
-                let Closed { recorded, disk } = drain_all(opened.durable);
+                let Made {
+                    made: recorded,
+                    disk,
+                } = drain_all(opened.durable);
                 Made {
                     made: Ok(recorded),
                     disk,
                 }
             }
-            Err(unopened) => Made {
-                made: Err(unopened.end),
-                disk: unopened.disk,
-            },
+            Err(unopened) => Made::ended(unopened.made, unopened.disk),
         }
     }
 
@@ -62,14 +62,14 @@ impl Command for Drain {
 }
 
 // Asks the steps of the plan, and takes the durable cell apart.
-fn drain_all<D: Disk>(mut durable: Durable<D, Recalled>) -> Closed<D>
+fn drain_all<D: Disk>(mut durable: Durable<D, Recalled>) -> Made<Recorded, D>
     requires fresh { IsFresh durable }
     requires limit { durable.limit ≡ MAX_PLAN }
-    ensures drained { IsDrained durable.cell durable.opening (recorded_outcome result.recorded) }
-    ensures stands { let outcome = recorded_outcome result.recorded in
+    ensures drained { IsDrained durable.cell durable.opening (recorded_outcome result.made) }
+    ensures stands { let outcome = recorded_outcome result.made in
         StandsForAdded (disk_seen D.Disk durable.entry result.disk)
         durable.text durable.opening outcome.added outcome.unsure }
-    ensures fits { EntriesFit result.recorded }
+    ensures fits { EntriesFit result.made }
     ensures due { AreDue durable.cell durable.opening }
 {
     ask_steps(&mut durable);

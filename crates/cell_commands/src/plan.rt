@@ -1,7 +1,7 @@
 //! `plan CELL JOURNAL`: the plan that empties the cell after the grants of the journal.
 use cell_driver::Command;
 use cell_texts::records::print_block;
-use cell_texts::{CellFile, Made};
+use cell_texts::{Answered, CellFile};
 use cell_walks::Status;
 use journal_texts::{AfterGrants, read_journal};
 use outside_io::{Disk, Files, Sink};
@@ -33,7 +33,7 @@ impl Command for Plan {
         held: CellFile,
         _files: &mut F,
         disk: D,
-    ) -> Made<AfterGrants, D> {
+    ) -> Answered<AfterGrants, D> {
         read_journal(alloc, held, disk)
     }
 

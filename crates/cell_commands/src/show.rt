@@ -8,7 +8,7 @@ ghost use Rattle.cell_commands.specs.Show.{IsShown};
 use admission_core::Core;
 use cell_base::{Cell, List, NoMemory};
 use cell_driver::Command;
-use cell_texts::{CellFile, Made};
+use cell_texts::{Answered, CellFile, Made};
 use cell_walks::{EarlyEnd, Status};
 use outside_io::{Disk, Files, Sink};
 use printer::Printer;
@@ -48,16 +48,13 @@ impl Command for Show {
         held: CellFile,
         _files: &mut F,
         disk: D,
-    ) -> Made<Shown, D> {
+    ) -> Answered<Shown, D> {
         match shown_of(alloc, held.cell) {
             Ok(shown) => Made {
                 made: Ok(shown),
                 disk,
             },
-            Err(_) => Made {
-                made: Err(EarlyEnd::WantOfMemory),
-                disk,
-            },
+            Err(_) => Made::ended(EarlyEnd::WantOfMemory, disk),
         }
     }
 

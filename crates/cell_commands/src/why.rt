@@ -12,7 +12,7 @@ ghost use Rattle.cell_commands.specs.Why.{IsAnswerAfter, IsAnswerOf, answer_line
 use admission_core::Core;
 use cell_base::{JobId, List, Reply, Request};
 use cell_driver::Command;
-use cell_texts::{CellFile, Made, at_step_fault, job_line};
+use cell_texts::{Answered, CellFile, Made, at_step_fault, job_line};
 use cell_walks::{EarlyEnd, Status};
 use journal_texts::read_journal;
 use outside_io::{Disk, Files, Sink};
@@ -57,13 +57,10 @@ impl<'a> Command for Why<'a> {
         held: CellFile,
         _files: &mut F,
         disk: D,
-    ) -> Made<Answer, D> {
+    ) -> Answered<Answer, D> {
         match read_step(&held.cell, self.step.as_bytes()) {
             Ok(request) => answer_of_journal(alloc, held, &request, disk),
-            Err(fault) => Made {
-                made: Err(at_step_fault(fault)),
-                disk,
-            },
+            Err(fault) => Made::ended(at_step_fault(fault), disk),
         }
     }
 
@@ -84,7 +81,7 @@ fn answer_of_journal<D: Disk>(
     held: CellFile,
     request: &Request,
     disk: D,
-) -> Made<Answer, D>
+) -> Answered<Answer, D>
     requires fits { CellFits held.cell }
     requires short { length held.text.items ≤ MAX_CELL_BYTES }
     requires request { RequestFits held.cell request.now }

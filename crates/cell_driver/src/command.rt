@@ -8,7 +8,7 @@ ghost use Rattle.cell_texts.specs.Tests.{KnownCell};
 ghost use Rattle.printer.specs.Printing.{Prints};
 ghost use Rattle.cell_driver.specs.Driving.{IsMade};
 
-use cell_texts::{CellFile, Made};
+use cell_texts::{Answered, CellFile};
 use cell_walks::Status;
 use outside_io::{Disk, Files, Sink};
 use printer::Printer;
@@ -38,7 +38,7 @@ pub trait Command {
         held: CellFile,
         files: &mut F,
         disk: D,
-    ) -> Made<Self::Answer, D>
+    ) -> Answered<Self::Answer, D>
         requires fits { CellFits held.cell }
         requires short { length held.text.items ≤ MAX_CELL_BYTES }
         ensures allowed { IsMade (files_seen F.Files files.old files.new) (disk_seen D.Disk disk result.disk)

@@ -1,7 +1,6 @@
 -- Lemmas, grouped by subject.
 pub mod BlockTexts
 pub mod Cuts
-pub mod Delivered
 pub mod Disks
 pub mod Fitted
 pub mod Fitting

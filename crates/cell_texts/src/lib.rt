@@ -22,7 +22,7 @@ mod refusals;
 
 pub use findings::Finding;
 pub use lines::job_line;
-pub use made::Made;
-pub use printing::{print_left, print_line, print_lines, print_usage};
+pub use made::{Answered, Made};
+pub use printing::{print_left, print_lines, print_usage};
 pub use readers::{CellFile, CommandEnd, read_cell, read_named, read_shift};
 pub use refusals::{at_finding, at_record_fault, at_step_fault};

@@ -1,5 +1,5 @@
 //! Lines put into a sink by whoever goes no further once it has failed; and the commands with their words.
-ghost use Rattle.std.specs.Prelude.{◌≡◌, [], ◌∷◌, OnOk, OnErr};
+ghost use Rattle.std.specs.Prelude.{[], ◌∷◌, OnOk, OnErr};
 ghost use Rattle.cell_walks.specs.Clauses.{HasCause, IsDelivered, TookAll, TookSome, printed, sink_told};
 ghost use Rattle.cell_walks.specs.declared.status.Status.TheVariants.{NoCommand};
 ghost use Rattle.cell_texts.specs.Blocks.{left_in_core};
@@ -10,20 +10,6 @@ use cell_walks::Status;
 use outside_io::{Failed, Sink};
 use printer::Printer;
 use record_text::Line;
-
-/// Puts one line.
-pub fn print_line<K: Sink>(out: &mut K, line: &Line) -> Result<(), Failed>
-    ensures whole { OnOk result (TookAll (sink_told K.taken K.was_put K.faults out.old out.new) (line.now ∷ [])) }
-    ensures part { OnErr result (TookSome (sink_told K.taken K.was_put K.faults out.old out.new) (line.now ∷ [])) }
-    ensures cause { HasCause (K.faults out.old) (K.faults out.new) result }
-{
-    let mut printer = Printer::new(out);
-    printer.line(line);
-    if printer.has_failed() {
-        return Err(Failed);
-    }
-    Ok(())
-}
 
 /// Puts each of these lines, up to the first that the sink doesn't take.
 pub fn print_lines<K: Sink>(out: &mut K, lines: &[Line]) -> Result<(), Failed>

@@ -9,7 +9,7 @@ use crate::printing::print_block;
 use banker_check::Hybrid;
 use cell_base::{Cell, NoMemory, Shelf, Shift};
 use cell_driver::Command;
-use cell_texts::{CellFile, Made, read_shift};
+use cell_texts::{Answered, CellFile, Made, read_shift};
 use cell_walks::{EarlyEnd, Status};
 use hybrid_rounds::{HybridEntry, ask_in_rounds};
 use outside_io::{Disk, Files, Sink};
@@ -52,22 +52,16 @@ impl<'a> Command for HybridShift<'a> {
         held: CellFile,
         files: &mut F,
         disk: D,
-    ) -> Made<HybridRun, D> {
+    ) -> Answered<HybridRun, D> {
         match read_shift(alloc, files, &held.cell, self.shift) {
             Ok(shift) => match run_rounds(alloc, held.cell, &shift) {
                 Ok(ran) => Made {
                     made: Ok(ran),
                     disk,
                 },
-                Err(_) => Made {
-                    made: Err(EarlyEnd::WantOfMemory),
-                    disk,
-                },
+                Err(_) => Made::ended(EarlyEnd::WantOfMemory, disk),
             },
-            Err(end) => Made {
-                made: Err(end),
-                disk,
-            },
+            Err(end) => Made::ended(end, disk),
         }
     }
 

@@ -12,10 +12,11 @@ use Rattle.durable_cell.specs.declared.opening.Opening.TheVariants.{Open, Refuse
 use Rattle.durable_cell.specs.Openings.{HasCause, HasTaken, IsAnswer, IsNew, Leaves, fresh, heard_of, opened_of}
 use Rattle.cell_walks.specs.Allowed.{IsNotOpened, OpeningFailed, OpeningRefused, OpeningStarved}
 use Rattle.cell_walks.specs.DiskTold.{disk_told}
+use Rattle.cell_walks.specs.declared.early_end.EarlyEnd.{EarlyEnd}
 use Rattle.cell_texts.specs.Tests.{KnownCell}
+use Rattle.cell_texts.specs.declared.made.Made.{Made}
 use Rattle.journal_texts.specs.Openings.{opened_or_end}
 use Rattle.journal_texts.specs.Tests.{to_add}
-use Rattle.journal_texts.specs.declared.opening.Unopened.{Unopened}
 use Rattle.journal_texts.proofs.Disks.{adds_nothing, only_read}
 
 -- what contracts see of an opening, as a result
@@ -37,9 +38,9 @@ module _ {D O : Type 0} (durable : O → DurableState D) (reads_as : D → Optio
   abbrev IsOpenedAs : O → Type 0
   IsOpenedAs opened = IfSome (reads_as disk) (λ file. opened_as held.cell file held.text room ≡ Ok (durable opened).opening)
 
-  abbrev Ends : Unopened D → Type 0
-  Ends unopened =
-      IsNotOpened (disk_told reads_as may_leave moment left_since faults disk unopened.disk) (to_add held room) unopened.end
+  abbrev Ends : Made EarlyEnd D → Type 0
+  Ends end =
+      IsNotOpened (disk_told reads_as may_leave moment left_since faults disk end.disk) (to_add held room) end.made
 
   -- what the opening says
   abbrev Answers : List ℕ → Shown D → Type 0
@@ -71,7 +72,7 @@ module _ {D O : Type 0} (durable : O → DurableState D) (reads_as : D → Optio
 
   -- the same of what contracts see of the opening, and of what is handed on
   module _ (text : List ℕ) (text_is : text ≡ held.text) (opening : Opening D O) (shown : Shown D)
-      (shown_is : shown ≡ seen durable opening) (result : Result O (Unopened D)) (result_is : result ≡ opened_or_end opening) where
+      (shown_is : shown ≡ seen durable opening) (result : Result O (Made EarlyEnd D)) (result_is : result ≡ opened_or_end opening) where
     answers : Answers text shown → Answers held.text (seen durable opening)
     answers is = subst (λ (o : Shown D). Answers held.text o) shown_is
         (subst (λ (t : List ℕ). Answers t shown) text_is is)
@@ -81,15 +82,15 @@ module _ {D O : Type 0} (durable : O → DurableState D) (reads_as : D → Optio
         (subst (λ (t : List ℕ). LeavesAs t shown) text_is is)
 
     pub is_new : IsNew held.cell text disk limit shown → IfOk result IsNewOpened
-    is_new is = subst (λ (r : Result O (Unopened D)). IfOk r IsNewOpened) (sym result_is)
+    is_new is = subst (λ (r : Result O (Made EarlyEnd D)). IfOk r IsNewOpened) (sym result_is)
         (new opening (subst (λ (o : Shown D). IsNew held.cell held.text disk limit o) shown_is
         (subst (λ (t : List ℕ). IsNew held.cell t disk limit shown) text_is is)))
 
     pub is_opened_as : Answers text shown → IfOk result IsOpenedAs
-    is_opened_as is = subst (λ (r : Result O (Unopened D)). IfOk r IsOpenedAs) (sym result_is) (grants opening (answers is))
+    is_opened_as is = subst (λ (r : Result O (Made EarlyEnd D)). IfOk r IsOpenedAs) (sym result_is) (grants opening (answers is))
 
     pub ended : Answers text shown → HasCause faults disk shown → LeavesAs text shown → IfErr result Ends
-    ended is cause leaves = subst (λ (r : Result O (Unopened D)). IfErr r Ends) (sym result_is)
+    ended is cause leaves = subst (λ (r : Result O (Made EarlyEnd D)). IfErr r Ends) (sym result_is)
         (ends opening (answers is) (subst (λ (o : Shown D). HasCause faults disk o) shown_is cause) (leaves_as leaves))
 
 -- a durable cell is seen as it is
@@ -115,8 +116,8 @@ module _ {D G K : Type 0} where
   taken_of took old (Memory disk) is = tt
 
   pub taken : (took : K → ℕ → List Grant → K → Type 0) (old : K) (opening : Opening D (Heard D G K))
-      (result : Result (Heard D G K) (Unopened D)) → result ≡ opened_or_end opening → HasTaken took old (opened_of opening)
+      (result : Result (Heard D G K) (Made EarlyEnd D)) → result ≡ opened_or_end opening → HasTaken took old (opened_of opening)
       → IfOk result (λ heard. (first : ℕ) × took old first heard.durable.opening heard.kept)
   taken took old opening result result_is is =
-      subst (λ (r : Result (Heard D G K) (Unopened D)). IfOk r (λ heard. (first : ℕ) × took old first heard.durable.opening heard.kept))
+      subst (λ (r : Result (Heard D G K) (Made EarlyEnd D)). IfOk r (λ heard. (first : ℕ) × took old first heard.durable.opening heard.kept))
       (sym result_is) (taken_of took old opening is)

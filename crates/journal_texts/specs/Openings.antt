@@ -3,14 +3,15 @@ use Rattle.std.specs.Prelude.{Result, Ok, Err, Some}
 use Rattle.durable_cell.specs.declared.opening.Opening.{Opening}
 use Rattle.durable_cell.specs.declared.opening.Opening.TheVariants.{Open, Refused, Device, Memory}
 use Rattle.cell_walks.specs.Walks.{end_with}
+use Rattle.cell_walks.specs.declared.early_end.EarlyEnd.{EarlyEnd}
 use Rattle.cell_walks.specs.declared.early_end.EarlyEnd.TheVariants.{DeviceFailed, WantOfMemory}
 use Rattle.cell_walks.specs.declared.early_end.Subject.TheVariants.{Journal}
+use Rattle.cell_texts.specs.declared.made.Made.{Made}
 use Rattle.journal_texts.specs.Tests.{journal_line}
-use Rattle.journal_texts.specs.declared.opening.Unopened.{Unopened}
 
 -- what was opened, or the end of the command with the disk that was handed in
-abbrev pub opened_or_end : {D O : Type 0} → Opening D O → Result O (Unopened D)
+abbrev pub opened_or_end : {D O : Type 0} → Opening D O → Result O (Made EarlyEnd D)
 opened_or_end (Open opened) = Ok opened
-opened_or_end (Refused disk why) = Err (record { end = end_with Journal (Some (journal_line why)); disk = disk })
-opened_or_end (Device disk) = Err (record { end = DeviceFailed; disk = disk })
-opened_or_end (Memory disk) = Err (record { end = WantOfMemory; disk = disk })
+opened_or_end (Refused disk why) = Err (record { made = end_with Journal (Some (journal_line why)); disk = disk })
+opened_or_end (Device disk) = Err (record { made = DeviceFailed; disk = disk })
+opened_or_end (Memory disk) = Err (record { made = WantOfMemory; disk = disk })

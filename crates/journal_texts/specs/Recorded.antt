@@ -1,5 +1,5 @@
 -- What was asked of a durable cell since it was opened: what is printed of it, and what is added.
-use Rattle.std.specs.Prelude.{◌≡◌, ℕ, true, false, List, [], None, Result}
+use Rattle.std.specs.Prelude.{◌≡◌, ℕ, true, false, List, [], None}
 use Rattle.std.specs.List.{All}
 use Rattle.std.specs.Option.{option_to_list}
 use Rattle.cell_base.specs.declared.shifts.Entry.{Entry}
@@ -9,8 +9,7 @@ use Rattle.cell_base.specs.Scripts.{holds_halt}
 use Rattle.durable_cell.specs.Asked.{unsure_grant}
 use Rattle.durable_cell.specs.DurableState.{DurableState}
 use Rattle.record_text.specs.Fitting.{EntryFits}
-use Rattle.cell_walks.specs.Outcomes.{Outcome, or_early}
-use Rattle.cell_walks.specs.declared.early_end.EarlyEnd.{EarlyEnd}
+use Rattle.cell_walks.specs.Outcomes.{Outcome}
 use Rattle.cell_walks.specs.declared.status.Status.TheVariants.{Done, DeviceFault}
 use Rattle.cell_texts.specs.Blocks.{block_of, history_lines}
 use Rattle.journal_texts.specs.declared.recorded.Recorded.{Recorded}
@@ -60,7 +59,3 @@ recorded_outcome (Halted asked) = record {
   added = grants asked.number asked.history;
   unsure = option_to_list (unsure_grant asked.number asked.history);
 }
-
--- the same, or the early end
-abbrev pub recorded_or_early : Result Recorded EarlyEnd → Outcome
-recorded_or_early made = or_early recorded_outcome made

@@ -17,8 +17,7 @@ mod readers;
 mod recorded;
 mod refusals;
 
-pub use cell_texts::Made;
-pub use opening::{Unopened, open_journal, open_journal_with};
+pub use opening::{open_journal, open_journal_with};
 pub use readers::{AfterGrants, Found, find_grants, read_journal};
-pub use recorded::{Asked, Closed, Recorded, give_back, print_record, print_recorded, record_of};
+pub use recorded::{Asked, Recorded, give_back, print_record, print_recorded, record_of};
 pub use refusals::{at_journal_fault, at_other_shift};

@@ -9,29 +9,22 @@ ghost use Rattle.journal_texts.specs.Clauses.{to_add};
 ghost use Rattle.journal_texts.specs.Openings.{opened_or_end};
 
 use crate::refusals::at_journal_fault;
-use cell_texts::CellFile;
+use cell_texts::{CellFile, Made};
 use cell_walks::EarlyEnd;
 use durable_cell::{Durable, Heard, Opening, Recalled};
 use outside_io::Disk;
 use shift_recovery::Taker;
 use std::alloc::Global;
 
-/// Why a journal was not opened, and the disk that was handed in.
-#[derive(Drop)]
-pub struct Unopened<D> {
-    pub end: EarlyEnd,
-    pub disk: D,
-}
-
-/// The durable cell after the grants of a journal that has at most `room` of them, with a list of these, or the end in its place. At most
-/// `limit` requests may be decided.
+/// The durable cell after the grants of a journal that has at most `room` of them, with a list of these, or the early end in its place. At
+/// most `limit` requests may be decided.
 pub fn open_journal<D: Disk>(
     alloc: Global,
     held: CellFile,
     disk: D,
     room: u64,
     limit: u64,
-) -> Result<Durable<D>, Unopened<D>>
+) -> Result<Durable<D>, Made<EarlyEnd, D>>
     requires fits { CellFits held.cell }
     requires short { length held.text.items ≤ MAX_CELL_BYTES }
     requires room { room ≤ MAX_ROOM }
@@ -40,9 +33,9 @@ pub fn open_journal<D: Disk>(
         durable ≡ fresh held.cell held.text.items disk durable.found durable.disk durable.opening limit) }
     ensures opening { IfOk result (λ durable.
         IfSome (D.reads_as disk) (λ file. opened_as held.cell file held.text.items room ≡ Ok durable.opening)) }
-    ensures ended { IfErr result (λ unopened.
-        IsNotOpened (disk_told D.reads_as D.may_leave D.moment D.left_since D.faults disk unopened.disk) (to_add (known held) room)
-        unopened.end) }
+    ensures ended { IfErr result (λ ended.
+        IsNotOpened (disk_told D.reads_as D.may_leave D.moment D.left_since D.faults disk ended.disk) (to_add (known held) room)
+        ended.made) }
 {
     let CellFile { cell, text } = held;
     opened_or_end(Durable::open(alloc, cell, &text, disk, room, limit))
@@ -56,7 +49,7 @@ pub fn open_journal_with<D: Disk, K: Taker + Drop>(
     room: u64,
     limit: u64,
     kept: K,
-) -> Result<Heard<D, Recalled, K>, Unopened<D>>
+) -> Result<Heard<D, Recalled, K>, Made<EarlyEnd, D>>
     requires fits { CellFits held.cell }
     requires short { length held.text.items ≤ MAX_CELL_BYTES }
     requires room { room ≤ MAX_ROOM }
@@ -67,30 +60,30 @@ pub fn open_journal_with<D: Disk, K: Taker + Drop>(
     ensures opening { IfOk result (λ heard.
         IfSome (D.reads_as disk) (λ file. opened_as held.cell file held.text.items room ≡ Ok heard.durable.opening)) }
     ensures taken { IfOk result (λ heard. (first : ℕ) × K.took kept first heard.durable.opening heard.kept) }
-    ensures ended { IfErr result (λ unopened.
-        IsNotOpened (disk_told D.reads_as D.may_leave D.moment D.left_since D.faults disk unopened.disk) (to_add (known held) room)
-        unopened.end) }
+    ensures ended { IfErr result (λ ended.
+        IsNotOpened (disk_told D.reads_as D.may_leave D.moment D.left_since D.faults disk ended.disk) (to_add (known held) room)
+        ended.made) }
 {
     let CellFile { cell, text } = held;
     opened_or_end(Durable::open_with(alloc, cell, &text, disk, room, limit, kept))
 }
 
 // What was opened, or the end of the command.
-fn opened_or_end<D: Disk, O>(opening: Opening<D, O>) -> Result<O, Unopened<D>>
+fn opened_or_end<D: Disk, O>(opening: Opening<D, O>) -> Result<O, Made<EarlyEnd, D>>
     ensures { result ≡ opened_or_end opening }
 {
     match opening {
         Opening::Open(opened) => Ok(opened),
-        Opening::Refused { disk, why } => Err(Unopened {
-            end: at_journal_fault(why),
+        Opening::Refused { disk, why } => Err(Made {
+            made: at_journal_fault(why),
             disk,
         }),
-        Opening::Device { disk } => Err(Unopened {
-            end: EarlyEnd::DeviceFailed,
+        Opening::Device { disk } => Err(Made {
+            made: EarlyEnd::DeviceFailed,
             disk,
         }),
-        Opening::Memory { disk } => Err(Unopened {
-            end: EarlyEnd::WantOfMemory,
+        Opening::Memory { disk } => Err(Made {
+            made: EarlyEnd::WantOfMemory,
             disk,
         }),
     }

@@ -7,7 +7,7 @@ ghost use Rattle.journal_texts.specs.Clauses.{GrantsFit, IsAfterGrants, IsFound,
 use crate::refusals::at_journal_fault;
 use admission_core::Core;
 use cell_base::{Grant, List};
-use cell_texts::{CellFile, Made};
+use cell_texts::{Answered, CellFile, Made};
 use cell_walks::EarlyEnd;
 use durable_cell::{MAX_ROOM, Resumed, resume};
 use outside_io::Disk;
@@ -30,7 +30,7 @@ pub struct Found {
 
 /// The state after the grants of the cell that stand on a disk, or the end in its place. It only reads, and keeps no list of the grants. What
 /// it tells is stable: it syncs once more after the last read.
-pub fn read_journal<D: Disk>(alloc: Global, held: CellFile, disk: D) -> Made<AfterGrants, D>
+pub fn read_journal<D: Disk>(alloc: Global, held: CellFile, disk: D) -> Answered<AfterGrants, D>
     requires fits { CellFits held.cell }
     requires short { length held.text.items ≤ MAX_CELL_BYTES }
     ensures read { IfOk result.made (IsAfterGrants
@@ -54,7 +54,7 @@ pub fn read_journal<D: Disk>(alloc: Global, held: CellFile, disk: D) -> Made<Aft
 
 /// The grants of the cell that stand on a disk, with the state after them, or the end in their place. It only reads, and what it tells is
 /// stable.
-pub fn find_grants<D: Disk>(alloc: Global, held: CellFile, disk: D) -> Made<Found, D>
+pub fn find_grants<D: Disk>(alloc: Global, held: CellFile, disk: D) -> Answered<Found, D>
     requires fits { CellFits held.cell }
     requires short { length held.text.items ≤ MAX_CELL_BYTES }
     ensures found { IfOk result.made (IsFound
@@ -75,10 +75,7 @@ pub fn find_grants<D: Disk>(alloc: Global, held: CellFile, disk: D) -> Made<Foun
             }),
             disk,
         },
-        Err(end) => Made {
-            made: Err(end),
-            disk,
-        },
+        Err(end) => Made::ended(end, disk),
     }
 }
 
@@ -96,7 +93,7 @@ fn replay_journal<D: Disk, K: Taker + Drop>(
     held: CellFile,
     disk: D,
     kept: K,
-) -> Made<Replayed<K>, D>
+) -> Answered<Replayed<K>, D>
     requires fits { CellFits held.cell }
     requires none { (first : ℕ) → K.took kept first [] kept }
     ensures replayed { IfOk result.made (IsReplayed
@@ -114,10 +111,7 @@ fn replay_journal<D: Disk, K: Taker + Drop>(
             let mut disk = stored.into_disk();
             // While it was read another program may have added to it.
             if disk.sync().is_err() {
-                return Made {
-                    made: Err(EarlyEnd::DeviceFailed),
-                    disk,
-                };
+                return Made::ended(EarlyEnd::DeviceFailed, disk);
             }
             Made {
                 made: Ok(Replayed { core, count, kept }),
@@ -125,18 +119,9 @@ fn replay_journal<D: Disk, K: Taker + Drop>(
             }
         }
         Err(OpenError { disk, why }) => match why {
-            OpenFault::Refused(why) => Made {
-                made: Err(at_journal_fault(why)),
-                disk,
-            },
-            OpenFault::Device => Made {
-                made: Err(EarlyEnd::DeviceFailed),
-                disk,
-            },
-            OpenFault::Memory => Made {
-                made: Err(EarlyEnd::WantOfMemory),
-                disk,
-            },
+            OpenFault::Refused(why) => Made::ended(at_journal_fault(why), disk),
+            OpenFault::Device => Made::ended(EarlyEnd::DeviceFailed, disk),
+            OpenFault::Memory => Made::ended(EarlyEnd::WantOfMemory, disk),
         },
     }
 }

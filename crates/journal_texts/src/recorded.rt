@@ -3,15 +3,15 @@ ghost use Rattle.std.specs.Prelude.{◌≡◌, [], Err, IfOk};
 ghost use Rattle.cell_base.specs.Scripts.{holds_halt};
 ghost use Rattle.shift_recovery.specs.Replayed.{AreDue};
 ghost use Rattle.cell_walks.specs.Allowed.{StandsForAdded};
-ghost use Rattle.cell_walks.specs.Clauses.{IsDelivered, IsTaken, disk_told, sink_seen};
+ghost use Rattle.cell_walks.specs.Clauses.{IsDelivered, IsTaken, disk_told, or_early, sink_seen};
 ghost use Rattle.printer.specs.Printing.{Prints};
 ghost use Rattle.journal_texts.specs.Clauses.{EntriesFit, IsAskedUnder, IsFresh, IsHaltedIn, IsRecordedOrHalted};
-ghost use Rattle.journal_texts.specs.Clauses.{IsUnhaltedIn, recorded_or_early, recorded_outcome};
+ghost use Rattle.journal_texts.specs.Clauses.{IsUnhaltedIn, recorded_outcome};
 
 use admission_core::Core;
 use cell_base::{Entry, List, Told};
-use cell_texts::Made;
 use cell_texts::records::{print_block, print_history};
+use cell_texts::{Answered, Made};
 use cell_walks::{EarlyEnd, Status, finish_early};
 use durable_cell::{Durable, Finished, Recall};
 use outside_io::{Disk, Sink};
@@ -35,22 +35,15 @@ pub enum Recorded {
     Halted(Asked),
 }
 
-/// A record, and the disk that was handed in.
-#[derive(Drop)]
-pub struct Closed<D> {
-    pub recorded: Recorded,
-    pub disk: D,
-}
-
 /// Takes a durable cell apart in which everything was asked under one number.
-pub fn record_of<D: Disk, G: Recall>(durable: Durable<D, G>, number: u32) -> Closed<D>
+pub fn record_of<D: Disk, G: Recall>(durable: Durable<D, G>, number: u32) -> Made<Recorded, D>
     requires { IsAskedUnder number durable }
     ensures recorded { IsRecordedOrHalted durable.cell number durable.opening (IsUnhaltedIn durable) (IsHaltedIn durable)
-        (recorded_outcome result.recorded) }
-    ensures stands { let outcome = recorded_outcome result.recorded in
+        (recorded_outcome result.made) }
+    ensures stands { let outcome = recorded_outcome result.made in
         StandsForAdded (disk_told D.reads_as D.may_leave D.moment D.left_since D.faults durable.entry result.disk)
         durable.text durable.opening outcome.added outcome.unsure }
-    ensures fits { EntriesFit result.recorded }
+    ensures fits { EntriesFit result.made }
     ensures due { AreDue durable.cell durable.opening }
 {
     let Finished {
@@ -67,19 +60,19 @@ pub fn record_of<D: Disk, G: Recall>(durable: Durable<D, G>, number: u32) -> Clo
         history,
     };
     if halted {
-        return Closed {
-            recorded: Recorded::Halted(asked),
+        return Made {
+            made: Recorded::Halted(asked),
             disk,
         };
     }
-    Closed {
-        recorded: Recorded::Whole(asked),
+    Made {
+        made: Recorded::Whole(asked),
         disk,
     }
 }
 
-/// Gives the disk of a durable cell back of which nothing was asked, with the end of the command in the place of a record.
-pub fn give_back<D: Disk, G: Recall>(durable: Durable<D, G>, end: EarlyEnd) -> Made<Recorded, D>
+/// Gives the disk of a durable cell back of which nothing was asked, with the end of the command in the place of an answer.
+pub fn give_back<D: Disk, G: Recall, T>(durable: Durable<D, G>, end: EarlyEnd) -> Answered<T, D>
     requires fresh { IsFresh durable }
     ensures made { result.made ≡ Err end }
     ensures stands { StandsForAdded (disk_told D.reads_as D.may_leave D.moment D.left_since D.faults durable.entry result.disk)
@@ -91,10 +84,7 @@ pub fn give_back<D: Disk, G: Recall>(durable: Durable<D, G>, end: EarlyEnd) -> M
         history: _,
         after: _,
     } = durable.finish();
-    Made {
-        made: Err(end),
-        disk,
-    }
+    Made::ended(end, disk)
 }
 
 // Whether an entry halted.
@@ -140,7 +130,7 @@ pub fn print_record<K: Sink>(out: &mut Printer<K>, recorded: Recorded) -> Status
 /// Prints a record, or the early end in its place, and answers the status.
 pub fn print_recorded<K: Sink>(out: &mut K, made: Result<Recorded, EarlyEnd>) -> Status
     requires { IfOk made EntriesFit }
-    ensures { IsDelivered (sink_seen K.Sink out.old out.new) (recorded_or_early made) result }
+    ensures { IsDelivered (sink_seen K.Sink out.old out.new) (or_early recorded_outcome made) result }
 {
     match made {
         Ok(recorded) => print_whole(out, recorded),

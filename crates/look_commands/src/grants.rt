@@ -4,7 +4,7 @@ ghost use Rattle.look_commands.specs.Grants.{found_lines};
 
 use crate::listing::print_found;
 use cell_driver::Command;
-use cell_texts::{CellFile, Made};
+use cell_texts::{Answered, CellFile};
 use cell_walks::Status;
 use journal_texts::{Found, find_grants};
 use outside_io::{Disk, Files, Sink};
@@ -34,7 +34,7 @@ impl Command for Grants {
         held: CellFile,
         _files: &mut F,
         disk: D,
-    ) -> Made<Found, D> {
+    ) -> Answered<Found, D> {
         find_grants(alloc, held, disk)
     }
 

@@ -7,7 +7,7 @@ use crate::locating::print_parts;
 use admission_core::Core;
 use cell_base::{List, Part};
 use cell_driver::Command;
-use cell_texts::{CellFile, Made};
+use cell_texts::{Answered, CellFile, Made};
 use cell_walks::{EarlyEnd, Status};
 use journal_texts::read_journal;
 use outside_io::{Disk, Files, Sink};
@@ -44,17 +44,14 @@ impl Command for Parts {
         held: CellFile,
         _files: &mut F,
         disk: D,
-    ) -> Made<Standing, D> {
+    ) -> Answered<Standing, D> {
         let Made { made, disk } = read_journal(alloc, held, disk);
         match made {
             Ok(after) => Made {
                 made: parts_of_core(alloc, after.core),
                 disk,
             },
-            Err(end) => Made {
-                made: Err(end),
-                disk,
-            },
+            Err(end) => Made::ended(end, disk),
         }
     }
 

@@ -12,7 +12,7 @@ ghost use Rattle.order_commands.specs.Orders.{fault_line, limit_of};
 use crate::lines::{order_line, too_many_line, weight_line};
 use cell_base::{Cell, ResId};
 use cell_driver::Command;
-use cell_texts::{CellFile, Made};
+use cell_texts::{Answered, CellFile, Made};
 use cell_walks::{EarlyEnd, Refusal, Status, Subject};
 use order_advisor::{ADVISED, ARRANGED, Advice, AdviceFault, Weighing, best_within};
 use outside_io::{Disk, Files, Sink};
@@ -54,7 +54,7 @@ impl Command for BestOrders {
         held: CellFile,
         _files: &mut F,
         disk: D,
-    ) -> Made<Advised, D> {
+    ) -> Answered<Advised, D> {
         Made {
             made: advise_on(alloc, held.cell, self.weighing),
             disk,

@@ -10,12 +10,13 @@ use admission_core::Core;
 use board_rounds::ask_in_rounds;
 use cell_base::{Cell, MAX_ASKS, NoMemory, Shift};
 use cell_driver::Command;
-use cell_texts::{CellFile, Made, read_shift};
+use cell_texts::{Answered, CellFile, Made, read_shift};
 use cell_walks::{EarlyEnd, Status};
 use outside_io::{Disk, Files, Sink};
 use printer::Printer;
 use std::alloc::Global;
 use wait_board::Board;
+use wait_board::laws::board_law;
 
 /// The room of the board: an ask has two entries at most, one where it waits and one at the end of its wait.
 const ROOM: u64 = 2 * MAX_ASKS;
@@ -47,22 +48,16 @@ impl<'a> Command for Queue<'a> {
         held: CellFile,
         files: &mut F,
         disk: D,
-    ) -> Made<Board, D> {
+    ) -> Answered<Board, D> {
         match read_shift(alloc, files, &held.cell, self.shift) {
             Ok(shift) => match run_rounds(alloc, held.cell, &shift) {
                 Ok(board) => Made {
                     made: Ok(board),
                     disk,
                 },
-                Err(_) => Made {
-                    made: Err(EarlyEnd::WantOfMemory),
-                    disk,
-                },
+                Err(_) => Made::ended(EarlyEnd::WantOfMemory, disk),
             },
-            Err(end) => Made {
-                made: Err(end),
-                disk,
-            },
+            Err(end) => Made::ended(end, disk),
         }
     }
 
@@ -88,7 +83,7 @@ fn run_rounds(alloc: Global, cell: Cell, shift: &Shift) -> Result<Board, NoMemor
     match Board::open(alloc, core, shift.scripts.len() as u16, ROOM) {
         Ok(mut board) => {
             ask_in_rounds(&mut board, shift);
-            let _kept = board.waiting();
+            board_law(&board);
             Ok(board)
         }
         Err((_, fault)) => Err(fault),

@@ -15,13 +15,13 @@ use Rattle.cell_walks.specs.Allowed.{ByMemory, ByRefusal, IsAllowed, IsEndedAt, 
 use Rattle.cell_walks.specs.Allowed.{NotOpened, Opened, Passed, Stopped, Unasked, AllowsFrom}
 use Rattle.cell_walks.specs.DiskTold.{DiskTold, IsUntouched, disk_told}
 use Rattle.cell_walks.specs.Observed.{File, FilesTold, Observed, HoldsOfBytes, files_told, observed}
-use Rattle.cell_walks.specs.Outcomes.{Outcome, early}
+use Rattle.cell_walks.specs.Outcomes.{Outcome, early, or_early}
 use Rattle.cell_walks.specs.Walks.{Answers, Opens, Tests, Walk}
 use Rattle.cell_walks.specs.declared.early_end.EarlyEnd.{EarlyEnd}
 use Rattle.cell_walks.proofs.TwoTests.{both_passed, first_ended, second_ended}
 use Rattle.cell_texts.specs.Tests.{KnownCell, cell_file, cell_reads, shift_file}
 use Rattle.journal_texts.specs.Tests.{to_add}
-use Rattle.journal_texts.specs.Recorded.{IsAskedUnder, IsHaltedIn, IsUnhaltedIn, recorded_or_early}
+use Rattle.journal_texts.specs.Recorded.{IsAskedUnder, IsHaltedIn, IsUnhaltedIn, recorded_outcome}
 use Rattle.journal_texts.specs.Records.{IsRecordedOrHalted}
 use Rattle.run_command.specs.Run.{IsShiftRun, RanPart, RanWhole, run, run_room}
 use Rattle.journal_texts.specs.Starting.{other_shift, start_test}
@@ -92,13 +92,13 @@ module _ (seen : Observed) (held : KnownCell) (shift : Shift) where
   sessions opening = Tests (start_test shift opening) λ started. Answers λ input outcome. IsShiftRun held.cell shift opening outcome
 
   from_start : (opening : List Grant) (made : Result Recorded EarlyEnd) → HasStarted seen.disk held.cell held.text shift opening made
-      → AllowsFrom seen (recorded_or_early made) (Opened held.text opening) (sessions opening)
+      → AllowsFrom seen (or_early recorded_outcome made) (Opened held.text opening) (sessions opening)
   from_start opening (Ok recorded) started = Passed tt started.0 (started.1, started.2)
   from_start opening (Err end) ended = Stopped end (at_start seen.files shift opening end ended.0) (refl, ended.1)
 
   from_journal : (made : Result Recorded EarlyEnd) → IsRunOnJournal seen.disk held shift made
-      → AllowsFrom seen (recorded_or_early made) Unasked (Opens (to_add held (run_room shift)) sessions)
-  from_journal made (NotOpened end ended is) = NotOpened end ended (ap recorded_or_early is)
+      → AllowsFrom seen (or_early recorded_outcome made) Unasked (Opens (to_add held (run_room shift)) sessions)
+  from_journal made (NotOpened end ended is) = NotOpened end ended (ap (or_early recorded_outcome) is)
   from_journal made (JournalOpened opening opened started) = JournalOpened opening opened (from_start opening made started)
 
   abbrev journal : Walk
@@ -131,8 +131,8 @@ module _ {F : Type 0} (holds : F → Option Names) (is_sound : F → Type 0) (fa
     pub run_on_disk : (shift : Shift) (made : Result Recorded EarlyEnd)
         → HoldsOfBytes (files_told holds is_sound faults mid new) (File shift_name) (λ bytes. shift_of held.cell bytes ≡ Ok shift)
         → IsRunOnJournal disk held shift made
-        → IsAllowed seen (run cell shift_name) (recorded_or_early made)
+        → IsAllowed seen (run cell shift_name) (or_early recorded_outcome made)
     run_on_disk shift made read ran =
         both_passed holds is_sound faults disk (cell_file cell) (λ known. shift_file known.cell shift_name) (journal seen)
-        old mid new held shows same shift (recorded_or_early made) read
+        old mid new held shows same shift (or_early recorded_outcome made) read
         (from_journal seen held shift made ran)

@@ -1,17 +1,17 @@
 //! `run CELL SHIFT JOURNAL`: the sessions of a shift at the same time, each on a thread of its own, after the grants of the journal.
 ghost use Rattle.std.specs.Prelude.{◌≤◌, length, IfOk};
-ghost use Rattle.cell_walks.specs.Clauses.{Ends, IsAllowed, disk_told, files_told, observed, sink_told};
+ghost use Rattle.cell_walks.specs.Clauses.{Ends, IsAllowed, disk_told, files_told, observed, or_early, sink_told};
 ghost use Rattle.cell_texts.specs.Clauses.{CellFits, MAX_CELL_BYTES, known};
-ghost use Rattle.journal_texts.specs.Clauses.{EntriesFit, recorded_or_early};
+ghost use Rattle.journal_texts.specs.Clauses.{EntriesFit, recorded_outcome};
 ghost use Rattle.run_command.specs.Clauses.{IsRunOnJournal, ShiftFits, run};
 
 use crate::sessions::start;
 use cell_base::Shift;
 use cell_sessions::ShiftGrants;
-use cell_texts::{CellFile, CommandEnd, read_cell, read_shift};
+use cell_texts::{Answered, CellFile, CommandEnd, Made, read_cell, read_shift};
 use cell_walks::leaves_only_now;
 use durable_cell::MAX_BEFORE_DRAIN;
-use journal_texts::{Made, Recorded, open_journal_with, print_recorded};
+use journal_texts::{Recorded, open_journal_with, print_recorded};
 use outside_io::{Disk, Files, Pace, Sink};
 use solo_rounds::{asks_of, steps_of};
 use std::alloc::Global;
@@ -48,25 +48,19 @@ fn run_of_files<R: Threads + Wait + Sync, F: Files, D: Disk + Send, P: Pace + Sy
     shift: &str,
     disk: D,
     pace: &P,
-) -> Made<Recorded, D>
+) -> Answered<Recorded, D>
     ensures allowed { let files = files_told F.holds F.is_sound F.faults files.old files.new in
         let disk = disk_told D.reads_as D.may_leave D.moment D.left_since D.faults disk result.disk in
-        IsAllowed (observed files disk) (run cell.now shift.now) (recorded_or_early result.made) }
+        IsAllowed (observed files disk) (run cell.now shift.now) (or_early recorded_outcome result.made) }
     ensures fits { IfOk result.made EntriesFit }
 {
     leaves_only_now(&disk);
     match read_cell(alloc, files, cell) {
         Ok(held) => match read_shift(alloc, files, &held.cell, shift) {
             Ok(shift) => run_journal(rt, alloc, held, &shift, disk, pace),
-            Err(end) => Made {
-                made: Err(end),
-                disk,
-            },
+            Err(end) => Made::ended(end, disk),
         },
-        Err(end) => Made {
-            made: Err(end),
-            disk,
-        },
+        Err(end) => Made::ended(end, disk),
     }
 }
 
@@ -78,7 +72,7 @@ fn run_journal<R: Threads + Wait + Sync, D: Disk + Send, P: Pace + Sync>(
     shift: &Shift,
     disk: D,
     pace: &P,
-) -> Made<Recorded, D>
+) -> Answered<Recorded, D>
     requires fits { CellFits held.cell }
     requires short { length held.text.items ≤ MAX_CELL_BYTES }
     requires shift { ShiftFits held.cell shift.now }
@@ -90,9 +84,6 @@ fn run_journal<R: Threads + Wait + Sync, D: Disk + Send, P: Pace + Sync>(
     let own = ShiftGrants::of(alloc, shift.number);
     match open_journal_with(alloc, held, disk, room, asks_of(shift), own) {
         Ok(opened) => start(rt, alloc, opened.durable, &opened.kept, shift, pace),
-        Err(unopened) => Made {
-            made: Err(unopened.end),
-            disk: unopened.disk,
-        },
+        Err(unopened) => Made::ended(unopened.made, unopened.disk),
     }
 }

@@ -9,9 +9,10 @@ use cell_base::{List, NoMemory, Shift};
 use cell_lock::{Pass, SharedCell};
 use cell_sessions::laws::own_grants_law;
 use cell_sessions::{BeginFault, Progress, ShiftGrants, begin, run_shift};
+use cell_texts::{Answered, Made};
 use cell_walks::EarlyEnd;
-use durable_cell::{Durable, Recalled};
-use journal_texts::{Closed, Made, Recorded, at_other_shift, give_back, record_of};
+use durable_cell::{Durable, Recalled, durable_law};
+use journal_texts::{Recorded, at_other_shift, give_back, record_of};
 use outside_io::{Disk, Pace};
 use std::alloc::Global;
 use std::sync::Wait;
@@ -26,7 +27,7 @@ pub fn start<R: Threads + Wait + Sync, D: Disk + Send, P: Pace + Sync>(
     own: &ShiftGrants,
     shift: &Shift,
     pace: &P,
-) -> Made<Recorded, D>
+) -> Answered<Recorded, D>
     requires fresh { IsFresh durable }
     requires limit { durable.limit ≡ steps_of shift.now * shift.now.patience }
     requires shift { ShiftFits durable.cell shift.now }
@@ -36,7 +37,7 @@ pub fn start<R: Threads + Wait + Sync, D: Disk + Send, P: Pace + Sync>(
     ensures due { AreDue durable.cell durable.opening }
     ensures fits { IfOk result.made EntriesFit }
 {
-    let _kept = durable.core();
+    durable_law(&durable);
     own_grants_law(shift);
     match begin(alloc, shift, own.grants.as_slice()) {
         Ok(progress) => share(rt, alloc, durable, progress, shift, pace),
@@ -53,7 +54,7 @@ fn share<R: Threads + Wait + Sync, D: Disk + Send, P: Pace + Sync>(
     progress: List<Progress>,
     shift: &Shift,
     pace: &P,
-) -> Made<Recorded, D>
+) -> Answered<Recorded, D>
     requires fresh { IsFresh durable }
     requires limit { durable.limit ≡ steps_of shift.now * shift.now.patience }
     requires shift { ShiftFits durable.cell shift.now }
@@ -66,7 +67,10 @@ fn share<R: Threads + Wait + Sync, D: Disk + Send, P: Pace + Sync>(
     match SharedCell::open(alloc, durable, shift.number, shift.scripts.len() as u16) {
         Ok((cell, passes)) => {
             let durable = run_sessions(rt, cell, passes, &progress, shift, pace);
-            let Closed { recorded, disk } = finish(durable, shift);
+            let Made {
+                made: recorded,
+                disk,
+            } = finish(durable, shift);
             Made {
                 made: Ok(recorded),
                 disk,
@@ -106,15 +110,15 @@ fn run_sessions<R: Threads + Wait + Sync, D: Disk + Send, P: Pace + Sync>(
 }
 
 // Takes the durable cell after the sessions apart.
-fn finish<D: Disk>(durable: Durable<D, Recalled>, shift: &Shift) -> Closed<D>
+fn finish<D: Disk>(durable: Durable<D, Recalled>, shift: &Shift) -> Made<Recorded, D>
     requires after { IsAfterSessions shift.now durable }
     requires shift { ShiftFits durable.cell shift.now }
     requires started { AreFirstSteps shift.now durable.opening }
-    ensures run { IsShiftRun durable.cell shift.now durable.opening (recorded_outcome result.recorded) }
-    ensures stands { let outcome = recorded_outcome result.recorded in
+    ensures run { IsShiftRun durable.cell shift.now durable.opening (recorded_outcome result.made) }
+    ensures stands { let outcome = recorded_outcome result.made in
         StandsForAdded (disk_told D.reads_as D.may_leave D.moment D.left_since D.faults durable.entry result.disk)
         durable.text durable.opening outcome.added outcome.unsure }
-    ensures fits { EntriesFit result.recorded }
+    ensures fits { EntriesFit result.made }
 {
     record_of(durable, shift.number)
 }

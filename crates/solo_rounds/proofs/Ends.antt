@@ -1,19 +1,15 @@
 -- Rounds begin with no entry, and are whole where all sessions have ended.
-use Rattle.std.proofs.Common.{◌≡◌, ℕ, zero, suc, ◌+◌, ◌<◌, List, [], length, slice_index_or, replicate, refl, sym, subst, ap, ◌∙◌, arith, add-one}
+use Rattle.std.proofs.Common.{◌≡◌, ℕ, zero, suc, ◌+◌, ◌<◌, List, [], length, slice_index_or, replicate, refl, sym, subst, arith, add-one}
 use Rattle.std.proofs.lemmas.Bool.Decides.{nat_tests}
 use Rattle.std.proofs.lemmas.List.Elements.{All-nil}
 use Rattle.cell_base.specs.declared.cells.Cell.{Cell}
 use Rattle.cell_base.specs.declared.requests.Part.{Part}
 use Rattle.cell_base.specs.declared.shifts.Entry.{Entry}
 use Rattle.cell_base.specs.declared.shifts.Shift.{Shift}
-use Rattle.cell_base.specs.Histories.{after, entries_of}
+use Rattle.cell_base.specs.Histories.{entries_of}
 use Rattle.cell_base.specs.Scripts.{Progress, begin_at, HasEnded, script_of, IsTrace, IsWholeTrace}
 use Rattle.cell_base.specs.Rounds.{IsSession, IsRoundRobin}
 use Rattle.solo_rounds.specs.Underway.{AreUnderway, HaveEnded, IsUnderway}
-use Rattle.cell_base.proofs.OneRound.{one_history}
-use Rattle.admission_core.specs.CoreState.{CoreState}
-use Rattle.solo_rounds.specs.Asking.{AreAsking}
-use Rattle.solo_rounds.specs.Standing.{Standing}
 use Rattle.solo_rounds.proofs.Traces.{holds_halt-entries_of}
 
 pub same_everywhere : {X : Type 0} (n k : ℕ) (x : X) → slice_index_or (replicate n x) k x ≡ x
@@ -70,14 +66,3 @@ finish shift cell start now history progress turn done underway ended = record {
   sessions = underway.rounds.sessions;
   rising = underway.rounds.rising;
 }
-
--- a core whose rounds came to their end is in the state after the one history that they have
-pub left_after : (shift : Shift) (before now : CoreState) (start : List Part) (one other : List Entry) (at : Standing)
-    → now.cell ≡ before.cell → AreAsking shift now start other at → IsRoundRobin before.cell start shift one
-    → IsRoundRobin now.cell start shift other → now ≡ record before { parts = after before.cell start one }
-left_after shift before now start one other at same asking whole there =
-    let here : IsRoundRobin before.cell start shift other = subst (λ (cell : Cell). IsRoundRobin cell start shift other) same there in
-    let parts : now.parts ≡ after before.cell start one =
-    asking.underway.state ∙ ap (λ (cell : Cell). after cell start other) same
-    ∙ ap (after before.cell start) (one_history before.cell start shift other one here whole) in
-    λ i. record { cell = same i; parts = parts i }

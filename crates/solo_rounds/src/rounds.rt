@@ -4,7 +4,6 @@ ghost use Rattle.solo_rounds.specs.Clauses.{Cell, CoreState, Entry, IsRoundRobin
 ghost use Rattle.solo_rounds.specs.Clauses.{Shift, ShiftFits, steps_of};
 ghost use Rattle.solo_rounds.specs.Underway.{AsksStep, CanGoOn, HasEndedAt, HaveEnded, HaveEndedFrom, IsNextGoing, IsUnderway, asks_left};
 ghost use Rattle.solo_rounds.specs.Asking.{AreAsking, AreReady, asks_left_in};
-ghost use Rattle.cell_base.specs.Histories.{after};
 
 use crate::progress::Progress;
 use admission_core::Core;
@@ -65,20 +64,6 @@ impl Rounds {
             }
             None => None,
         }
-    }
-
-    /// Each session asks on to its end, and nobody is told: all have ended, and the core is in the state after the entries still to come.
-    pub fn ask_rest(&mut self, core: &mut Core, shift: &Shift)
-        requires shift { ShiftFits core.old.cell shift.now }
-        requires ready { AreReady shift.now self.old }
-        ensures rounds { (start : List Part) (history : List Entry) → AreAsking shift.now core.old start history self.old
-            → (rest : List Entry) × IsRoundRobin core.old.cell start shift.now (history ++ rest) }
-        ensures state { (start : List Part) (history rest : List Entry) → AreAsking shift.now core.old start history self.old
-            → IsRoundRobin core.old.cell start shift.now (history ++ rest)
-            → core.new ≡ record core.old { parts = after core.old.cell start (history ++ rest) } }
-        ensures ended { HaveEnded shift.now self.new.progress (length shift.now.scripts) }
-    {
-        while let Some(_entry) = self.ask(core, shift) {}
     }
 }
 

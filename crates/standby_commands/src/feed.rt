@@ -9,7 +9,7 @@ ghost use Rattle.standby_commands.specs.Feed.{EndsFeeding, HasFed, HasTooFew, Is
 use crate::printing::print_frames;
 use crate::refusals::feed_refused;
 use cell_driver::{Command, drive};
-use cell_texts::{CellFile, CommandEnd, Made, print_usage};
+use cell_texts::{Answered, CellFile, CommandEnd, Made, print_usage};
 use cell_walks::{EarlyEnd, Status};
 use journal_texts::{Found, find_grants};
 use outside_io::{Disk, Files, Sink};
@@ -73,7 +73,7 @@ impl Command for Feed {
         held: CellFile,
         _files: &mut F,
         disk: D,
-    ) -> Made<Feeding, D> {
+    ) -> Answered<Feeding, D> {
         let Made { made, disk } = feed_of_journal(alloc, held, self.first, disk);
         match made {
             Ok(feeder) => Made {
@@ -83,10 +83,7 @@ impl Command for Feed {
                 }),
                 disk,
             },
-            Err(end) => Made {
-                made: Err(end),
-                disk,
-            },
+            Err(end) => Made::ended(end, disk),
         }
     }
 
@@ -97,7 +94,12 @@ impl Command for Feed {
 }
 
 // A feeder of the grants of a journal, of which there have to be as many as the index says; or the early end in its place. It only reads.
-fn feed_of_journal<D: Disk>(alloc: Global, held: CellFile, first: u64, disk: D) -> Made<Feeder, D>
+fn feed_of_journal<D: Disk>(
+    alloc: Global,
+    held: CellFile,
+    first: u64,
+    disk: D,
+) -> Answered<Feeder, D>
     requires fits { CellFits held.cell }
     requires short { length held.text.items ≤ MAX_CELL_BYTES }
     ensures fed { IfOk result.made (IsFeeding (disk_seen D.Disk disk result.disk) (to_read (known held)) first) }
@@ -110,10 +112,7 @@ fn feed_of_journal<D: Disk>(alloc: Global, held: CellFile, first: u64, disk: D) 
             made: feeder_of(found, first),
             disk,
         },
-        Err(end) => Made {
-            made: Err(end),
-            disk,
-        },
+        Err(end) => Made::ended(end, disk),
     }
 }
 

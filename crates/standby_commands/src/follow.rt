@@ -13,7 +13,7 @@ use admission_core::Core;
 use admission_core::laws::core_law;
 use cell_base::{NoMemory, Shelf};
 use cell_driver::Command;
-use cell_texts::{CellFile, Made};
+use cell_texts::{Answered, CellFile, Made};
 use cell_walks::{EarlyEnd, Status};
 use durable_cell::{Durable, Finished, MAX_ROOM, durable_law};
 use journal_texts::{give_back, open_journal};
@@ -56,13 +56,10 @@ impl<'a> Command for Follow<'a> {
         held: CellFile,
         files: &mut F,
         disk: D,
-    ) -> Made<Followed, D> {
+    ) -> Answered<Followed, D> {
         match read_frames(alloc, files, self.frames) {
             Ok(bytes) => follow_journal(alloc, held, &bytes, disk),
-            Err(end) => Made {
-                made: Err(end),
-                disk,
-            },
+            Err(end) => Made::ended(end, disk),
         }
     }
 
@@ -83,7 +80,7 @@ fn follow_journal<D: Disk>(
     held: CellFile,
     bytes: &[u8],
     disk: D,
-) -> Made<Followed, D>
+) -> Answered<Followed, D>
     requires fits { CellFits held.cell }
     requires short { length held.text.items ≤ MAX_CELL_BYTES }
     requires few { length (frames_in bytes.now) ≤ MAX_ROOM }
@@ -93,17 +90,11 @@ fn follow_journal<D: Disk>(
 {
     let count = bytes.len() as u64 / FRAME_BYTES;
     let Ok(acks) = Shelf::with_room(alloc, count) else {
-        return Made {
-            made: Err(EarlyEnd::WantOfMemory),
-            disk,
-        };
+        return Made::ended(EarlyEnd::WantOfMemory, disk);
     };
     match open_journal(alloc, held, disk, MAX_ROOM, count) {
         Ok(durable) => follow_opened(alloc, durable, bytes, acks),
-        Err(unopened) => Made {
-            made: Err(unopened.end),
-            disk: unopened.disk,
-        },
+        Err(unopened) => Made::ended(unopened.made, unopened.disk),
     }
 }
 
@@ -113,7 +104,7 @@ fn follow_opened<D: Disk>(
     durable: Durable<D>,
     bytes: &[u8],
     mut acks: Shelf<u64>,
-) -> Made<Followed, D>
+) -> Answered<Followed, D>
     requires fresh { IsFresh durable }
     requires limit { length (frames_in bytes.now) ≤ durable.limit }
     requires acks { acks.items ≡ [] }
@@ -139,13 +130,7 @@ fn follow_opened<D: Disk>(
                 disk,
             }
         }
-        Err((durable, NoMemory)) => {
-            let Made { made: _, disk } = give_back(durable, EarlyEnd::WantOfMemory);
-            Made {
-                made: Err(EarlyEnd::WantOfMemory),
-                disk,
-            }
-        }
+        Err((durable, NoMemory)) => give_back(durable, EarlyEnd::WantOfMemory),
     }
 }
 

@@ -19,12 +19,12 @@ record_of-requires g c =
 pub returns-clause-begun : goal.returns-clause-begun
 returns-clause-begun g c =
     asked_so c.args.requests.now c.args.durable c.ask_each.new.durable c.ask_each.ensures.asked
-    (recorded_outcome c.record_of.result.recorded)
+    (recorded_outcome c.record_of.result.made)
     c.record_of.ensures.recorded
 
 pub returns-clause-stands : goal.returns-clause-stands
 returns-clause-stands g c =
-    let outcome = recorded_outcome c.record_of.result.recorded in
+    let outcome = recorded_outcome c.record_of.result.made in
     same_opening c.args.requests.now c.args.durable c.ask_each.new.durable c.ask_each.ensures.asked
     (λ (durable : DurableState _). StandsForAdded
     (disk_told g.D.Disk.reads_as g.D.Disk.may_leave g.D.Disk.moment g.D.Disk.left_since g.D.Disk.faults durable.entry

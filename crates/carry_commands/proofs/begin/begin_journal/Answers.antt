@@ -25,4 +25,6 @@ returns-in-Ok-clause-begun g c =
     c.in-Ok.ensures.opening c.begin_opened.ensures.due c.begin_opened.ensures.begun
 
 pub returns-in-Err-clause-begun : goal.returns-in-Err-clause-begun
-returns-in-Err-clause-begun g c = NotOpened c.in-Err.unopened.end c.in-Err.ensures.ended refl
+returns-in-Err-clause-begun g c =
+    rw (c.ended.ensures.made, c.ended.ensures.disk)
+    (NotOpened c.in-Err.unopened.made c.in-Err.ensures.ended refl)

@@ -14,4 +14,6 @@ returns-in-Ok-clause-ended g c =
     c.carry_parts.ensures.ended
 
 pub returns-in-Err-clause-ended : goal.returns-in-Err-clause-ended
-returns-in-Err-clause-ended g c = Unopened (rw c.in-Err.is at c.read_journal-made.ensures.ended)
+returns-in-Err-clause-ended g c =
+    rw (c.ended.ensures.made, c.ended.ensures.disk)
+    (Unopened (rw c.in-Err.is at c.read_journal-made.ensures.ended))

@@ -18,11 +18,11 @@ record_of-requires g c =
 pub returns-clause-drained : goal.returns-clause-drained
 returns-clause-drained g c =
     asked_so (plan_of c.args.durable.cell (first_parts c.args.durable)) c.args.durable c.ask_steps.new.durable
-    c.ask_steps.ensures.drained (recorded_outcome c.record_of.result.recorded) c.record_of.ensures.recorded
+    c.ask_steps.ensures.drained (recorded_outcome c.record_of.result.made) c.record_of.ensures.recorded
 
 pub returns-clause-stands : goal.returns-clause-stands
 returns-clause-stands g c =
-    let outcome = recorded_outcome c.record_of.result.recorded in
+    let outcome = recorded_outcome c.record_of.result.made in
     same_opening (plan_of c.args.durable.cell (first_parts c.args.durable)) c.args.durable c.ask_steps.new.durable
     c.ask_steps.ensures.drained
     (λ (durable : DurableState _). StandsForAdded

@@ -25,10 +25,11 @@ returns-in-Ok-clause-replayed g c =
 
 pub returns-in-Refused-clause-ended : goal.returns-in-Refused-clause-ended
 returns-in-Refused-clause-ended g c =
-    OpeningRefused c.in-Refused.why
+    rw (c.ended-in-Refused.ensures.made, c.ended-in-Refused.ensures.disk)
+    (OpeningRefused c.in-Refused.why
     (subst (λ (text : List ℕ). IfSome (g.D.Disk.reads_as c.args.disk)
     (λ file. opened_as c.args.held.cell file text MAX_ROOM ≡ Err c.in-Refused.why)) c.deref.ensures.value
     (rw c.in-Refused.is at c.in-Err.ensures.refused))
     (only_read g.D.Disk.reads_as g.D.Disk.may_leave g.D.Disk.moment g.D.Disk.left_since g.D.Disk.faults c.args.disk c.in-Err.field-0.disk
     c.in-Err.ensures.reads)
-    c.at_journal_fault.ensures
+    c.at_journal_fault.ensures)

@@ -9,11 +9,12 @@ use Rattle.journal_texts.proofs.recorded.give_back.Goals as goal
 
 pub returns-clause-stands : goal.returns-clause-stands
 returns-clause-stands g c =
-    let durable = c.args.durable in
+    rw c.ended.ensures.disk
+    (let durable = c.args.durable in
     let disk = disk_told g.D.Disk.reads_as g.D.Disk.may_leave g.D.Disk.moment g.D.Disk.left_since g.D.Disk.faults durable.entry
     c.finish-disk.result.disk in
     subst (λ (unsure : Option Grant). StandsForAdded disk durable.text durable.opening [] (option_to_list unsure)) c.requires.fresh.unsure
     (subst (λ (added : List Grant). StandsForAdded disk durable.text durable.opening added (option_to_list durable.unsure))
     c.requires.fresh.added
     (stands_for_added g.D.Disk.reads_as g.D.Disk.may_leave g.D.Disk.moment g.D.Disk.left_since g.D.Disk.faults durable
-    c.finish-disk.ensures.keeps_disk c.finish-disk.result.disk c.finish-disk.ensures.disk))
+    c.finish-disk.ensures.keeps_disk c.finish-disk.result.disk c.finish-disk.ensures.disk)))

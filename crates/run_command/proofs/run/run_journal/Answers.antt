@@ -13,4 +13,5 @@ returns-in-Ok-clause-run g c =
 
 pub returns-in-Err-clause-run : goal.returns-in-Err-clause-run
 returns-in-Err-clause-run g c =
-    NotOpened c.in-Err.unopened.end (rw c.steps_of-room.ensures at c.in-Err.ensures.ended) refl
+    rw (c.ended.ensures.made, c.ended.ensures.disk)
+    (NotOpened c.in-Err.unopened.made (rw c.steps_of-room.ensures at c.in-Err.ensures.ended) refl)

@@ -7,22 +7,24 @@ use Rattle.run_command.proofs.run.run_of_files.Goals as goal
 
 pub returns-in-Err-clause-allowed : goal.returns-in-Err-clause-allowed
 returns-in-Err-clause-allowed g c =
-    run_unread g.F.Files.holds g.F.Files.is_sound g.F.Files.faults
+    rw (c.ended-in-Err.ensures.made, c.ended-in-Err.ensures.disk)
+    (run_unread g.F.Files.holds g.F.Files.is_sound g.F.Files.faults
     (disk_told g.D.Disk.reads_as g.D.Disk.may_leave g.D.Disk.moment g.D.Disk.left_since g.D.Disk.faults c.args.disk c.args.disk)
     c.args.cell.now c.args.shift.now c.args.files.now c.read_cell.new.files c.in-Err.end
     (untouched g.D.Disk.reads_as g.D.Disk.may_leave g.D.Disk.moment g.D.Disk.left_since g.D.Disk.faults c.args.disk
     c.leaves_only_now.ensures)
-    c.in-Err.ensures.ended
+    c.in-Err.ensures.ended)
 
 pub returns-in-Err-read_shift-clause-allowed : goal.returns-in-Err-read_shift-clause-allowed
 returns-in-Err-read_shift-clause-allowed g c =
-    run_without_shift g.F.Files.holds g.F.Files.is_sound g.F.Files.faults
+    rw (c.ended.ensures.made, c.ended.ensures.disk)
+    (run_without_shift g.F.Files.holds g.F.Files.is_sound g.F.Files.faults
     (disk_told g.D.Disk.reads_as g.D.Disk.may_leave g.D.Disk.moment g.D.Disk.left_since g.D.Disk.faults c.args.disk c.args.disk)
     c.args.cell.now c.args.shift.now c.args.files.now c.read_cell.new.files c.read_shift.new.files (known c.in-Ok.held)
     c.in-Ok.ensures.read c.in-Ok.ensures.same c.in-Err-read_shift.end
     (untouched g.D.Disk.reads_as g.D.Disk.may_leave g.D.Disk.moment g.D.Disk.left_since g.D.Disk.faults c.args.disk
     c.leaves_only_now.ensures)
-    c.in-Ok.ensures.kept c.in-Ok.ensures.stays_sound c.in-Err-read_shift.ensures.ended
+    c.in-Ok.ensures.kept c.in-Ok.ensures.stays_sound c.in-Err-read_shift.ensures.ended)
 
 pub returns-in-Ok-read_shift-clause-allowed : goal.returns-in-Ok-read_shift-clause-allowed
 returns-in-Ok-read_shift-clause-allowed g c =

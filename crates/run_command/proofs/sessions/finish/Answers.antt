@@ -8,5 +8,5 @@ record_of-requires g c = asked_under c.args.shift.now c.args.durable c.requires.
 
 pub returns-clause-run : goal.returns-clause-run
 returns-clause-run g c =
-    shift_run c.args.shift.now c.args.durable c.requires.started c.requires.after (recorded_outcome c.record_of.result.recorded)
+    shift_run c.args.shift.now c.args.durable c.requires.started c.requires.after (recorded_outcome c.record_of.result.made)
     c.record_of.ensures.recorded

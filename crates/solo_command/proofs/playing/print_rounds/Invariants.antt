@@ -1,7 +1,7 @@
--- The head and the lines of the entries so far were taken, and no call has failed.
+-- The head and the lines of the entries so far are printed, and the rounds are under way.
 use Rattle.std.proofs.Common.{◌≡◌, [], List}
-use Rattle.outside_io.specs.Puts.{TookAll, sink_told}
 use Rattle.cell_base.specs.declared.shifts.Entry.{Entry}
+use Rattle.printer.specs.Printing.{Prints}
 use Rattle.cell_texts.specs.Blocks.{history_lines}
 use Rattle.solo_rounds.specs.Asking.{AreAsking, AreReady, asks_left_in}
 use Rattle.solo_command.proofs.playing.print_rounds.Given as goal
@@ -12,9 +12,7 @@ invariant-loop-entry g l = record {
   ready : AreReady l.shift l.rounds;
   history : List Entry;
   asking : AreAsking l.shift l.core [] history l.rounds;
-  took : TookAll (sink_told g.K.Sink.taken g.K.Sink.was_put g.K.Sink.faults l.fn.out l.out)
-      (history_lines l.core.cell l.shift.number 0 history);
-  still : g.K.Sink.faults l.out ≡ g.K.Sink.faults l.fn.out;
+  prints : Prints g.K.Sink l.fn.out l.out (history_lines l.fn.core.cell l.shift.number 0 history);
 }
 
 abbrev pub decreases-loop-entry : goal.decreases-loop-entry

@@ -21,4 +21,6 @@ returns-in-Ok-clause-ended g c =
     c.in-Ok.found.grants found.opened c.feeder_of.result c.feeder_of.ensures.ended
 
 pub returns-in-Err-clause-ended : goal.returns-in-Err-clause-ended
-returns-in-Err-clause-ended g c = Unopened (rw c.in-Err.is at c.find_grants-made.ensures.ended)
+returns-in-Err-clause-ended g c =
+    rw (c.ended.ensures.made, c.ended.ensures.disk)
+    (Unopened (rw c.in-Err.is at c.find_grants-made.ensures.ended))

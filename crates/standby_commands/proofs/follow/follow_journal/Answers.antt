@@ -31,10 +31,11 @@ follow_opened-requires-clause-fresh g c = record {
 
 pub returns-in_default-clause-followed : goal.returns-in_default-clause-followed
 returns-in_default-clause-followed g c =
-    let disk = disk_told g.D.Disk.reads_as g.D.Disk.may_leave g.D.Disk.moment g.D.Disk.left_since g.D.Disk.faults c.args.disk c.args.disk in
+    rw (c.ended.ensures.made, c.ended.ensures.disk)
+    (let disk = disk_told g.D.Disk.reads_as g.D.Disk.may_leave g.D.Disk.moment g.D.Disk.left_since g.D.Disk.faults c.args.disk c.args.disk in
     starved disk (known c.args.held) (frames_in c.args.bytes.now)
     (read_untouched disk (untouched g.D.Disk.reads_as g.D.Disk.may_leave g.D.Disk.moment g.D.Disk.left_since g.D.Disk.faults c.args.disk
-    (g.met.D.Disk.only_now c.args.disk)))
+    (g.met.D.Disk.only_now c.args.disk))))
 
 pub returns-in-Ok-open_journal-clause-followed : goal.returns-in-Ok-open_journal-clause-followed
 returns-in-Ok-open_journal-clause-followed g c =
@@ -44,4 +45,6 @@ returns-in-Ok-open_journal-clause-followed g c =
     c.follow_opened.ensures.due c.follow_opened.ensures.followed
 
 pub returns-in-Err-clause-followed : goal.returns-in-Err-clause-followed
-returns-in-Err-clause-followed g c = NotOpened c.in-Err.unopened.end c.in-Err.ensures.ended refl
+returns-in-Err-clause-followed g c =
+    rw (c.ended-in-Err.ensures.made, c.ended-in-Err.ensures.disk)
+    (NotOpened c.in-Err.unopened.made c.in-Err.ensures.ended refl)

@@ -1,5 +1,5 @@
 -- The follower takes the frames, or there is no memory for its grants.
-use Rattle.std.proofs.Common.{◌≤◌, length, sym, ap, subst, arith}
+use Rattle.std.proofs.Common.{◌≤◌, length, refl, sym, ap, subst, arith}
 use Rattle.journal_texts.specs.Recorded.{IsFresh}
 use Rattle.standby_link.specs.Followers.{FollowerState}
 use Rattle.standby_commands.specs.FrameFiles.{frames_in}
@@ -36,3 +36,6 @@ returns-in-Ok-clause-fits g c =
     (ap (λ (f : FollowerState _). f.durable) c.in-Ok.ensures.open) c.in-Ok.ensures.none_added c.take_frames-stop.ensures
     c.into_durable.ensures.durable c.finish-disk.ensures.core c.into_durable.ensures.state c.core_law.ensures.fits
     c.core_law.ensures.admitted
+
+pub returns-in-Err-clause-followed : goal.returns-in-Err-clause-followed
+returns-in-Err-clause-followed g c = rw c.give_back.ensures.made (refl, rw c.in-Err.ensures.back at c.give_back.ensures.stands)

@@ -11,17 +11,19 @@ use Rattle.carry_commands.proofs.begin.BeginCommand.answer.Goals as goal
 
 pub returns-in-Err-clause-allowed : goal.returns-in-Err-clause-allowed
 returns-in-Err-clause-allowed g c =
-    begin_without_start (files_seen g.F.Files c.args.files.now c.read_start_file.new.files) (disk_seen g.D.Disk c.args.disk c.args.disk)
+    rw (c.ended-in-Err.ensures.made, c.ended-in-Err.ensures.disk)
+    (begin_without_start (files_seen g.F.Files c.args.files.now c.read_start_file.new.files) (disk_seen g.D.Disk c.args.disk c.args.disk)
     (known c.args.held) c.args.self.now.start.now c.in-Err.end (untouched_by g.D.Disk c.args.disk (g.met.D.Disk.only_now c.args.disk))
-    c.in-Err.ensures.ended
+    c.in-Err.ensures.ended)
 
 pub returns-in-Err-check_start-clause-allowed : goal.returns-in-Err-check_start-clause-allowed
 returns-in-Err-check_start-clause-allowed g c =
-    begin_refused (files_seen g.F.Files c.args.files.now c.read_start_file.new.files) (disk_seen g.D.Disk c.args.disk c.args.disk)
+    rw (c.ended.ensures.made, c.ended.ensures.disk)
+    (begin_refused (files_seen g.F.Files c.args.files.now c.read_start_file.new.files) (disk_seen g.D.Disk c.args.disk c.args.disk)
     (known c.args.held) c.args.self.now.start.now c.in-Ok.requests c.in-Ok.ensures.read c.in-Err-check_start.end
     (untouched_by g.D.Disk c.args.disk (g.met.D.Disk.only_now c.args.disk))
     (subst (λ (requests : List Request). EndsBeforeJournal c.args.held.cell requests c.in-Err-check_start.end) c.as_slice.ensures
-    c.in-Err-check_start.ensures.ended)
+    c.in-Err-check_start.ensures.ended))
 
 pub returns-in-Ok-check_start-clause-allowed : goal.returns-in-Ok-check_start-clause-allowed
 returns-in-Ok-check_start-clause-allowed g c =

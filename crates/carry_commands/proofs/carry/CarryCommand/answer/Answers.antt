@@ -8,9 +8,10 @@ use Rattle.carry_commands.proofs.carry.CarryCommand.answer.Goals as goal
 
 pub returns-in-Err-clause-allowed : goal.returns-in-Err-clause-allowed
 returns-in-Err-clause-allowed g c =
-    carry_without_other (files_seen g.F.Files c.args.files.now c.read_cell.new.files) (disk_seen g.D.Disk c.args.disk c.args.disk)
+    rw (c.ended.ensures.made, c.ended.ensures.disk)
+    (carry_without_other (files_seen g.F.Files c.args.files.now c.read_cell.new.files) (disk_seen g.D.Disk c.args.disk c.args.disk)
     (known c.args.held) c.args.self.now.other.now c.in-Err.end (untouched_by g.D.Disk c.args.disk (g.met.D.Disk.only_now c.args.disk))
-    c.in-Err.ensures.ended
+    c.in-Err.ensures.ended)
 
 pub returns-in-Ok-clause-allowed : goal.returns-in-Ok-clause-allowed
 returns-in-Ok-clause-allowed g c =

@@ -12,4 +12,6 @@ returns-in-Ok-clause-allowed g c =
     Allowed (ap (λ (on : Cell). done (show_lines on)) c.in-Ok.ensures.cell, untouched_by g.D.Disk c.args.disk (g.met.D.Disk.only_now c.args.disk))
 
 pub returns-clause-allowed : goal.returns-clause-allowed
-returns-clause-allowed g c = Starved refl (untouched_by g.D.Disk c.args.disk (g.met.D.Disk.only_now c.args.disk))
+returns-clause-allowed g c =
+    rw (c.ended.ensures.made, c.ended.ensures.disk)
+    (Starved refl (untouched_by g.D.Disk c.args.disk (g.met.D.Disk.only_now c.args.disk)))

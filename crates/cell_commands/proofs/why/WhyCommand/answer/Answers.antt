@@ -10,10 +10,11 @@ use Rattle.cell_commands.proofs.why.WhyCommand.answer.Goals as goal
 
 pub returns-in-Err-clause-allowed : goal.returns-in-Err-clause-allowed
 returns-in-Err-clause-allowed g c =
-    rw c.at_step_fault.ensures
+    rw (c.ended.ensures.made, c.ended.ensures.disk)
+    (rw c.at_step_fault.ensures
     (why_no_step (files_seen g.F.Files c.args._files.now c.args._files.now) (disk_seen g.D.Disk c.args.disk c.args.disk) (known c.args.held)
     c.args.self.now.step.now c.in-Err.fault (c.in-Err.ensures.step ∙ ap (step_of c.args.held.cell) c.as_bytes.ensures.value)
-    (untouched_by g.D.Disk c.args.disk (g.met.D.Disk.only_now c.args.disk)))
+    (untouched_by g.D.Disk c.args.disk (g.met.D.Disk.only_now c.args.disk))))
 
 pub returns-in-Ok-clause-allowed : goal.returns-in-Ok-clause-allowed
 returns-in-Ok-clause-allowed g c =

@@ -13,5 +13,6 @@ returns-in-Ok-clause-allowed g c =
 
 pub returns-in-Err-clause-allowed : goal.returns-in-Err-clause-allowed
 returns-in-Err-clause-allowed g c =
-    parts_unread (files_seen g.F.Files c.args._files.now c.args._files.now) (disk_seen g.D.Disk c.args.disk c.read_journal-made.result.disk)
-    (known c.args.held) c.in-Err.end (rw c.in-Err.is at c.read_journal-made.ensures.ended)
+    rw (c.ended.ensures.made, c.ended.ensures.disk)
+    (parts_unread (files_seen g.F.Files c.args._files.now c.args._files.now) (disk_seen g.D.Disk c.args.disk c.read_journal-made.result.disk)
+    (known c.args.held) c.in-Err.end (rw c.in-Err.is at c.read_journal-made.ensures.ended))

@@ -12,13 +12,16 @@ use Rattle.queue_command.proofs.queue.QueueCommand.answer.Goals as goal
 
 pub returns-clause-allowed : goal.returns-clause-allowed
 returns-clause-allowed g c =
-    Allowed
+    rw (c.ended-in-Err.ensures.made, c.ended-in-Err.ensures.disk)
+    (Allowed
     (ended_at (observed (files_seen g.F.Files c.args.files.now c.read_shift.new.files) (disk_seen g.D.Disk c.args.disk c.args.disk)) Unasked
     (shift_file c.args.held.cell c.args.self.now.shift.now) (ran (known c.args.held)) c.in-Err.end c.in-Err.ensures.ended
-    (untouched_by g.D.Disk c.args.disk (g.met.D.Disk.only_now c.args.disk)))
+    (untouched_by g.D.Disk c.args.disk (g.met.D.Disk.only_now c.args.disk))))
 
 pub returns-in-Ok-clause-allowed : goal.returns-in-Ok-clause-allowed
-returns-in-Ok-clause-allowed g c = Starved refl (untouched_by g.D.Disk c.args.disk (g.met.D.Disk.only_now c.args.disk))
+returns-in-Ok-clause-allowed g c =
+    rw (c.ended.ensures.made, c.ended.ensures.disk)
+    (Starved refl (untouched_by g.D.Disk c.args.disk (g.met.D.Disk.only_now c.args.disk)))
 
 pub returns-in-Ok-run_rounds-clause-allowed : goal.returns-in-Ok-run_rounds-clause-allowed
 returns-in-Ok-run_rounds-clause-allowed g c =

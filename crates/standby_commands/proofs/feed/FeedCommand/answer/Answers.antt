@@ -18,6 +18,7 @@ returns-in-Ok-clause-whole g c =
 
 pub returns-in-Err-clause-allowed : goal.returns-in-Err-clause-allowed
 returns-in-Err-clause-allowed g c =
-    feed_ended (files_seen g.F.Files c.args._files.now c.args._files.now)
+    rw (c.ended.ensures.made, c.ended.ensures.disk)
+    (feed_ended (files_seen g.F.Files c.args._files.now c.args._files.now)
     (disk_seen g.D.Disk c.args.disk c.feed_of_journal-made.result.disk) (known c.args.held) c.args.self.now.first
-    c.feed_of_journal-made.ensures.only_read c.in-Err.end (rw c.in-Err.is at c.feed_of_journal-made.ensures.ended)
+    c.feed_of_journal-made.ensures.only_read c.in-Err.end (rw c.in-Err.is at c.feed_of_journal-made.ensures.ended))
