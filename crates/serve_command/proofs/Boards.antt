@@ -21,7 +21,7 @@ use Rattle.wait_queue.specs.declared.waiter.Waiter.{Waiter}
 use Rattle.wait_queue.specs.Waiting.{Waiting, after_wait, is_ready, renewed, served, served_within, waiting, without_first}
 use Rattle.wait_board.specs.declared.entries.BoardEntry.{BoardEntry}
 use Rattle.wait_board.specs.declared.entries.BoardTold.TheVariants as told
-use Rattle.wait_board.specs.Boards.{OnBoard, all_renewed, asked_in_turn, asks_of, entry, is_answer, noted, scan, told_on, with_waiter}
+use Rattle.wait_board.specs.Boards.{OnBoard, all_renewed, asked_in_turn, asks_of, entry, is_answer, noted, told_on, with_waiter}
 use Rattle.wait_board.specs.Boards as board
 use Rattle.wait_board.specs.Laws.{ScanLaw, end_in, ends_of, with_ends}
 use Rattle.serve_command.specs.BoardLaws.{BoardLaw, IsBoardAsk, board_entries, board_entries_of}

@@ -14,7 +14,6 @@ use crate::server::{FirstGrant, Server};
 use cell_base::{Cell, Entry, Grant, Refusal, Reply, Request, ResId, Told};
 use live_cell::JournalFull;
 use outside_io::Disk;
-use policy_laws::refusal_law;
 use record_text::{Line, line_of};
 use wait_queue::Waiter;
 
@@ -65,8 +64,7 @@ impl<D: Disk> Server<D> {
             < self.old.live.len + length self.old.live.pending + length self.old.queue.waiters + 1) }
         ensures same { OnErr result (self.new ≡ self.old) }
     {
-        let core = self.live.core();
-        refusal_law(core.cell());
+        let _core = self.live.core();
         match self.ask(session, request) {
             Ok(Reply::Granted) => {
                 self.note_grant(session, request);

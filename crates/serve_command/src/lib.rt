@@ -11,6 +11,9 @@
 //! 7 grants                  // in
 //! 7 grants 1                // out
 //! ```
+//!
+//! A step that is asked with `wait` stays with the server where there is no room for it, and is served as soon as a grant has made room: it is
+//! decided in the group of that grant, and on the disk with it. After each line nobody waits whose step could be granted.
 #![tactic(auto)]
 
 mod asks;

@@ -9,7 +9,6 @@ use crate::said_lines::{cancel_line, end_line, still_line};
 use crate::server::Server;
 use cell_base::{Grant, Reply, Request};
 use outside_io::Disk;
-use policy_laws::refusal_law;
 use wait_queue::Waiter;
 
 impl<D: Disk> Server<D> {
@@ -42,8 +41,7 @@ impl<D: Disk> Server<D> {
         ensures ended { EndsWait self.old waiter.now self.new }
         ensures waiters { KeepsWaiters self.new }
     {
-        let core = self.live.core();
-        refusal_law(core.cell());
+        let _core = self.live.core();
         let Ok(reply) = self.live.ask(waiter.session, &waiter.request) else {
             return;
         };
