@@ -94,7 +94,7 @@ public sealed class Cell : IDisposable
     public string Say(string line)
     {
         byte[] sent = new UTF8Encoding(false).GetBytes(line + "\n");
-        if (sent.Length > 65 || line.Contains("\n")) throw new NoRequestException(line);
+        if (sent.Length > 67 || line.Contains("\n")) throw new NoRequestException(line);
         var reply = new Waiting { Words = line + " " };
         lock (sending)
         {

@@ -90,7 +90,7 @@ public final class Cell implements AutoCloseable {
     /** The reply to a line, after the line's own words. Empty: the server was killed before it came, and is started again. */
     public Optional<String> say(String line) throws StoppedException, InterruptedException {
         byte[] sent = (line + "\n").getBytes(StandardCharsets.UTF_8);
-        if (sent.length > 65 || line.contains("\n")) throw new NoRequestException(line);
+        if (sent.length > 67 || line.contains("\n")) throw new NoRequestException(line);
         CompletableFuture<Optional<String>> reply = new CompletableFuture<>();
         synchronized (sending) {
             if (stopped != null) throw stopped;

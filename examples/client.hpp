@@ -80,7 +80,7 @@ class Cell {
 
   /// The reply to a line, after the line's own words. None: the server was killed before it came, and is started again.
   std::optional<std::string> say(const std::string& line) {
-    if (line.size() > 64 || line.find('\n') != line.npos) throw NoRequest(line);
+    if (line.size() > 66 || line.find('\n') != line.npos) throw NoRequest(line);
     std::unique_lock sending(sending_), state(state_, std::defer_lock);
     if (stopped_) std::rethrow_exception(stopped_);
     state.lock();

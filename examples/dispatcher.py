@@ -9,6 +9,7 @@ in order, and ends with 0.
 
 It needs `client.py` beside it, and Python 3.9 or later. Whoever may write to SOCKET may ask: the umask decides.
 """
+import contextlib
 import pathlib
 import signal
 import socketserver
@@ -22,22 +23,26 @@ class Connection(socketserver.StreamRequestHandler):
     """A program that is connected: its lines go to the server, one at a time."""
 
     def handle(self):
-        for line in self.rfile:
-            if not line.endswith(b"\n"):
-                return  # it was cut off
-            words = line.decode("ascii", "replace").rstrip("\n")
-            try:
-                reply = self.server.cell.say(words)
-            except NoRequest:
-                self.wfile.write(b"line refused\n")
-                continue
-            except Stopped as stopped:
-                self.server.stopped = stopped
-                threading.Thread(target=self.server.shutdown).start()
-                return
-            if reply is None:
-                return
-            self.wfile.write(f"{words} {reply}\n".encode())
+        with contextlib.suppress(ConnectionError):  # the program is gone
+            for line in self.rfile:
+                if not line.endswith(b"\n"):
+                    return  # it was cut off
+                reply = self.answer(line.decode("ascii", "replace").rstrip("\n"))
+                if reply is None:
+                    return
+                self.wfile.write(f"{reply}\n".encode())
+
+    def answer(self, line):
+        """The reply to a line, or None where none can be had."""
+        try:
+            reply = self.server.cell.say(line)
+        except NoRequest:
+            return "line refused"
+        except Stopped as stopped:
+            self.server.stopped = stopped
+            threading.Thread(target=self.server.shutdown).start()
+            return None
+        return reply and f"{line} {reply}"
 
 
 class Dispatcher(socketserver.ThreadingUnixStreamServer):
