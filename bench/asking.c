@@ -1,13 +1,13 @@
-// Asks a server with so many requests in the air, beside the writes and syncs of as many grants without one.
+// Asks servers with so many requests in the air, beside the writes and syncs of as many grants without one.
 //
-//   asking rate PROGRAM CELL JOURNAL BARE SLICES AIR   in turns: AIR sessions load and unload a job each, ten requests each, one in the air
-//                                                      at each; and ten groups of AIR grants go to the file BARE: 17 bytes each are
-//                                                      written and synced, and one byte more. Prints the seconds of both, added up over
-//                                                      SLICES turns
-//   asking refused PROGRAM CELL JOURNAL REQUESTS       asks for what is refused, one after the other. Prints the median of the
-//                                                      microseconds from a line to its refusal
+//   asking rate CELL FOLDER SLICES GROUPS AIR PROGRAM..   in turns: at each server AIR sessions load and unload a job each, GROUPS requests
+//                                                         each, one in the air at each; and GROUPS groups of AIR grants go to a file: 17
+//                                                         bytes each are written and synced, and one byte more. Prints the seconds of each
+//                                                         server and of the file, added up over SLICES turns
+//   asking refused CELL FOLDER SLICES REQUESTS PROGRAM..  in turns: each server is asked for what is refused, REQUESTS times one after the
+//                                                         other. Prints for each the median of the microseconds from a line to its refusal
 //
-// Ends with status 1 where a reply is another one.
+// The servers' journals are FOLDER/journal-0 and so on, and the file is FOLDER/bare. Ends with status 1 where a reply is another one.
 #define _GNU_SOURCE
 #include <fcntl.h>
 #include <stdio.h>
@@ -17,9 +17,16 @@
 #include <time.h>
 #include <unistd.h>
 
-static int to_server, from_server;
-static char replies[1 << 16];
-static size_t have, taken;
+#define MOST 4
+
+struct server {
+  int to, from;
+  size_t have, taken;
+  char replies[1 << 16];
+};
+
+static struct server servers[MOST];
+static int many;
 
 static void fail(const char *what) {
   fprintf(stderr, "asking: %s\n", what);
@@ -32,9 +39,42 @@ static double now(void) {
   return time.tv_sec + time.tv_nsec / 1e9;
 }
 
-// Starts the server as a child with pipes.
-static void start(char *program, char *cell, char *journal) {
+// The next line of a server; waits for it where none is here.
+static char *reply(struct server *server) {
+  for (;;) {
+    char *end = memchr(server->replies + server->taken, '\n', server->have - server->taken);
+    if (end) {
+      char *line = server->replies + server->taken;
+      *end = 0;
+      server->taken = end + 1 - server->replies;
+      return line;
+    }
+    memmove(server->replies, server->replies + server->taken, server->have - server->taken);
+    server->have -= server->taken;
+    server->taken = 0;
+    ssize_t more = read(server->from, server->replies + server->have, sizeof server->replies - server->have);
+    if (more <= 0)
+      fail("the server has ended");
+    server->have += more;
+  }
+}
+
+static int is_here(struct server *server) {
+  return memchr(server->replies + server->taken, '\n', server->have - server->taken) != NULL;
+}
+
+static void send(struct server *server, const char *text, size_t length) {
+  if (write(server->to, text, length) != (ssize_t)length)
+    fail("the server takes no more");
+}
+
+// Starts a server as a child with pipes.
+static void start(char *program, char *cell, const char *folder) {
+  struct server *server = &servers[many];
   int in[2], out[2];
+  char journal[4096];
+  snprintf(journal, sizeof journal, "%s/journal-%d", folder, many++);
+  unlink(journal);
   if (pipe2(in, O_CLOEXEC) || pipe2(out, O_CLOEXEC))
     fail("no pipe");
   if (fork() == 0) {
@@ -45,51 +85,27 @@ static void start(char *program, char *cell, char *journal) {
   }
   close(in[0]);
   close(out[1]);
-  to_server = in[1];
-  from_server = out[0];
-}
-
-// The next line of the server; waits for it where none is here.
-static char *reply(void) {
-  for (;;) {
-    char *end = memchr(replies + taken, '\n', have - taken);
-    if (end) {
-      char *line = replies + taken;
-      *end = 0;
-      taken = end + 1 - replies;
-      return line;
-    }
-    memmove(replies, replies + taken, have - taken);
-    have -= taken;
-    taken = 0;
-    ssize_t more = read(from_server, replies + have, sizeof replies - have);
-    if (more <= 0)
-      fail("the server has ended");
-    have += more;
-  }
-}
-
-static int is_here(void) { return memchr(replies + taken, '\n', have - taken) != NULL; }
-
-static void send(const char *text, size_t length) {
-  if (write(to_server, text, length) != (ssize_t)length)
-    fail("the server takes no more");
+  server->to = in[1];
+  server->from = out[0];
+  char *head = reply(server);
+  if (strcmp(head, "shift 0 after 0"))
+    fail(head);
 }
 
 // Each job is a session's own, and is loaded and unloaded in turn. A reply brings the next line of its session.
-static double ask(long requests, long air) {
+static double ask(struct server *server, long requests, long air) {
   static char lines[1 << 16];
   long asked = 0, told = 0;
   size_t length = 0;
   double began = now();
   for (; asked < air; asked++)
     length += sprintf(lines + length, "%ld load %ld K\n", asked + 1, asked + 1);
-  send(lines, length);
+  send(server, lines, length);
   while (told < requests) {
     length = 0;
     do {
       long session;
-      char verb[8], *line = reply();
+      char verb[8], *line = reply(server);
       if (sscanf(line, "%ld %7s", &session, verb) != 2 || strcmp(strrchr(line, ' '), " granted"))
         fail(line);
       told++;
@@ -97,9 +113,9 @@ static double ask(long requests, long air) {
         length += sprintf(lines + length, *verb == 'l' ? "%ld unload %ld\n" : "%ld load %ld K\n", session, session);
         asked++;
       }
-    } while (told < requests && is_here() && length < sizeof lines / 2);
+    } while (told < requests && is_here(server) && length < sizeof lines / 2);
     if (length)
-      send(lines, length);
+      send(server, lines, length);
   }
   return now() - began;
 }
@@ -118,17 +134,22 @@ static double bare(int file, long groups, long air) {
   return now() - began;
 }
 
-static void rate(char *path, long slices, long air) {
+static void rate(const char *folder, long slices, long groups, long air) {
+  char path[4096];
+  snprintf(path, sizeof path, "%s/bare", folder);
   int file = open(path, O_RDWR | O_CREAT | O_TRUNC, 0644);
-  double served = 0, alone = 0;
+  double served[MOST] = {0}, alone = 0;
   if (file < 0)
     fail(path);
   bare(file, 1, air);
   for (long slice = 0; slice < slices; slice++) {
-    served += ask(10 * air, air);
-    alone += bare(file, 10, air);
+    for (int which = 0; which < many; which++)
+      served[which] += ask(&servers[which], groups * air, air);
+    alone += bare(file, groups, air);
   }
-  printf("%.6f %.6f\n", served, alone);
+  for (int which = 0; which < many; which++)
+    printf("%.6f ", served[which]);
+  printf("%.6f\n", alone);
 }
 
 static int by_size(const void *left, const void *right) {
@@ -136,33 +157,42 @@ static int by_size(const void *left, const void *right) {
   return (difference > 0) - (difference < 0);
 }
 
-static void refused(long requests) {
-  double *times = calloc(requests, sizeof *times);
-  for (long asked = 0; asked < requests; asked++) {
-    double began = now();
-    send("1 unload 9\n", 11);
-    char *line = reply();
-    times[asked] = 1e6 * (now() - began);
-    if (strcmp(line, "1 unload 9 refused no-such-job"))
-      fail(line);
+static void refused(long slices, long requests) {
+  double *times[MOST];
+  for (int which = 0; which < many; which++)
+    times[which] = calloc(slices * requests, sizeof **times);
+  for (long slice = 0; slice < slices; slice++)
+    for (int which = 0; which < many; which++)
+      for (long asked = 0; asked < requests; asked++) {
+        double began = now();
+        send(&servers[which], "1 unload 9\n", 11);
+        char *line = reply(&servers[which]);
+        times[which][slice * requests + asked] = 1e6 * (now() - began);
+        if (strcmp(line, "1 unload 9 refused no-such-job"))
+          fail(line);
+      }
+  for (int which = 0; which < many; which++) {
+    qsort(times[which], slices * requests, sizeof **times, by_size);
+    printf("%.3f ", times[which][slices * requests / 2]);
   }
-  qsort(times, requests, sizeof *times, by_size);
-  printf("%.3f\n", times[requests / 2]);
+  printf("\n");
 }
 
 int main(int count, char **words) {
-  int is_rate = count == 8 && !strcmp(words[1], "rate");
-  if (!is_rate && !(count == 6 && !strcmp(words[1], "refused")))
+  int is_rate = count > 7 && !strcmp(words[1], "rate"), first = is_rate ? 7 : 6;
+  if (count <= first || count > first + MOST || (!is_rate && strcmp(words[1], "refused")))
     fail("no words");
-  start(words[2], words[3], words[4]);
-  char *head = reply();
-  if (strncmp(head, "shift 0 after ", 14))
-    fail(head);
+  for (int word = first; word < count; word++)
+    start(words[word], words[2], words[3]);
   if (is_rate)
-    rate(words[5], atol(words[6]), atol(words[7]));
+    rate(words[3], atol(words[4]), atol(words[5]), atol(words[6]));
   else
-    refused(atol(words[5]));
-  close(to_server);
-  int status;
-  return wait(&status) < 0 || status != 0;
+    refused(atol(words[4]), atol(words[5]));
+  int worst = 0;
+  for (int which = 0; which < many; which++) {
+    int status;
+    close(servers[which].to);
+    worst |= wait(&status) < 0 || status != 0;
+  }
+  return worst;
 }

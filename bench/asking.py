@@ -1,29 +1,41 @@
-"""Runs of `bench/asking.c`, which asks a server and makes the same writes and syncs without one; bench/serve and bench/growth use it."""
+"""Runs of `bench/asking.c`, which asks servers and makes the same writes and syncs without one; bench/serve and bench/growth use it."""
+import os
 import pathlib
 import subprocess
 
+# Of a journal that is made nothing is told.
+os.environ["WISHKABE_HINTS"] = "0"
+
 TOP = pathlib.Path(__file__).resolve().parent.parent
-# How many turns a run has, of ten groups each.
+# How many turns a run has.
 SLICES = 20
 CELL = 'version = 1\n[[resource]]\nname = "R"\ncapacity = 1000\n[[type]]\nname = "K"\nroute = ["R:hold"]\n'
 
 
-class Asking:
-    """Runs of `asking.c` in a folder, against a program."""
+def compiled(name, folder):
+    """A program of a C file of this folder."""
+    program = folder / name
+    subprocess.run(["cc", "-O2", "-o", program, TOP / f"bench/{name}.c"], check=True)
+    return program
 
-    def __init__(self, server, folder):
-        self.server, self.folder, self.program, self.cell = server, folder, folder / "asking", folder / "cell.toml"
-        subprocess.run(["cc", "-O2", "-o", self.program, TOP / "bench/asking.c"], check=True)
+
+class Asking:
+    """Runs of `asking.c` in a folder, against servers that are asked in turns."""
+
+    def __init__(self, servers, folder):
+        self.servers, self.folder, self.program, self.cell = servers, folder, compiled("asking", folder), folder / "cell.toml"
         self.cell.write_text(CELL)
 
-    def told(self, *words):
+    def told(self, kind, *numbers):
         """The numbers that a run prints."""
-        done = subprocess.run([self.program, *map(str, words)], stdout=subprocess.PIPE, check=True)
+        words = [self.program, kind, self.cell, self.folder, *numbers, *self.servers]
+        done = subprocess.run([str(word) for word in words], stdout=subprocess.PIPE, check=True)
         return [float(word) for word in done.stdout.split()]
 
-    def rate(self, air):
-        """The grants a second of a server with so many requests in the air, and of the bare loop beside it."""
-        file = self.folder / "journal"
-        file.unlink(missing_ok=True)
-        served, bare = self.told("rate", self.server, self.cell, file, self.folder / "bare", SLICES, air)
-        return 10 * SLICES * air / served, 10 * SLICES * air / bare
+    def rates(self, air, groups=10):
+        """The grants a second of each server with so many requests in the air, in groups a turn, and of the bare loop beside them."""
+        return [groups * SLICES * air / seconds for seconds in self.told("rate", SLICES, groups, air)]
+
+    def refusals(self, requests):
+        """The median of the microseconds from a line to its refusal, for each server."""
+        return self.told("refused", SLICES, requests // SLICES)

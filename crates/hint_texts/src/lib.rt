@@ -11,6 +11,7 @@ mod no_command;
 mod place;
 mod refusal;
 mod texts;
+mod unseen;
 
 pub use asked::Asked;
 pub use line::HintLine;
@@ -18,3 +19,4 @@ pub use no_command::add_words;
 pub use place::Place;
 pub use refusal::{Refusal, policy_text};
 pub use texts::{AFTER_WRITE, IS_LOCKED, NO_MEMORY};
+pub use unseen::{BEGINS_WITH_MARK, BYTE_ORDER_MARK, ENDS_IN_RETURN};

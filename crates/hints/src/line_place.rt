@@ -1,14 +1,11 @@
 //! A line of a record or of a start file, and what stands there.
-use hint_texts::HintLine;
+use hint_texts::{BEGINS_WITH_MARK, BYTE_ORDER_MARK, ENDS_IN_RETURN, HintLine};
 
 /// The most bytes that are read of a record.
 const MAX_RECORD: u32 = 160_000_000;
 
 /// No good line of a record or of a start file has more bytes.
 const LINE_BYTES: u64 = 256;
-
-/// The mark that some editors put before a text.
-const BYTE_ORDER_MARK: &[u8] = b"\xef\xbb\xbf";
 
 /// How many bytes of a file that many good lines may have.
 pub fn line_limit(number: u64) -> u32 {
@@ -42,9 +39,9 @@ fn unseen(text: &[u8], is_whole: bool) -> &'static str {
     if !is_whole {
         ", which lacks its newline"
     } else if text.ends_with(b"\r") {
-        ", which ends in a carriage return; lines end in a newline alone"
+        ENDS_IN_RETURN
     } else if text.starts_with(BYTE_ORDER_MARK) {
-        ", which begins with a byte order mark"
+        BEGINS_WITH_MARK
     } else {
         ""
     }

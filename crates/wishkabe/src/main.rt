@@ -1,12 +1,13 @@
 //! The program `wishkabe`: runs the command that its words name, over the files of the current folder, a journal's file, standard
-//! input and standard output. A person at a terminal is told on standard error how far a long command is, and why one was refused; whoever
-//! calls it is told there of a journal that is not there.
+//! input and standard output. A person at a terminal is told on standard error how far a long command is, why one was refused, and what can't
+//! be seen of a line that `serve` refuses; whoever calls it is told there of a journal that is not there.
 #![tactic(auto)]
 
 mod absence;
 mod gathered;
 mod hinting;
 mod manner;
+mod watched;
 
 use absence::absence_line;
 use cell_program::{Journal, cell_main, journal_in, serve_main, served_in};
@@ -24,6 +25,7 @@ use std::process::ExitCode;
 use std::rt::{Clock, Files};
 use std::sync::Wait;
 use std::thread::Threads;
+use watched::Watched;
 
 // A buffer makes one write of many lines. Where there is no memory for it, each line is a write.
 fn main(rt: HostRuntime) -> ExitCode {
@@ -65,7 +67,7 @@ fn serve<
     let alloc = rt.alloc();
     let mut files = DirFiles::new(rt, false);
     let mut peer = Gathered {
-        source: InSource::new(rt.reader()),
+        source: Watched::new(rt, InSource::new(rt.reader()), manner.gives_hints),
         sink: SeenSink::new(rt, OutSink::new(writer), manner.seen()),
     };
     let ended = serve_main(rt, alloc, words, &mut files, &mut peer, disk);
