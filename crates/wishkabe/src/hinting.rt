@@ -50,18 +50,22 @@ pub fn tell<'a, R: AllocGlobal + Files + Clock + Eprint>(
         failure,
     };
     let mut files = RegularFiles::new(rt);
-    let Some(hint) = hint(rt.alloc(), &mut files, &ended) else {
-        return;
-    };
-    let hint = hint.as_str();
-    match owed_line(rt.alloc(), &mut files, &ended) {
-        Some(owed) => {
-            let owed = owed.as_str();
-            let _ = eprintln!(rt; "{hint}: {owed}");
-        }
-        None => {
-            let _ = eprintln!(rt; "{hint}");
-        }
+    if let Some(told) = line_of(rt.alloc(), &mut files, &ended) {
+        let told = told.as_str();
+        let _ = eprintln!(rt; "{told}");
+    }
+}
+
+// The line about a command that ended so, and after it what is right at the line of a record that is wrong.
+fn line_of<F: outside_io::Files>(
+    alloc: Global,
+    files: &mut F,
+    ended: &Ended<'_>,
+) -> Option<String> {
+    let hint = hint(alloc, files, ended)?;
+    match owed_line(alloc, files, ended) {
+        Some(owed) => joined(alloc, hint.as_str(), owed.as_str()),
+        None => Some(hint),
     }
 }
 
@@ -75,4 +79,9 @@ fn owed_line<F: outside_io::Files>(
         1 => owed(alloc, files, ended.words, ended.line),
         _ => None,
     }
+}
+
+// Both with a colon between them.
+fn joined(alloc: Global, hint: &str, owed: &str) -> Option<String> {
+    format!(in alloc; "{hint}: {owed}").ok()
 }
