@@ -10,7 +10,7 @@ use Rattle.cell_base.specs.Fits.{CellFits, RequestFits}
 use Rattle.cell_base.specs.Outcomes.{reply_to, state_after}
 use Rattle.cell_base.specs.Policy.{IsAdmitted}
 use Rattle.wait_queue.specs.declared.waiter.Waiter.{Waiter}
-use Rattle.wait_queue.specs.Counting.{AreCounted}
+use Rattle.wait_queue.specs.Counting.{AreCounted, job_key, session_key}
 use Rattle.wait_queue.specs.Watching.{AreCovered, AreWatched, AreWatching}
 
 -- who waits, in the order in which they began to; what each watches, or nothing where it is to be looked at; and the room
@@ -34,11 +34,13 @@ WatchesAnother waiter at old new =
     → AreWatching cell parts new.waiters new.watches
 
 -- what the type keeps
-pub record IsKept (waiters : List Waiter) (watches : List (Option ResId)) (jobs : List ℕ) (watched : ℕ) (is_stale : Bool)
+pub record IsKept (waiters : List Waiter) (watches : List (Option ResId)) (jobs sessions : List ℕ) (watched : ℕ) (is_stale : Bool)
     (room waiters_capacity watches_capacity : ℕ) : Type 0 where
   pub pairs : length watches ≡ length waiters
-  pub places : 0 < length jobs
-  pub counted : AreCounted jobs waiters
+  pub job_places : 0 < length jobs
+  pub session_places : 0 < length sessions
+  pub jobs_counted : AreCounted job_key jobs waiters
+  pub sessions_counted : AreCounted session_key sessions waiters
   pub covered : AreCovered watched watches
   pub fresh : is_stale ≡ false → AreWatched watches
   pub waiters_room : room ≤ waiters_capacity

@@ -5,7 +5,7 @@
 //! nobody has to look at the waiter. It is the rule of the watched literals of a satisfiability solver (Moskewicz, Madigan, Zhao, Zhang and
 //! Malik, "Chaff: Engineering an Efficient SAT Solver", 2001): a look is owed only where what is watched changes, and then another resource
 //! is watched, or the waiter is ready. A grant also changes what the requests of its own job come to; a table of how many waiters there are
-//! of each job tells whether there are any.
+//! of each job tells whether there are any, and one of the sessions whether one waits.
 //!
 //! ```text
 //! waiters.push(waiter, at);                            // refused: the neighborhood of `at` is full
@@ -20,7 +20,7 @@
 //! loop over its own calls. Only `with_room` takes memory.
 #![tactic(auto)]
 
-mod job_counts;
+mod key_counts;
 pub mod laws;
 mod looking;
 mod queue;

@@ -9,7 +9,7 @@ ghost use Rattle.wait_queue.specs.Queues.{KeepsWatching, WatchesAnother};
 ghost use Rattle.wait_queue.specs.Watching.{AreFit, AreWatching, AreWithout};
 
 use crate::Waiter;
-use crate::job_counts::{JobCounts, is_of, job_of};
+use crate::key_counts::{KeyCounts, is_of, job_number, job_of};
 use crate::looking::{Found, look};
 use crate::waiter::{renew_all, waiter_of};
 use admission_core::Core;
@@ -23,8 +23,9 @@ use std::marker::Model;
 pub struct WaitQueue {
     waiters: Vec<Waiter>,
     watches: Vec<Option<ResId>>,
-    /// How many waiters there are of each job.
-    jobs: JobCounts,
+    /// How many waiters there are of each job, and of each session.
+    jobs: KeyCounts,
+    sessions: KeyCounts,
     /// The resources that are watched, and maybe more.
     watched: u64,
     /// A waiter is to be looked at, whatever is full.
@@ -40,7 +41,7 @@ impl Model for WaitQueue {
 
     ghost view = { λ s. record { waiters = s.waiters.items; watches = s.watches.items; room = s.room } };
 
-    ghost invariant = { λ s. IsKept s.waiters.items s.watches.items s.jobs s.watched s.is_stale s.room
+    ghost invariant = { λ s. IsKept s.waiters.items s.watches.items s.jobs s.sessions s.watched s.is_stale s.room
         (vec_capacity s.waiters) (vec_capacity s.watches) };
 }
 
@@ -52,7 +53,8 @@ impl WaitQueue {
         Ok(WaitQueue {
             waiters: Vec::with_capacity(alloc, room as usize)?,
             watches: Vec::with_capacity(alloc, room as usize)?,
-            jobs: JobCounts::for_waiters(alloc, room)?,
+            jobs: KeyCounts::for_waiters(alloc, room)?,
+            sessions: KeyCounts::for_waiters(alloc, room)?,
             watched: 0,
             is_stale: false,
             room,
@@ -67,7 +69,8 @@ impl WaitQueue {
         ensures watching { WatchesAnother waiter at self.old self.new }
         ensures room { self.new.room ≡ self.old.room }
     {
-        self.jobs.add(&waiter);
+        self.jobs.add(job_number(&waiter.request));
+        self.sessions.add(Some(waiter.session as u32));
         self.waiters.push_reserved(waiter);
         self.watches.push_reserved(Some(at));
         self.watched |= 1 << at.0;
@@ -80,7 +83,7 @@ impl WaitQueue {
         ensures room { self.new.room ≡ self.old.room }
     {
         if let Some(job) = job_of(request) {
-            if self.jobs.has(job) {
+            if self.jobs.has(job.0) {
                 let any = forget(&self.waiters, &mut self.watches, job);
                 self.is_stale = either(self.is_stale, any);
             }
@@ -125,6 +128,9 @@ impl WaitQueue {
             → AreWatching cell parts self.new.waiters self.new.watches }
         ensures room { self.new.room ≡ self.old.room }
     {
+        if !self.sessions.has(session as u32) {
+            return None;
+        }
         match place_of(&self.waiters, session) {
             Some(at) => Some(self.take(at)),
             None => None,
@@ -142,7 +148,8 @@ impl WaitQueue {
     {
         self.watches.remove(at);
         let waiter = self.waiters.remove(at);
-        self.jobs.remove(&waiter);
+        self.jobs.remove(job_number(&waiter.request));
+        self.sessions.remove(Some(waiter.session as u32));
         waiter
     }
 
@@ -169,6 +176,9 @@ impl WaitQueue {
     pub fn waiter_of(&self, session: u16) -> Option<Waiter>
         ensures { result ≡ waiter_of self.now.waiters session }
     {
+        if !self.sessions.has(session as u32) {
+            return None;
+        }
         waiter_of(&self.waiters, session)
     }
 }

@@ -1,10 +1,10 @@
 -- The last waiter watches the neighborhood for which it was refused.
-use Rattle.std.proofs.Common.{◌≢◌, None, ◌*◌, ◌^◌, ◌%◌, ◌<◌, bit_or, Some, Option, List, [], ◌∷◌, ◌++◌, length, length-append, get_or, sym, subst, ap, arith}
+use Rattle.std.proofs.Common.{◌≢◌, None, ◌*◌, ◌^◌, ◌%◌, ◌<◌, bit_or, Some, Option, List, [], ◌∷◌, ◌++◌, length, length-append, get_or, refl, sym, subst, ap, arith}
 use Rattle.std.proofs.lemmas.List.Elements.{All-push}
 use Rattle.cell_base.specs.declared.cells.ResId.{ResId}
 use Rattle.cell_base.proofs.Bits.{has_bit_set_same}
 use Rattle.wait_queue.specs.declared.waiter.Waiter.{Waiter}
-use Rattle.wait_queue.specs.Counting.{AreCounted}
+use Rattle.wait_queue.specs.Counting.{AreCounted, CanCount, job_key, session_key}
 use Rattle.wait_queue.specs.Queues.{QueueState}
 use Rattle.wait_queue.specs.Watching.{AreCovered, AreWatched, AreWatching, IsCovered, IsWatch}
 use Rattle.wait_queue.proofs.Counts.{can-count}
@@ -17,7 +17,17 @@ add-requires c =
     let i = c.self.inside in
     let few : length i.waiters.items < i.room =
     subst (λ (q : QueueState). length q.waiters < q.room) (sym c.self.view_is) c.requires.room in
-    can-count i.jobs i.waiters.items c.args.waiter c.self.invariant.places c.self.invariant.counted (omega (arith, few, c.self.ranges))
+    subst (CanCount i.jobs) (sym c.job_number.ensures)
+    (can-count job_key i.jobs i.waiters.items c.args.waiter c.self.invariant.job_places c.self.invariant.jobs_counted
+    (omega (arith, few, c.self.ranges)))
+
+pub add-requires-2 : goal.add-requires-2
+add-requires-2 c =
+    let i = c.self.inside in
+    let few : length i.waiters.items < i.room =
+    subst (λ (q : QueueState). length q.waiters < q.room) (sym c.self.view_is) c.requires.room in
+    can-count session_key i.sessions i.waiters.items c.args.waiter c.self.invariant.session_places c.self.invariant.sessions_counted
+    (omega (arith, few, c.self.ranges))
 
 pub invariant_of-self : goal.invariant_of-self
 invariant_of-self c =
@@ -33,8 +43,12 @@ invariant_of-self c =
         length-append ws (c.args.waiter ∷ []),
         length-append xs (new ∷ []),
       );
-      places = omega (arith, old.places, c.add.ensures.places);
-      counted = subst (λ (l : List Waiter). AreCounted c.add.new.self l) (sym c.push_reserved.ensures.items) (c.add.ensures.counted ws old.counted);
+      job_places = omega (arith, old.job_places, c.add.ensures.places);
+      session_places = omega (arith, old.session_places, c.add-2.ensures.places);
+      jobs_counted = subst (λ (l : List Waiter). AreCounted job_key c.add.new.self l) (sym c.push_reserved.ensures.items)
+          (c.add.ensures.counted job_key ws c.args.waiter (sym c.job_number.ensures) old.jobs_counted);
+      sessions_counted = subst (λ (l : List Waiter). AreCounted session_key c.add-2.new.self l) (sym c.push_reserved.ensures.items)
+          (c.add-2.ensures.counted session_key ws c.args.waiter refl old.sessions_counted);
       covered = subst (λ (l : List (Option ResId)). AreCovered mask l) (sym c.push_reserved-2.ensures.items)
           (All-push (IsCovered mask) xs new
           (λ k d h. covered-more i.watched c.args.at.0 (get_or xs k d) (old.covered k d h))

@@ -1,9 +1,9 @@
 -- The waiter leaves with its watch and its place in the table, and the others are as before.
-use Rattle.std.proofs.Common.{◌≢◌, ◌<◌, None, Option, List, length, ap, sym, subst, ◌∙◌, arith}
+use Rattle.std.proofs.Common.{◌≢◌, ◌<◌, None, Option, List, length, ap, refl, sym, subst, ◌∙◌, arith}
 use Rattle.std.specs.List.{remove}
 use Rattle.cell_base.specs.declared.cells.ResId.{ResId}
 use Rattle.wait_queue.specs.declared.waiter.Waiter.{Waiter}
-use Rattle.wait_queue.specs.Counting.{AreCounted}
+use Rattle.wait_queue.specs.Counting.{AreCounted, CountsOne, job_key, session_key}
 use Rattle.wait_queue.specs.Queues.{QueueState}
 use Rattle.wait_queue.specs.Watching.{AreCovered, AreWatched, AreWatching, IsCovered, IsWatch}
 use Rattle.wait_queue.proofs.Counts.{counts-one}
@@ -15,7 +15,17 @@ remove-requires-2 c =
     let i = c.self.inside in
     let within : c.args.at < length i.waiters.items =
     subst (λ (q : QueueState). c.args.at < length q.waiters) (sym c.self.view_is) c.requires in
-    counts-one i.jobs i.waiters.items c.args.at c.remove-waiter.result c.self.invariant.places within (sym c.remove-waiter.ensures.value) c.self.invariant.counted
+    subst (CountsOne i.jobs) (sym c.job_number.ensures)
+    (counts-one job_key i.jobs i.waiters.items c.args.at c.remove-waiter.result c.self.invariant.job_places within
+    (sym c.remove-waiter.ensures.value) c.self.invariant.jobs_counted)
+
+pub remove-requires-3 : goal.remove-requires-3
+remove-requires-3 c =
+    let i = c.self.inside in
+    let within : c.args.at < length i.waiters.items =
+    subst (λ (q : QueueState). c.args.at < length q.waiters) (sym c.self.view_is) c.requires in
+    counts-one session_key i.sessions i.waiters.items c.args.at c.remove-waiter.result c.self.invariant.session_places within
+    (sym c.remove-waiter.ensures.value) c.self.invariant.sessions_counted
 
 pub invariant_of-self : goal.invariant_of-self
 invariant_of-self c =
@@ -26,9 +36,14 @@ invariant_of-self c =
       pairs = ap (λ (xs : List (Option ResId)). length xs) c.remove.ensures.items
           ∙ pairs-removed i.waiters.items i.watches.items at old.pairs
           ∙ sym (ap (λ (ws : List Waiter). length ws) c.remove-waiter.ensures.items);
-      places = omega (arith, old.places, c.remove-2.ensures.places);
-      counted = subst (λ (ws : List Waiter). AreCounted c.remove-2.new.self ws) (sym c.remove-waiter.ensures.items)
-          (c.remove-2.ensures.counted i.waiters.items at within (sym c.remove-waiter.ensures.value) old.counted);
+      job_places = omega (arith, old.job_places, c.remove-2.ensures.places);
+      session_places = omega (arith, old.session_places, c.remove-3.ensures.places);
+      jobs_counted = subst (λ (ws : List Waiter). AreCounted job_key c.remove-2.new.self ws) (sym c.remove-waiter.ensures.items)
+          (c.remove-2.ensures.counted job_key i.waiters.items at c.remove-waiter.result (sym c.job_number.ensures) within
+          (sym c.remove-waiter.ensures.value) old.jobs_counted);
+      sessions_counted = subst (λ (ws : List Waiter). AreCounted session_key c.remove-3.new.self ws) (sym c.remove-waiter.ensures.items)
+          (c.remove-3.ensures.counted session_key i.waiters.items at c.remove-waiter.result refl within
+          (sym c.remove-waiter.ensures.value) old.sessions_counted);
       covered = subst (λ (xs : List (Option ResId)). AreCovered i.watched xs) (sym c.remove.ensures.items)
           (all-removed (IsCovered i.watched) i.watches.items at old.covered);
       fresh = λ e. subst (λ (xs : List (Option ResId)). AreWatched xs) (sym c.remove.ensures.items)
