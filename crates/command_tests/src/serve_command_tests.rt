@@ -37,6 +37,18 @@ const TOLD_LATER: &[u8] =
     b"shift 0 after 4\n1 last 4 load 7 A\n2 last 0 none\nroom 1572860\njob 7 A 0 M1 waiting\nnext process M1\nleft 1\nplan 4\n\
       process M1\nmove 7\nprocess M2\nunload 7\n";
 
+// Sessions wait, ask meanwhile, give up, are served, and find their job loaded by another; and lines that ask nothing.
+const WAITING: &[u8] =
+    b"1 load 7 A\n2 wait load 8 Z\n3 wait load 9 A\n2 move 8\n2 cancel\n2 cancel\n2 wait load 9 Z\n2 grants\n1 process M1\n1 move 7\n\
+      1 process M2\n1 unload 7\n3 grants\n4 wait load 8 Z\n5 wait unload 9\n5 wait place 1 A 1 done\nwait load 1 A\n5 wait\n";
+
+const WAITED: &[u8] =
+    b"shift 0 after 0\n1 load 7 A granted\n2 load 8 Z waits saturated M2 1 of 1\n3 load 9 A waits saturated M1 1 of 1\n\
+      2 move 8 refused already-waiting\n2 cancel load 8 Z\n2 cancel none\n2 load 9 Z waits saturated M2 1 of 1\n2 grants 0\n\
+      1 process M1 granted\n1 move 7 granted\n1 process M2 granted\n1 unload 7 granted\n3 load 9 A served\n2 load 9 Z dropped job-loaded\n\
+      3 grants 1\n4 load 8 Z waits saturated M2 1 of 1\n5 unload 9 refused not-processed\nline refused 16\nline refused 17\n\
+      line refused 18\n4 load 8 Z still saturated M2 1 of 1\nleft 1\nplan 4\nprocess M1\nmove 9\nprocess M2\nunload 9\n";
+
 // How a conversation ended, what was put and what of it was handed on, and what the disk holds.
 #[derive(Drop)]
 struct Held {
@@ -131,6 +143,26 @@ fn questions_are_answered_after_what_was_asked_before(rt: HostRuntime) -> Result
         assert_eq!(rt; held.status, Status::Done);
         assert_eq!(rt; held.heard.as_slice(), told);
         journal = Vec::from_slice(alloc, held.journal.as_slice())?;
+    }
+    Ok(())
+}
+
+#[test]
+fn who_waits_is_told_how_that_ends(rt: HostRuntime) -> Result<(), Fail> {
+    let alloc = rt.alloc();
+    for piece in [1, 23, 4096] {
+        let held = hold(
+            &rt,
+            alloc,
+            WAITING,
+            b"",
+            piece,
+            List::new(alloc),
+            List::new(alloc),
+            List::new(alloc),
+        )?;
+        assert_eq!(rt; held.status, Status::Done);
+        assert_eq!(rt; held.heard.as_slice(), WAITED);
     }
     Ok(())
 }

@@ -39,7 +39,7 @@ const SPOKEN: [(&str, Spoken); 2] = [
         Spoken {
             before: "",
             piece: 1,
-            group: 1,
+            groups: &[0, 1, 2, 3, 4, 6],
         },
     ),
     (
@@ -47,7 +47,7 @@ const SPOKEN: [(&str, Spoken); 2] = [
         Spoken {
             before: "3 load 9 A\n3 process M1\n3 move 9\n3 process M2\n3 unload 9\n",
             piece: 4096,
-            group: 6,
+            groups: &[0, 6],
         },
     ),
 ];

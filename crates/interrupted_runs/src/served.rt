@@ -26,7 +26,7 @@ const MOST_CALLS: u64 = 512;
 
 const ASKED: &str = "left
 1 load 7 A
-2 load 8 Z
+2 wait load 8 Z
 1 grants
 why load 8 Z
 1 process M1
@@ -34,7 +34,6 @@ why load 8 Z
 1 move 7
 1 process M2
 1 unload 7
-2 load 8 Z
 2 grants
 left
 ";
@@ -42,7 +41,7 @@ left
 // What is answered after the first line.
 const ANSWERED: &str = "left 0
 1 load 7 A granted
-2 load 8 Z refused saturated M2 1 of 1
+2 load 8 Z waits saturated M2 1 of 1
 1 grants 1
 why load 8 Z refused saturated M2 1 of 1
 1 process M1 granted
@@ -50,7 +49,7 @@ line refused 7
 1 move 7 granted
 1 process M2 granted
 1 unload 7 granted
-2 load 8 Z granted
+2 load 8 Z served
 2 grants 1
 left 1
 left 1
@@ -71,12 +70,13 @@ const GRANTED: [&str; 6] = [
     "2 load 8 Z\n",
 ];
 
-/// A conversation after one in which these lines were granted, in pieces of so many bytes. In each group of its lines so many are granted.
+/// A conversation after one in which these lines were granted, in pieces of so many bytes, with how many of its lines are granted after each
+/// group, from none on. The last one is served in the group of the line before it.
 #[derive(Clone, Copy)]
 pub struct Spoken {
     pub before: &'static str,
     pub piece: usize,
-    pub group: u64,
+    pub groups: &'static [u64],
 }
 
 /// A conversation as it goes where nothing fails: the journal before it and its number of grants, the answers, and the grants and the
@@ -181,20 +181,17 @@ impl Served {
     // Whether a crash may leave these grants where this was answered: those that were told and whole groups of them, and not the next group
     // but where the failure came within it.
     fn may_be_left(&self, answered: Answered<'_>, left: &[Grant]) -> bool {
-        let told = answered
-            .lines
-            .lines()
-            .filter(|line| line.ends_with(" granted"));
-        let least = self.before.saturating_add(told.count() as u64);
+        let told = answered.lines.lines().filter(|line| line.ends_with(" granted")
+            || line.ends_with(" served"));
+        let least = told.count() as u64;
         let most = if answered.in_group {
-            least.saturating_add(self.spoken.group)
+            self.spoken.after(least)
         } else {
             least
         };
-        let len = left.len() as u64;
-        let kept = len.saturating_sub(self.before);
-        let in_groups = kept.checked_rem(self.spoken.group) == Some(0);
-        self.grants.as_slice().starts_with(left) && least <= len && len <= most && in_groups
+        let kept = (left.len() as u64).saturating_sub(self.before);
+        let in_groups = self.spoken.groups.contains(&kept);
+        self.grants.as_slice().starts_with(left) && least <= kept && kept <= most && in_groups
     }
 
     // Asks how many grants each session has, and then the lines after these grants. The journal comes to the same bytes.
@@ -229,6 +226,16 @@ impl Spoken {
         }
         let told = self.asked(self.before).ask(rt, alloc, b"", None)?;
         Ok(told.disk.bytes().to_vec(alloc)?)
+    }
+
+    // How many lines are granted after the group in which more than so many are.
+    fn after(&self, told: u64) -> u64 {
+        for &count in self.groups {
+            if told < count {
+                return count;
+            }
+        }
+        told
     }
 
     // Asks these lines in such pieces.
