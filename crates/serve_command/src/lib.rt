@@ -19,6 +19,7 @@ mod command;
 mod counts;
 mod deciding;
 pub mod laws;
+mod lists;
 mod questions;
 mod replies;
 mod rounds;
