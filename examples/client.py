@@ -132,8 +132,9 @@ class Cell:
         return next(self._replies(line))
 
     def send(self, line, told):
-        """Sends a line. The thread that reads calls `told` with what `say` answers or raises, and after `waits WHY` once more with how the
-        wait ends: `served`, `dropped WHY`, `still WHY`, `cancelled`, or None or `Stopped` where the server ended before."""
+        """Sends a line. The thread that reads calls `told` with what `say` answers or raises, of a list with all its lines, and after `waits WHY`
+        once more with how the wait ends: `served`, `dropped WHY`, `still WHY`, `cancelled`, or None or `Stopped` where the server ended
+        before."""
         sent, fault = f"{line}\n".encode(), None
         with self.lock:
             if len(sent) > 67 or "\n" in line:
@@ -201,8 +202,8 @@ class Cell:
 
     def _listed(self, line):
         """The parts of a list by their jobs."""
-        items = (item.split(" ", 1) for item in self._told(line).split("\n")[1:])
-        return {int(job): place_of(place) for job, place in items}
+        items = (item.split(" ", 2) for item in self._told(line).split("\n")[1:])
+        return {int(job): place_of(place) for _, job, place in items}
 
     def _start(self):
         """Starts the server and waits until it is ready. A few times it may be killed before."""
@@ -255,7 +256,7 @@ class Cell:
         line, told = self.waiting[0] if self.waiting else ("", None)
         words = f"{words_of(line)} "
         if self.list or (line.startswith(LISTS) and said.startswith(words)):
-            return self._add_to_list(said.split(" ", 1)[1] if self.list else said.removeprefix(words), told)
+            return self._add_to_list(said if self.list else said.removeprefix(words), told)
         if not told or not said.startswith((words, "line refused ")) or said == f"{words}halted":
             return False
         self.waiting.popleft()
