@@ -1,5 +1,5 @@
--- Each line that is sent has one line that answers it; all others end waits.
-use Rattle.std.proofs.Common.{◌≡◌, ℕ, codes, ◌+◌, Bool, true, false, List, [], ◌∷◌, length, map, refl, arith}
+-- Each line that is sent has one line that answers it; all others end waits, or are parts of lists.
+use Rattle.std.proofs.Common.{◌≡◌, ℕ, codes, Bool, true, false, List, [], ◌∷◌, map, refl, arith}
 use Rattle.cell_base.specs.declared.cells.Cell.{Cell}
 use Rattle.cell_base.specs.declared.requests.Part.{Part}
 use Rattle.cell_base.specs.declared.requests.Request.{Request}

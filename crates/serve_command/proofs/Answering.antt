@@ -27,7 +27,7 @@ use Rattle.wait_queue.specs.Queues.{QueueState}
 use Rattle.wait_queue.specs.Waiting.{Waiting, served, waiter_of, waiting}
 use Rattle.wait_queue.specs.Watching.{AreFit, AreWatching}
 use Rattle.serve_command.specs.Answers.{ended_line, halted_line, line_number, step_words, telling_line}
-use Rattle.serve_command.specs.Serving.{HasCounts, IsAskAnswered, IsJournalFull, IsSaid, KeepsWaiters, StandsAt, Stays, TakesOneLine, first_after}
+use Rattle.serve_command.specs.Serving.{IsAskAnswered, IsJournalFull, IsSaid, KeepsWaiters, StandsAt, Stays, TakesOneLine, first_after}
 use Rattle.serve_command.specs.Talks.{Ends, Said, Talk, Telling, asked_for, entries_in, entry_of, reply_told, request_told, said, said_granted}
 use Rattle.serve_command.specs.Talks.{said_none, said_to, scanned, session_grant, where_free}
 use Rattle.serve_command.specs.Waits.{IsOpen, NotesGrant, Settles}

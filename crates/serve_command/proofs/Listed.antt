@@ -1,5 +1,5 @@
 -- A list that was kept is what is said of its question.
-use Rattle.std.proofs.Common.{◌≡◌, ◌+◌, List, ℕ, ◌∷◌, ◌++◌, length, map, ap, subst, sym, ◌∙◌, arith, append-nil}
+use Rattle.std.proofs.Common.{◌≡◌, ◌+◌, List, ℕ, [], ◌∷◌, ◌++◌, length, map, ap, subst, sym, ◌∙◌, arith, append_assoc, append-nil}
 use Rattle.std.proofs.lemmas.List.{length-append}
 use Rattle.cell_base.specs.declared.requests.Part.{Part}
 use Rattle.cell_base.specs.declared.shifts.Grant.{Grant}
@@ -11,6 +11,28 @@ use Rattle.serve_command.specs.declared.server.Server.{Server}
 use Rattle.serve_command.proofs.Answering.{first_same}
 use Rattle.serve_command.proofs.Listing.{grants-listed, lines-listed}
 
+-- a head was kept, and then these lines
+pub kept_after : {D : Type 0} (old mid new : Server D) (head : List ℕ) (lines : Server D → List (List ℕ))
+    → mid ≡ record old { replies = old.replies ++ head ∷ []; asked = line_number (old.asked + 1) }
+    → new ≡ record mid { replies = mid.replies ++ lines mid }
+    → new ≡ record old {
+      replies = old.replies ++ head ∷ lines (record old { replies = old.replies ++ head ∷ []; asked = line_number (old.asked + 1) });
+      asked = line_number (old.asked + 1);
+    }
+kept_after old mid new head lines kept more =
+    let last = lines (record old { replies = old.replies ++ head ∷ []; asked = line_number (old.asked + 1) }) in
+    more ∙ (λ i. record (kept i) { replies = (kept i).replies ++ lines (kept i) })
+    ∙ (λ i. record old { replies = append_assoc old.replies (head ∷ []) last i; asked = line_number (old.asked + 1) })
+
+-- one line more is kept
+pub line_more : {D : Type 0} (start now : Server D) (lines : List (List ℕ)) → now ≡ record start { replies = start.replies ++ lines }
+    → (line : List ℕ) (replies : List (List ℕ)) → replies ≡ now.replies ++ line ∷ []
+    → record now { replies = replies } ≡ record start { replies = start.replies ++ (lines ++ line ∷ []) }
+line_more start now lines is line replies more =
+    let longer = (λ i. (is i).replies ++ line ∷ []) ∙ append_assoc start.replies lines (line ∷ []) in
+    (λ i. record (is i) { replies = more i }) ∙ (λ i. record start { replies = longer i })
+
+-- a list was kept
 module _ {D : Type 0} (old new : Server D) (word : List ℕ) (parts : List Part) (head : List ℕ)
     (is : new ≡ record old {
       replies = old.replies ++ head ∷ map (item_line old.live.cell word) parts;

@@ -1,5 +1,5 @@
 -- What the calls of the server do with the requests of sessions and with those that wait.
-use Rattle.std.specs.Prelude.{codes, ◌≡◌, ℕ, ◌+◌, ◌<◌, ◌≤◌, false, Option, None, Some, List, [], ◌∷◌, ◌++◌, length, map}
+use Rattle.std.specs.Prelude.{codes, ◌≡◌, ℕ, ◌+◌, ◌<◌, false, Option, None, Some, List, [], ◌∷◌, ◌++◌, length, map}
 use Rattle.cell_base.specs.declared.cells.ResId.{ResId}
 use Rattle.cell_base.specs.declared.requests.Refusal.{Refusal}
 use Rattle.cell_base.specs.declared.requests.Refusal.TheVariants.{Saturated}

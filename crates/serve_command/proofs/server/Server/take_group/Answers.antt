@@ -1,5 +1,5 @@
 -- Line by line.
-use Rattle.std.proofs.Common.{List, ℕ, ap, arith, length, map, refl, subst, sym, ◌∙◌}
+use Rattle.std.proofs.Common.{List, ℕ, ap, arith, length, map, subst, sym, ◌∙◌}
 use Rattle.admission_core.specs.CoreState.{CoreState}
 use Rattle.serve_command.specs.Asks.{ask_of}
 use Rattle.serve_command.specs.Rounds.{IsAnsweredGroup, KeepsWaiters, Stays}
