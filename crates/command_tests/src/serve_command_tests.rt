@@ -49,6 +49,17 @@ const WAITED: &[u8] =
       3 grants 1\n4 load 8 Z waits saturated M2 1 of 1\n5 unload 9 refused not-processed\nline refused 16\nline refused 17\n\
       line refused 18\n4 load 8 Z still saturated M2 1 of 1\nleft 1\nplan 4\nprocess M1\nmove 9\nprocess M2\nunload 9\n";
 
+// Lists of the parts in the cell, and of those that stand in the way of a step; and lines that ask nothing.
+const LISTS: &[u8] =
+    b"parts\n1 load 7 Z\njobs load 9 Z\n1 process M2\n1 move 7\n1 load 9 Z\nparts\njobs load 8 A\njobs move 9\njobs load 9 Z\n\
+      jobs process M1\njobs\njobs place 1 A 1 done\nparts 1\n1 parts\n";
+
+const LISTED: &[u8] =
+    b"shift 0 after 0\nparts 0\n1 load 7 Z granted\njobs load 9 Z 1\njob 7 Z 0 M2 waiting\n1 process M2 granted\n1 move 7 granted\n\
+      1 load 9 Z granted\nparts 2\npart 7 Z 1 M1 waiting\npart 9 Z 0 M2 waiting\njobs load 8 A 1\njob 7 Z 1 M1 waiting\n\
+      jobs move 9 0\njobs load 9 Z 0\njobs process M1 0\nline refused 12\nline refused 13\nline refused 14\nline refused 15\nleft 2\n\
+      plan 6\nprocess M1\nunload 7\nprocess M2\nmove 9\nprocess M1\nunload 9\n";
+
 // How a conversation ended, what was put and what of it was handed on, and what the disk holds.
 #[derive(Drop)]
 struct Held {
@@ -148,21 +159,23 @@ fn questions_are_answered_after_what_was_asked_before(rt: HostRuntime) -> Result
 }
 
 #[test]
-fn who_waits_is_told_how_that_ends(rt: HostRuntime) -> Result<(), Fail> {
+fn waits_end_and_lists_have_a_line_for_each_part(rt: HostRuntime) -> Result<(), Fail> {
     let alloc = rt.alloc();
-    for piece in [1, 23, 4096] {
-        let held = hold(
-            &rt,
-            alloc,
-            WAITING,
-            b"",
-            piece,
-            List::new(alloc),
-            List::new(alloc),
-            List::new(alloc),
-        )?;
-        assert_eq!(rt; held.status, Status::Done);
-        assert_eq!(rt; held.heard.as_slice(), WAITED);
+    for (asked, told) in [(WAITING, WAITED), (LISTS, LISTED)] {
+        for piece in [1, 23, 4096] {
+            let held = hold(
+                &rt,
+                alloc,
+                asked,
+                b"",
+                piece,
+                List::new(alloc),
+                List::new(alloc),
+                List::new(alloc),
+            )?;
+            assert_eq!(rt; held.status, Status::Done);
+            assert_eq!(rt; held.heard.as_slice(), told);
+        }
     }
     Ok(())
 }
