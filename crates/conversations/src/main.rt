@@ -1,5 +1,5 @@
 //! The program `conversations`: plays the conversations of the scripts that its words name, and prints a line for each. It
-//! ends with status 1 where one of them didn't go as written. Words after a word `call` are one call, of which it prints how it ended.
+//! ends with status 1 where one of them didn't go as written.
 #![tactic(auto)]
 
 mod call_end;
@@ -13,14 +13,12 @@ mod files;
 mod folder;
 mod halts;
 mod late_pace;
-mod one_call;
 mod play;
 mod script;
 
 use anyhow::{Context, Result, bail};
 use caller::{Caller, Failing};
 use conversation::Conversation;
-use one_call::play_one;
 use play::{check, check_cuts};
 use script::Script;
 use std::process::ExitCode;
@@ -30,7 +28,7 @@ use std::thread::Threads;
 use std::{env, fs};
 
 fn main(rt: HostRuntime) -> ExitCode {
-    match play(&rt) {
+    match play_all(&rt) {
         Ok(0) => ExitCode::SUCCESS,
         Ok(_) => ExitCode::from(1),
         Err(error) => {
@@ -40,27 +38,6 @@ fn main(rt: HostRuntime) -> ExitCode {
     }
 }
 
-// Plays the scripts that the words name, and the call behind them, and answers how many conversations didn't go as written.
-fn play<R: Env + Files + Input + Print + AllocGlobal + Clock + Threads + Wait + Sync>(
-    rt: &R,
-) -> Result<u64> {
-    let mut words = Vec::new(rt.alloc());
-    for word in env::args(rt)?.skip(1) {
-        words.push(word)?;
-    }
-    let words = words.as_slice();
-    let Some(at) = words.iter().position(|word| word.as_str() == "call") else {
-        return play_all(rt, words);
-    };
-    let otherwise = if at == 0 {
-        0
-    } else {
-        play_all(rt, &words[..at])?
-    };
-    play_one(rt, &words[at + 1..])?;
-    Ok(otherwise)
-}
-
 // How many conversations were played, and how many of them didn't go as written.
 #[derive(Clone, Copy)]
 struct Count {
@@ -68,16 +45,15 @@ struct Count {
     otherwise: u64,
 }
 
-// Plays these scripts, and answers how many conversations didn't go as written.
-fn play_all<R: Files + Print + AllocGlobal + Clock + Threads + Wait + Sync>(
+// Plays the scripts that the words name, and answers how many conversations didn't go as written.
+fn play_all<R: Env + Files + Print + AllocGlobal + Clock + Threads + Wait + Sync>(
     rt: &R,
-    names: &[String],
 ) -> Result<u64> {
     let mut count = Count {
         played: 0,
         otherwise: 0,
     };
-    for name in names {
+    for name in env::args(rt)?.skip(1) {
         play_script(rt, name.as_str(), &mut count)?;
     }
     let Count { played, otherwise } = count;

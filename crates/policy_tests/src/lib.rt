@@ -13,27 +13,17 @@ mod cell_base_tests;
 #[cfg(test)]
 mod drain_planner_tests;
 #[cfg(test)]
-mod draws;
-#[cfg(test)]
 mod neighborhood_counts_tests;
 #[cfg(test)]
 mod order_advisor_tests;
 #[cfg(test)]
 mod part_table_tests;
 #[cfg(test)]
-mod plain_recount_tests;
-#[cfg(test)]
 mod refusal_reason_tests;
-#[cfg(test)]
-mod replies;
 #[cfg(test)]
 mod route_table_tests;
 #[cfg(test)]
-mod shapes;
-#[cfg(test)]
 mod test_fixtures_tests;
-#[cfg(test)]
-mod twins;
 #[cfg(test)]
 mod upstream_sets_tests;
 #[cfg(test)]

@@ -1,30 +1,42 @@
-//! One call of the controller over objects in memory, and how it ended. What refuses it memory runs outside.
+//! The program `starved_calls`: one call of the controller over objects in memory, and how it ended. What refuses it memory runs outside.
 //!
 //! Its words are a file with what the disk holds, and then those of the call; each of these that is a file has its bytes in memory under
 //! that name. `serve` is asked the lines of standard input, all at once. A line `called` stands before the call, so that a failure before
 //! it is told from one in it. After it stand the status and how often the sink and the disk found no memory, and then in hexadecimal digits
 //! what was printed and what the disk holds.
+#![tactic(auto)]
 
 use anyhow::{Context, Result, bail};
 use cell_base::List;
 use cell_program::{Ended, cell_main, serve_main, served_in};
 use outside_io::{FreePace, MemDisk, MemFiles, MemSink, MemSource};
 use peers::Silent;
-use std::fs;
 use std::io::{ErrorKind, Read};
-use std::rt::Files;
+use std::process::ExitCode;
+use std::rt::{Env, Files};
 use std::sync::Wait;
 use std::thread::Threads;
+use std::{env, fs};
 
 // More bytes than the lines for `serve` have.
 const PIECE: usize = 4096;
 
-/// Makes the call that these words are.
-pub fn play_one<R: Files + Input + Print + AllocGlobal + Threads + Wait + Sync>(
+fn main(rt: HostRuntime) -> ExitCode {
+    match play(&rt) {
+        Ok(()) => ExitCode::SUCCESS,
+        Err(error) => {
+            let _ = println!(rt; "{error:?}");
+            ExitCode::from(1)
+        }
+    }
+}
+
+// Makes the call that the words of the program are.
+fn play<R: Env + Files + Input + Print + AllocGlobal + Threads + Wait + Sync>(
     rt: &R,
-    words: &[String],
 ) -> Result<()> {
-    let Some((journal, words)) = words.split_first() else {
+    let words = words_of(rt)?;
+    let Some((journal, words)) = words.as_slice().split_first() else {
         bail!("no journal");
     };
     let bytes = fs::read(rt, journal.as_str())?;
@@ -77,6 +89,15 @@ fn print_end<R: Print>(rt: &R, status: u8, out: &MemSink, disk: &MemDisk) -> Res
     println!(rt; "status {status} sink {of_sink} disk {of_disk}")?;
     print_bytes(rt, out.bytes())?;
     print_bytes(rt, disk.bytes())
+}
+
+// The words after the program's name.
+fn words_of<R: Env + AllocGlobal>(rt: &R) -> Result<Vec<String>> {
+    let mut words = Vec::new(rt.alloc());
+    for word in env::args(rt)?.skip(1) {
+        words.push(word)?;
+    }
+    Ok(words)
 }
 
 // The files that words name, in memory. A word that names none is passed over.
