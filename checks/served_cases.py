@@ -125,6 +125,7 @@ GARBAGE = [
     b"place 7 A 0 done", b"0 place 7 A 0 done", b"1 last 0", b"0 last", b"last", b"1 Last", b"1 next", b"next 1", b"Next", b"1 room",
     b"room 1", b"job", b"job ", b"job 07", b"job 7 A", b"job A", b"job 4294967296", b"1 job 7",
     b"1 grants 0", b"1 grant", b"grants", b"0 grants", b"65536 grants",
+    b"parts 1", b"1 parts", b"Parts", b"part", b"jobs", b"jobs ", b"jobs 7", b"jobs load 7 A 1", b"1 jobs load 7 A", b"jobs place 7 A 0 done",
     b"1 left", b"left 0", b"Left", b"left ", b"why", b"why ", b"why left", b"why 1 load 7 A", b"why place 7 A 0 done", b"1 why load 7 A",
     b"1 wait", b"1 wait ", b"wait load 7 A", b"0 wait load 7 A", b"1 wait wait load 7 A", b"1  wait load 7 A", b"1 wait place 7 A 0 done",
     b"1 wait grants", b"1 wait left", b"1 wait load 7 A 1", b"1 Wait load 7 A", b"why wait load 7 A", b"cancel", b"0 cancel", b"1 cancel 0",
@@ -497,6 +498,8 @@ def asked_in_python(wrong, cell, folder):
         wrong.see("a part that was put in", asked.ask(1, "place 9 A 1 waiting"), "granted")
         found = asked.next(), asked.room(), asked.last(1), asked.where(9), asked.seen
         wrong.see("its questions then", found, ("process M2", 1_572_863, (1, "place 9 A 1 waiting"), ("A", 1, "M2", False), 1))
+        lists = asked.parts(), asked.jobs("load 8 A"), asked.jobs("load 9 A")
+        wrong.see("its lists", lists, ({9: ("A", 1, "M2", False)}, {9: ("A", 1, "M2", False)}, {}))
         asked.cancel(2)
         wrong.see("a wait for nothing but room", asked.wait(2, "move 9"), "refused not-processed")
         steps = ((2, "load 7 Z"), (3, "load 8 A"), (4, "load 10 A"), (5, "load 11 A"))

@@ -17,11 +17,18 @@ import threading
 import time
 
 ENDS = "served", "dropped", "still"  # how a wait ends
+LISTS = "parts", "jobs "  # what a list is asked by
 
 
 def words_of(line):
     """The words with which the reply to a line begins: its own, but for `wait`."""
     return re.sub("^([0-9]+) wait ", r"\1 ", line)
+
+
+def place_of(words):
+    """Where a part stands: its type, its place of the route, the resource there, and whether its work there is done."""
+    kind, place, resource, work = words.split(" ")
+    return kind, int(place), resource, work == "done"
 
 
 class Stopped(Exception):
@@ -49,6 +56,7 @@ class Cell:
         """Starts the server by these words. Its journal has to have `at_least` so many grants: the `seen` of an earlier run."""
         self.command, self.lock, self.is_closing = command, threading.Lock(), False
         self.waiting, self.taken, self.stopped = collections.deque(), {}, None
+        self.list = []  # of a list that is being told, its lines so far, the first with their number
         self.waits, self.ends = set(), {}  # the sessions in a call of `wait`, and those that the server lets wait
         self.seen = at_least  # how many grants the journal has, as far as the replies tell
         self._start()
@@ -100,10 +108,15 @@ class Cell:
         """Where the part of a job stands: its type, its place of the route, the resource there, and whether its work there is done. None
         where it isn't in the cell."""
         told = self._told(f"job {job}")
-        if told == "none":
-            return None
-        kind, place, resource, work = told.split(" ")
-        return kind, int(place), resource, work == "done"
+        return None if told == "none" else place_of(told)
+
+    def parts(self):
+        """Where all parts stand, as `where` tells it, by their jobs: a dictionary in the order in which they came in."""
+        return self._listed("parts")
+
+    def jobs(self, step):
+        """The parts that stand in the way of a step, in the same form. There are some exactly where it would be refused as `saturated`."""
+        return self._listed(f"jobs {step}")
 
     def next(self):
         """The next step of the plan that empties the cell, or None where no part is left."""
@@ -119,8 +132,9 @@ class Cell:
         return next(self._replies(line))
 
     def send(self, line, told):
-        """Sends a line. The thread that reads calls `told` with what `say` answers or raises, and after `waits WHY` once more with how the
-        wait ends: `served`, `dropped WHY`, `still WHY`, `cancelled`, or None or `Stopped` where the server ended before."""
+        """Sends a line. The thread that reads calls `told` with what `say` answers or raises, of a list with all its lines, and after `waits WHY`
+        once more with how the wait ends: `served`, `dropped WHY`, `still WHY`, `cancelled`, or None or `Stopped` where the server ended
+        before."""
         sent, fault = f"{line}\n".encode(), None
         with self.lock:
             if len(sent) > 67 or "\n" in line:
@@ -186,6 +200,11 @@ class Cell:
             pass
         return reply
 
+    def _listed(self, line):
+        """The parts of a list by their jobs."""
+        items = (item.split(" ", 2) for item in self._told(line).split("\n")[1:])
+        return {int(job): place_of(place) for _, job, place in items}
+
     def _start(self):
         """Starts the server and waits until it is ready. A few times it may be killed before."""
         for _ in range(5):
@@ -211,7 +230,7 @@ class Cell:
     def _read(self):
         """Hands out the replies, which come in the order of the lines, and starts the server again where it was killed."""
         while not self.stopped:
-            self.lines = []
+            self.lines, self.list = [], []
             for line in map(bytes.decode, self.child.stdout):
                 if not line.endswith("\n") or not self._hand_out(line.rstrip("\n")):
                     self.lines.append(line.rstrip("\n"))
@@ -236,6 +255,8 @@ class Cell:
             return True
         line, told = self.waiting[0] if self.waiting else ("", None)
         words = f"{words_of(line)} "
+        if self.list or (line.startswith(LISTS) and said.startswith(words)):
+            return self._add_to_list(said if self.list else said.removeprefix(words), told)
         if not told or not said.startswith((words, "line refused ")) or said == f"{words}halted":
             return False
         self.waiting.popleft()
@@ -246,4 +267,13 @@ class Cell:
         if words != f"{line} " and reply.startswith("waits "):
             self.ends[session] = words, told
         told(NoRequest(line) if said.startswith("line refused ") else reply)
+        return True
+
+    def _add_to_list(self, said, told):
+        """Adds what a line tells to the list that is being told, and hands that out once it is whole. True: the line is a reply."""
+        self.list.append(said)
+        if len(self.list) > int(self.list[0]):
+            self.waiting.popleft()
+            listed, self.list = "\n".join(self.list), []
+            told(listed)
         return True

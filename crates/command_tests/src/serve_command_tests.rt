@@ -37,6 +37,17 @@ const TOLD_LATER: &[u8] =
     b"shift 0 after 4\n1 last 4 load 7 A\n2 last 0 none\nroom 1572860\njob 7 A 0 M1 waiting\nnext process M1\nleft 1\nplan 4\n\
       process M1\nmove 7\nprocess M2\nunload 7\n";
 
+// Lists of the parts in the cell, and of those that stand in the way of a step; and lines that ask nothing.
+const LISTS: &[u8] =
+    b"parts\n1 load 7 Z\njobs load 9 Z\n1 process M2\n1 move 7\n1 load 9 Z\nparts\njobs load 8 A\njobs move 9\njobs load 9 Z\n\
+      jobs process M1\njobs\njobs place 1 A 1 done\nparts 1\n1 parts\n";
+
+const LISTED: &[u8] =
+    b"shift 0 after 0\nparts 0\n1 load 7 Z granted\njobs load 9 Z 1\njob 7 Z 0 M2 waiting\n1 process M2 granted\n1 move 7 granted\n\
+      1 load 9 Z granted\nparts 2\npart 7 Z 1 M1 waiting\npart 9 Z 0 M2 waiting\njobs load 8 A 1\njob 7 Z 1 M1 waiting\n\
+      jobs move 9 0\njobs load 9 Z 0\njobs process M1 0\nline refused 12\nline refused 13\nline refused 14\nline refused 15\nleft 2\n\
+      plan 6\nprocess M1\nunload 7\nprocess M2\nmove 9\nprocess M1\nunload 9\n";
+
 // How a conversation ended, what was put and what of it was handed on, and what the disk holds.
 #[derive(Drop)]
 struct Held {
@@ -131,6 +142,26 @@ fn questions_are_answered_after_what_was_asked_before(rt: HostRuntime) -> Result
         assert_eq!(rt; held.status, Status::Done);
         assert_eq!(rt; held.heard.as_slice(), told);
         journal = Vec::from_slice(alloc, held.journal.as_slice())?;
+    }
+    Ok(())
+}
+
+#[test]
+fn lists_have_a_line_for_each_part(rt: HostRuntime) -> Result<(), Fail> {
+    let alloc = rt.alloc();
+    for piece in [1, 23, 4096] {
+        let held = hold(
+            &rt,
+            alloc,
+            LISTS,
+            b"",
+            piece,
+            List::new(alloc),
+            List::new(alloc),
+            List::new(alloc),
+        )?;
+        assert_eq!(rt; held.status, Status::Done);
+        assert_eq!(rt; held.heard.as_slice(), LISTED);
     }
     Ok(())
 }

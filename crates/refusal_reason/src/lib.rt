@@ -16,5 +16,5 @@ pub mod laws;
 mod reasons;
 mod shown;
 
-pub use reasons::explain;
+pub use reasons::{explain, leads};
 pub use shown::show_text;

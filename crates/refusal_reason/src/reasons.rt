@@ -41,8 +41,8 @@ fn counted_jobs(alloc: Global, core: &Core, r: ResId) -> Result<List<JobId>, NoM
     Ok(jobs)
 }
 
-/// Whether the stage of a part leads to a resource.
-fn leads(core: &Core, part: Part, r: ResId) -> bool
+/// Whether the stage of a part leads to a resource: then the part is counted in the neighborhood of that resource.
+pub fn leads(core: &Core, part: Part, r: ResId) -> bool
     requires fits { CellFits core.now.cell }
     requires resource { r.0 < length core.now.cell.resources }
     requires stage { IsStage core.now.cell (stage_of part) }

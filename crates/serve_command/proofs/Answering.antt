@@ -27,7 +27,7 @@ use Rattle.wait_queue.specs.Queues.{QueueState}
 use Rattle.wait_queue.specs.Waiting.{Waiting, served, waiter_of, waiting}
 use Rattle.wait_queue.specs.Watching.{AreFit, AreWatching}
 use Rattle.serve_command.specs.Answers.{ended_line, halted_line, line_number, step_words, telling_line}
-use Rattle.serve_command.specs.Serving.{HasCounts, IsAskAnswered, IsJournalFull, IsSaid, KeepsWaiters, StandsAt, Stays, TakesOneLine, first_after}
+use Rattle.serve_command.specs.Serving.{IsAskAnswered, IsJournalFull, IsSaid, KeepsWaiters, StandsAt, Stays, TakesOneLine, first_after}
 use Rattle.serve_command.specs.Talks.{Ends, Said, Talk, Telling, asked_for, entries_in, entry_of, reply_told, request_told, said, said_granted}
 use Rattle.serve_command.specs.Talks.{said_none, said_to, scanned, session_grant, where_free}
 use Rattle.serve_command.specs.Waits.{IsOpen, NotesGrant, Settles}
@@ -53,7 +53,7 @@ answered_fits cell fits parts admitted session request fit reply is =
 
 -- ---- lists
 
-first_same : (first : Option FirstGrant) (at : ℕ) (line : List ℕ) → first_after first at line [] ≡ first
+pub first_same : (first : Option FirstGrant) (at : ℕ) (line : List ℕ) → first_after first at line [] ≡ first
 first_same None at line = refl
 first_same (Some first) at line = refl
 
@@ -121,8 +121,8 @@ module _ {D : Type 0} (old new : Server D) (queue : QueueState) (line : List ℕ
             ∙ sym (ap (first_after old.first (length old.replies) halted) none ∙ first_same old.first (length old.replies) halted);
       }
 
-  pub kept_goes : length queue.waiters ≤ length old.queue.waiters + 1 → TakesOneLine old new
-  kept_goes few = record {
+  pub kept_goes : TakesOneLine old new
+  kept_goes = record {
     stays = record {
       cell = ap (λ (s : Server D). s.live.cell) is;
       disk = ap (λ (s : Server D). s.live.disk) is;
@@ -135,13 +135,6 @@ module _ {D : Type 0} (old new : Server D) (queue : QueueState) (line : List ℕ
       arith,
       ap (λ (s : Server D). length s.live.pending) is,
       ap (λ (s : Server D). length s.replies) is,
-      length-append old.replies (line ∷ []),
-    );
-    few = omega (
-      arith,
-      few,
-      ap (λ (s : Server D). length s.replies) is,
-      ap (λ (s : Server D). length s.queue.waiters) is,
       length-append old.replies (line ∷ []),
     );
     asked = ap (λ (s : Server D). s.asked) is;
@@ -206,7 +199,7 @@ module _ {D : Type 0} (old mid : Server D) (session : ℕ) (request : Request) (
   pub mid_spare : length mid.queue.waiters ≤ mid.live.spare
   mid_spare = omega (arith, ready.spare, spare_less, ap (λ (ws : List Waiter). length ws) noted.waiters)
 
-  pub mid_short : length mid.replies + length mid.queue.waiters ≤ 5120
+  pub mid_short : length mid.replies + length mid.queue.waiters ≤ 9216
   mid_short = omega (arith, ready.short, replies_more, ap (λ (ws : List Waiter). length ws) noted.waiters)
 
   pub mid_waiters : CellFits cell → IsAdmitted cell old.live.parts → KeepsWaiters mid
@@ -275,7 +268,6 @@ module _ {D : Type 0} (old mid : Server D) (session : ℕ) (request : Request) (
         record {
           stays = stays_more old mid new mid_stays ended.stays;
           told = omega (arith, more, lines, grants-few told);
-          few = omega (arith, lines, ended.few, ap (λ (ws : List Waiter). length ws) noted.waiters);
           asked = ended.asked ∙ noted.asked;
         }
 

@@ -16,7 +16,6 @@ use Rattle.step_text.proofs.Cuts.{words_some}
 use Rattle.serve_command.specs.Asks.{ask_of, ask_of_several, ask_of_words, is_word, job_asked, request_asked, request_of, step_asked}
 use Rattle.serve_command.specs.Asks.{wait_asked}
 use Rattle.std.specs.Str.{bytes_eq}
-use Rattle.serve_command.specs.declared.asks.Ask.{Ask}
 use Rattle.serve_command.specs.declared.asks.Ask.TheVariants.{Nothing}
 
 too_long : (cell : Cell) (text : List ℕ) → 66 < length text → ask_of cell text ≡ Nothing

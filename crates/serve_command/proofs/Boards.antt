@@ -1,6 +1,6 @@
 -- A conversation in which each step may wait, and a board of the same opening. Both decide in one order; they differ in the refusals that
 -- they keep of those that wait, which no decision looks at.
-use Rattle.std.proofs.Common.{◌≡◌, ℕ, zero, suc, Bool, true, false, cond, Some, None, List, [], ◌∷◌, ◌++◌, length, map, All, find, refl, sym, ap, subst, ◌∙◌, append_assoc, append-nil}
+use Rattle.std.proofs.Common.{◌≡◌, ℕ, codes, zero, suc, Bool, true, false, cond, Some, None, List, [], ◌∷◌, ◌++◌, length, map, All, find, refl, sym, ap, subst, ◌∙◌, append_assoc, append-nil}
 use Rattle.std.specs.Option.{option_map_or}
 use Rattle.std.proofs.lemmas.List.{length-map, map-append}
 use Rattle.std.proofs.lemmas.List.Elements.{All-head, All-tail, filter-append}
@@ -25,10 +25,11 @@ use Rattle.wait_board.specs.Boards.{OnBoard, all_renewed, asked_in_turn, asks_of
 use Rattle.wait_board.specs.Boards as board
 use Rattle.wait_board.specs.Laws.{ScanLaw, end_in, ends_of, with_ends}
 use Rattle.serve_command.specs.BoardLaws.{BoardLaw, IsBoardAsk, board_entries, board_entries_of}
-use Rattle.serve_command.specs.Talks.{Ends, Said, Talk, Telling, entries_in, opened, said_granted, said_none, said_refused}
-use Rattle.serve_command.specs.Talks.{said_to, said_waits, scanned, session_grant, talk_after_one, told_in_turn}
+use Rattle.serve_command.specs.Talks.{Ends, Lists, Said, Talk, Telling, entries_in, opened, said_granted, said_none, said_refused}
+use Rattle.serve_command.specs.Talks.{parts_in_the_way, said_listed, said_to, said_waits, scanned, session_grant, talk_after_one, told_in_turn}
 use Rattle.serve_command.specs.declared.asks.Ask.{Ask}
-use Rattle.serve_command.specs.declared.asks.Ask.TheVariants.{Step, Wait, Cancel}
+use Rattle.serve_command.specs.declared.asks.Ask.TheVariants.{Step, Wait, Cancel, Parts, Jobs}
+use Rattle.serve_command.proofs.Listing.{grants-listed}
 use Rattle.serve_command.proofs.Saying.{request_case}
 use Rattle.serve_command.proofs.Settled.{granted-adds, one-more, scan-stands}
 
@@ -106,6 +107,11 @@ module _ (cell : Cell) where
   entries-of_ends : (ends : List Entry) → board_entries (map Ends ends) ≡ ends_of ends
   entries-of_ends [] = refl
   entries-of_ends (e ∷ ends) = ap (λ (l : List BoardEntry). end_in e e.told ++ l) (entries-of_ends ends)
+
+  -- the parts of a list have no entry
+  board-listed : (word : List ℕ) (parts : List Part) → board_entries (map (Lists word) parts) ≡ []
+  board-listed word [] = refl
+  board-listed word (part ∷ parts) = board-listed word parts
 
   -- the ends of waits ask nothing
   no-more_asks : (e : Entry) (ends : List Entry) → asks_of (ends_of ends) ≡ [] → (told : Told)
@@ -245,6 +251,11 @@ module _ (cell : Cell) where
           history = ap (λ (b : OnBoard). b.history) next;
         }
 
+    list-follows : (on : OnBoard) (talk : Talk) (ask : Ask) (word : List ℕ) (parts : List Part) → IsBeside on talk
+        → Follows on talk (said_listed talk ask word parts)
+    list-follows on talk ask word parts is =
+        nothing-follows on talk is (said_listed talk ask word parts) (board-listed word parts) (grants-listed word parts) refl
+
     ask-follows : (on : OnBoard) (talk : Talk) (ask : Ask) → IsBoardAsk ask → IsBeside on talk → Follows on talk (said_to cell talk ask)
     ask-follows on talk (Step session request) may is = absurd may
     ask-follows on talk (Wait session request) may is =
@@ -255,6 +266,9 @@ module _ (cell : Cell) where
           turned = λ why. nothing-follows on talk is (said_none talk session request why) refl refl refl;
         })
     ask-follows on talk (Cancel session) may is = absurd may
+    ask-follows on talk Parts may is = list-follows on talk Parts (codes "part") (replay cell talk.granted) is
+    ask-follows on talk (Jobs request) may is =
+        list-follows on talk (Jobs request) (codes "job") (parts_in_the_way cell (replay cell talk.granted) request) is
     ask-follows on talk ask may is = nothing-follows on talk is (said_to cell talk ask) refl refl refl
 
     turns-follow : (on : OnBoard) (talk : Talk) (asked : List Ask) → All IsBoardAsk asked → IsBeside on talk

@@ -1,23 +1,26 @@
 -- The last line of each step: what becomes of it is told once, or it waits.
 use Rattle.std.specs.Prelude.{◌==◌, ◌&&◌}
-use Rattle.std.proofs.Common.{◌≡◌, ℕ, ◌+◌, ◌≤◌, Bool, true, false, cond, Some, List, [], ◌∷◌, map, refl, ap, arith}
+use Rattle.std.proofs.Common.{◌≡◌, ℕ, codes, ◌+◌, ◌≤◌, Bool, true, false, cond, Some, List, [], ◌∷◌, map, refl, ap, arith}
 use Rattle.std.proofs.lemmas.Bool.{eqb-true}
 use Rattle.cell_base.specs.declared.cells.Cell.{Cell}
 use Rattle.cell_base.specs.declared.requests.Refusal.{Refusal}
 use Rattle.cell_base.specs.declared.requests.Reply.TheVariants.{Granted, Refused}
+use Rattle.cell_base.specs.declared.requests.Part.{Part}
 use Rattle.cell_base.specs.declared.requests.Request.{Request}
 use Rattle.cell_base.specs.declared.requests.Told.TheVariants.{Answered}
 use Rattle.cell_base.specs.declared.shifts.Entry.{Entry}
-use Rattle.cell_base.specs.Histories.{was_granted}
+use Rattle.cell_base.specs.Histories.{replay, was_granted}
 use Rattle.wait_queue.specs.declared.waiter.Waiter.{Waiter}
 use Rattle.wait_queue.specs.Waiting.{is_of_session, waiter_of, without_first}
 use Rattle.serve_command.specs.ExactlyOnce.{is_last_of, is_step_of, steps_of}
 use Rattle.serve_command.specs.Laws.{is_told_granted, told_times, waiting_times}
-use Rattle.serve_command.specs.Talks.{Cancels, Decides, Ends, Replies, Said, Talk, Telling, Turns, Waits, entry_of}
+use Rattle.serve_command.specs.Talks.{Cancels, Decides, Ends, Lists, Replies, Said, Talk, Telling, Turns, Waits, entry_of}
 use Rattle.serve_command.specs.Talks.{request_told, said, said_granted, said_none, said_refused, said_to, said_waits, scanned, talk_after}
+use Rattle.serve_command.specs.Talks.{parts_in_the_way, said_listed}
 use Rattle.serve_command.specs.Talks.{talk_after_one, told_in_turn}
 use Rattle.serve_command.specs.declared.asks.Ask.{Ask}
-use Rattle.serve_command.specs.declared.asks.Ask.TheVariants.{Step, Wait, Cancel}
+use Rattle.serve_command.specs.declared.asks.Ask.TheVariants.{Step, Wait, Cancel, Parts, Jobs}
+use Rattle.serve_command.proofs.Listing.{times-listed}
 use Rattle.serve_command.proofs.Saying.{cancel_case, request_case}
 use Rattle.serve_command.proofs.Times.{found-passes, one-leaves, times, times-append, times-cons, times-push}
 use Rattle.serve_command.proofs.Waits.{is_of_entry, of_session, scan-keeps}
@@ -92,10 +95,16 @@ module _ (cell : Cell) (session : ℕ) where
         times-cons (is_last_of session) (Cancels own (Some w.request)) [],
       )
 
+  list-closes : (talk : Talk) (ask : Ask) (word : List ℕ) (parts : List Part) → Closes talk 0 (said_listed talk ask word parts)
+  list-closes talk ask word parts = omega (arith, times-listed (is_last_of session) (λ w part. refl) word parts)
+
   ask-closes : (talk : Talk) (ask : Ask) → Closes talk (cond (is_step_of session ask) 1 0) (said_to cell talk ask)
   ask-closes talk (Step own request) = request-closes talk own request false
   ask-closes talk (Wait own request) = request-closes talk own request true
   ask-closes talk (Cancel own) = cancel_case talk own (Closes talk 0) (cancel-closes talk own) (omega arith)
+  ask-closes talk Parts = list-closes talk Parts (codes "part") (replay cell talk.granted)
+  ask-closes talk (Jobs request) =
+      list-closes talk (Jobs request) (codes "job") (parts_in_the_way cell (replay cell talk.granted) request)
   ask-closes talk _ = omega arith
 
   -- as many steps as are asked in turn are told for the last time, or wait
@@ -140,4 +149,5 @@ granted-last session (t ∷ told) =
     one (Waits own request why) = omega arith
     one (Cancels own request) = some (is_last_of session (Cancels own request))
     one (Turns own request why) = some (own == session)
+    one (Lists word part) = omega arith
     one (Replies ask) = omega arith

@@ -1,5 +1,5 @@
 -- Where nothing is refused and nothing outside fails, a conversation ends with its input or with a full journal.
-use Rattle.std.proofs.Common.{◌≡◌, ◌⊎◌, inl, inr, ⊎_elim, ℕ, ◌<◌, ◌≤◌, List, [], ◌∷◌, ◌++◌, length, All, refl, sym, ap, ◌∙◌, subst, arith}
+use Rattle.std.proofs.Common.{◌≡◌, inl, inr, ⊎_elim, ℕ, ◌<◌, ◌≤◌, List, [], ◌∷◌, ◌++◌, length, All, sym, ap, ◌∙◌, subst, arith}
 use Rattle.std.proofs.Common.{append-nil}
 use Rattle.std.proofs.lemmas.List.{length-append}
 use Rattle.std.proofs.lemmas.List.Elements.{All-head}
@@ -10,13 +10,13 @@ use Rattle.cell_base.specs.declared.cells.Cell.{Cell}
 use Rattle.cell_base.specs.declared.shifts.Grant.{Grant}
 use Rattle.cell_walks.specs.Observed.{Observed}
 use Rattle.cell_walks.specs.Outcomes.{Outcome}
-use Rattle.cell_walks.specs.Promises.{DiskServes, IsAnswered, Promises, TakesAll}
+use Rattle.cell_walks.specs.Promises.{IsAnswered, Promises}
 use Rattle.cell_walks.specs.Statuses.{status_number}
 use Rattle.cell_walks.specs.declared.status.Status.{Status}
-use Rattle.cell_walks.specs.declared.status.Status.TheVariants.{Done, JournalRefused, SinkFault}
+use Rattle.cell_walks.specs.declared.status.Status.TheVariants.{SinkFault}
 use Rattle.serve_command.specs.Asks.{asks_in}
-use Rattle.serve_command.specs.Serve.{EndsServing, FailedDevice, FailedSink, FullJournal, InputEnded, InputLost, IsServed, Stopped, Stops}
-use Rattle.serve_command.specs.Serve.{answered_lines, full_line, last_lines, serve}
+use Rattle.serve_command.specs.Serve.{EndsServing, FailedDevice, FailedSink, FullJournal, InputEnded, InputLost, IsServed, Stopped}
+use Rattle.serve_command.specs.Serve.{answered_lines, last_lines, serve}
 use Rattle.serve_command.specs.ServesAll.{AllAnswered, IsServedWhole, IsWhole, ServesAll, UpToFull}
 use Rattle.serve_command.specs.Talks.{Talk, added_by, opened, since, talk_after, talk_after_one}
 use Rattle.serve_command.specs.declared.asks.Ask.{Ask}

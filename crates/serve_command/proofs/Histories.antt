@@ -1,12 +1,13 @@
 -- The grants, the history and the record of asks in turn.
 use Rattle.std.specs.Prelude.{◌==◌, ◌&&◌}
-use Rattle.std.proofs.Common.{◌≡◌, ℕ, ◌+◌, Bool, true, false, cond, List, [], ◌∷◌, ◌++◌, length, map, All, refl, sym, ap, ◌∙◌, subst, arith, append-nil}
+use Rattle.std.proofs.Common.{◌≡◌, ℕ, codes, ◌+◌, Bool, true, false, cond, List, [], ◌∷◌, ◌++◌, length, map, All, refl, sym, ap, ◌∙◌, subst, arith, append-nil}
 use Rattle.std.specs.List.{filter}
 use Rattle.std.proofs.lemmas.List.{length-map}
 use Rattle.std.proofs.lemmas.List.Elements.{All-head, All-tail}
 use Rattle.cell_base.specs.declared.cells.Cell.{Cell}
 use Rattle.cell_base.specs.declared.requests.Reply.{Reply}
 use Rattle.cell_base.specs.declared.requests.Reply.TheVariants.{Granted, Refused}
+use Rattle.cell_base.specs.declared.requests.Part.{Part}
 use Rattle.cell_base.specs.declared.requests.Request.{Request}
 use Rattle.cell_base.specs.declared.requests.Told.TheVariants.{Answered}
 use Rattle.cell_base.specs.declared.shifts.Entry.{Entry}
@@ -18,11 +19,13 @@ use Rattle.cell_texts.specs.Blocks.{entry_line}
 use Rattle.wait_queue.specs.Waiting.{waiting}
 use Rattle.serve_command.specs.Answers.{answers, count_of, line_number, reply_after, telling_line}
 use Rattle.serve_command.specs.Laws.{EachOnce, IsAskedStep, IsBlock, IsServedHistory, history_of, is_told_granted, told_times}
-use Rattle.serve_command.specs.Talks.{Cancels, Decides, Ends, Replies, Said, Talk, Telling, Turns, Waits, entries_in, entry_of}
+use Rattle.serve_command.specs.Talks.{Cancels, Decides, Ends, Lists, Replies, Said, Talk, Telling, Turns, Waits, entries_in, entry_of}
 use Rattle.serve_command.specs.Talks.{opened, reply_told, request_told, said, said_granted, said_to}
+use Rattle.serve_command.specs.Talks.{parts_in_the_way, said_listed}
 use Rattle.serve_command.specs.Talks.{scanned, session_grant, talk_after_one, told_in_turn}
 use Rattle.serve_command.specs.declared.asks.Ask.{Ask}
-use Rattle.serve_command.specs.declared.asks.Ask.TheVariants.{Step, Wait, Cancel}
+use Rattle.serve_command.specs.declared.asks.Ask.TheVariants.{Step, Wait, Cancel, Parts, Jobs}
+use Rattle.serve_command.proofs.Listing.{entries-listed}
 use Rattle.serve_command.proofs.Saying.{cancel_case, request_case}
 use Rattle.serve_command.proofs.Decided.{AreDecided, decided-append, decided-legal, within-serves}
 use Rattle.serve_command.proofs.Settled.{entries-ends}
@@ -91,6 +94,7 @@ told-granted session (Ends e ∷ told) =
 told-granted session (Waits own request why ∷ told) = told-granted session told
 told-granted session (Cancels own request ∷ told) = told-granted session told
 told-granted session (Turns own request why ∷ told) = told-granted session told
+told-granted session (Lists word part ∷ told) = told-granted session told
 told-granted session (Replies words ∷ told) = told-granted session told
 
 -- the grants of lines are counted, each once
@@ -140,10 +144,16 @@ module _ (cell : Cell) where
         turned = λ why. tt;
       })
 
+  list-decided : (talk : Talk) (ask : Ask) (word : List ℕ) (parts : List Part) → IsDecided talk (said_listed talk ask word parts)
+  list-decided talk ask word parts = subst (AreDecided cell talk.granted) (sym (entries-listed word parts)) tt
+
   ask-decided : (talk : Talk) (ask : Ask) → IsDecided talk (said_to cell talk ask)
   ask-decided talk (Step session request) = request-decided talk session request false
   ask-decided talk (Wait session request) = request-decided talk session request true
   ask-decided talk (Cancel session) = cancel_case talk session (IsDecided talk) (λ w is. tt) tt
+  ask-decided talk Parts = list-decided talk Parts (codes "part") (replay cell talk.granted)
+  ask-decided talk (Jobs request) =
+      list-decided talk (Jobs request) (codes "job") (parts_in_the_way cell (replay cell talk.granted) request)
   ask-decided talk _ = tt
 
   turns-decided : (talk : Talk) (asked : List Ask) → AreDecided cell talk.granted (history_of cell talk asked)

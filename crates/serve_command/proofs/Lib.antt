@@ -12,6 +12,8 @@ pub mod Delivering
 pub mod Ending
 pub mod Grouping
 pub mod Histories
+pub mod Listed
+pub mod Listing
 pub mod Living
 pub mod LoopLives
 pub mod OpeningLives

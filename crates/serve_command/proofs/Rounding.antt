@@ -1,6 +1,6 @@
 -- A round of a conversation, from what its calls say.
 use Rattle.std.specs.Prelude.{IfSome, Option, None, Some, ⊤}
-use Rattle.std.proofs.Common.{◌≡◌, ℕ, ◌+◌, ◌<◌, ◌≤◌, inl, Bool, true, false, List, [], ◌∷◌, ◌++◌, length}
+use Rattle.std.proofs.Common.{◌≡◌, ℕ, ◌+◌, ◌≤◌, inl, Bool, true, false, List, [], ◌∷◌, ◌++◌, length}
 use Rattle.std.proofs.Common.{map, take, All, refl, sym, ap, ◌∙◌, subst, arith, append_assoc, append-nil}
 use Rattle.std.proofs.lemmas.Bool.{true≢false}
 use Rattle.std.proofs.lemmas.List.{length-append, length-map, map-append}
@@ -28,12 +28,12 @@ use Rattle.serve_command.specs.Asks.{ask_of}
 use Rattle.serve_command.specs.Rounds.{AreGroupLines, GROUP_LINES, IsLastRound, IsRound, IsGroupOfLines, MAX_SERVED, Moves}
 use Rattle.serve_command.specs.Serve.{FailedDevice, FailedSink, FullJournal, Stops, full_line}
 use Rattle.serve_command.specs.Serving.{HasCounts, IsFirstGrant, IsAnsweredGroup, HasNoGroup, KeepsWaiters, StandsAt, Stays}
-use Rattle.serve_command.specs.Talks.{Talk, added_by, since, talk_after}
+use Rattle.serve_command.specs.Talks.{Talk, since, talk_after}
 use Rattle.serve_command.specs.declared.asks.Ask.{Ask}
 use Rattle.serve_command.specs.declared.server.FirstGrant.{FirstGrant}
 use Rattle.serve_command.specs.declared.server.Server.{Server}
 use Rattle.serve_command.proofs.Delivering.{same_delivered}
-use Rattle.serve_command.proofs.Grouping.{answers-append, granted-after, since-append, talk-append}
+use Rattle.serve_command.proofs.Grouping.{answers-append, granted-after, since-append}
 
 -- what holds by itself holds of each
 each : {X : Type 0} (P : Type 0) → P → (xs : List X) → All (λ (x : X). P) xs

@@ -1,7 +1,7 @@
 -- After each ask nobody waits whose request could be granted, or who is to be dropped.
 use Rattle.std.specs.Prelude.{Some, None, ◌&&◌}
 use Rattle.std.specs.Option.{option_map_or}
-use Rattle.std.proofs.Common.{◌≡◌, ℕ, zero, suc, ◌<◌, Bool, true, false, cond, List, [], ◌∷◌, ◌++◌, length, map, find, refl, sym, ap}
+use Rattle.std.proofs.Common.{◌≡◌, ℕ, codes, zero, suc, ◌<◌, Bool, true, false, cond, List, [], ◌∷◌, ◌++◌, length, map, find, refl, sym, ap}
 use Rattle.std.proofs.Common.{◌∙◌, subst, arith, append_assoc, append-nil}
 use Rattle.std.proofs.lemmas.List.{length-map}
 use Rattle.std.proofs.lemmas.List.Elements.{All-nil, All-push}
@@ -25,9 +25,10 @@ use Rattle.wait_queue.proofs.Looks.{without-all}
 use Rattle.wait_queue.proofs.Settling.{after-scan}
 use Rattle.serve_command.specs.Answers.{answer, telling_line}
 use Rattle.serve_command.specs.Talks.{Ends, IsSettled, Said, Talk, cancelled, entries_in, entry_of, opened, request_told, said_granted, said_to}
-use Rattle.serve_command.specs.Talks.{said_waits, scanned, session_grant, talk_after, talk_after_one}
+use Rattle.serve_command.specs.Talks.{parts_in_the_way, said_listed, said_waits, scanned, session_grant, talk_after, talk_after_one}
 use Rattle.serve_command.specs.declared.asks.Ask.{Ask}
-use Rattle.serve_command.specs.declared.asks.Ask.TheVariants.{Step, Wait, Cancel}
+use Rattle.serve_command.specs.declared.asks.Ask.TheVariants.{Step, Wait, Cancel, Parts, Jobs}
+use Rattle.serve_command.proofs.Listing.{grants-listed}
 use Rattle.serve_command.proofs.Refusing.{refusal_leaves}
 use Rattle.serve_command.proofs.Saying.{cancel_case, request_case}
 
@@ -185,10 +186,18 @@ module _ (cell : Cell) where
       talk.waiters settled))
       (still-settled talk [] talk.waiters refl settled)
 
+  list-settled : (talk : Talk) (ask : Ask) (word : List ℕ) (parts : List Part) → IsSettled cell talk
+      → SettlesSo talk (said_listed talk ask word parts)
+  list-settled talk ask word parts settled =
+      still-settled talk (grants 0 (entries_in (said_listed talk ask word parts).told)) talk.waiters (grants-listed word parts) settled
+
   pub said-settled : (talk : Talk) (ask : Ask) → IsSettled cell talk → IsSettled cell (talk_after_one cell talk ask)
   said-settled talk (Step session request) settled = request-settled talk session request false settled
   said-settled talk (Wait session request) settled = request-settled talk session request true settled
   said-settled talk (Cancel session) settled = cancel-settled talk session settled
+  said-settled talk Parts settled = list-settled talk Parts (codes "part") (replay cell talk.granted) settled
+  said-settled talk (Jobs request) settled =
+      list-settled talk (Jobs request) (codes "job") (parts_in_the_way cell (replay cell talk.granted) request) settled
   said-settled talk _ settled = still-settled talk [] talk.waiters refl settled
 
   talk-settled : (talk : Talk) (asked : List Ask) → IsSettled cell talk → IsSettled cell (talk_after cell talk asked)

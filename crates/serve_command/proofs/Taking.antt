@@ -1,6 +1,6 @@
 -- A group of lines, as it is taken line by line.
 use Rattle.std.specs.Prelude.{Option}
-use Rattle.std.proofs.Common.{◌≡◌, ◌≤◌, ℕ, ◌+◌, List, [], ◌∷◌, ◌++◌, length, map, refl, sym, ◌∙◌, subst, arith, append_assoc, append-nil}
+use Rattle.std.proofs.Common.{◌≡◌, ℕ, ◌+◌, List, [], ◌∷◌, ◌++◌, length, map, refl, sym, ◌∙◌, subst, arith, append_assoc, append-nil}
 use Rattle.std.proofs.lemmas.List.{length-append, map-append}
 use Rattle.cell_base.specs.declared.cells.Cell.{Cell}
 use Rattle.input_lines.specs.Reading.{AreLinesSoFar, LinesState}

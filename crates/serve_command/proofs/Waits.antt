@@ -1,9 +1,10 @@
 -- Each wait ends once: the lines that tell of it, and those that wait.
 use Rattle.std.specs.Prelude.{◌==◌}
-use Rattle.std.proofs.Common.{◌≡◌, ℕ, zero, suc, ◌+◌, ◌≤◌, Bool, true, false, cond, inl, inr, Some, None, List, [], ◌∷◌, ◌++◌, length, map, refl, ap, subst, ◌∙◌, arith, find}
+use Rattle.std.proofs.Common.{◌≡◌, ℕ, codes, zero, suc, ◌+◌, ◌≤◌, Bool, true, false, cond, inl, inr, Some, None, List, [], ◌∷◌, ◌++◌, length, map, refl, ap, subst, ◌∙◌, arith, find}
 use Rattle.std.specs.Option.{option_map_or}
 use Rattle.std.proofs.lemmas.Bool.{cases_eq, eqb-true, ne_eqb}
 use Rattle.cell_base.specs.declared.cells.Cell.{Cell}
+use Rattle.cell_base.specs.declared.requests.Part.{Part}
 use Rattle.cell_base.specs.declared.requests.Refusal.{Refusal}
 use Rattle.cell_base.specs.declared.requests.Request.{Request}
 use Rattle.cell_base.specs.declared.shifts.Entry.{Entry}
@@ -13,9 +14,10 @@ use Rattle.wait_queue.specs.declared.waiter.Waiter.{Waiter}
 use Rattle.wait_queue.specs.Waiting.{Waiting, after_wait, end_of, is_of_session, is_ready, served_within, waiter_of, waiting, without_first}
 use Rattle.serve_command.specs.Laws.{EndsEachWait, StepTest, is_told_cancelled, is_told_end, is_told_waits, told_times, waiting_times}
 use Rattle.serve_command.specs.Talks.{Cancels, Ends, Said, Talk, Waits, opened, request_told, said, said_granted}
-use Rattle.serve_command.specs.Talks.{said_to, said_waits, scanned, session_grant, talk_after, talk_after_one, told_in_turn}
+use Rattle.serve_command.specs.Talks.{parts_in_the_way, said_listed, said_to, said_waits, scanned, session_grant, talk_after, talk_after_one, told_in_turn}
 use Rattle.serve_command.specs.declared.asks.Ask.{Ask}
-use Rattle.serve_command.specs.declared.asks.Ask.TheVariants.{Step, Wait, Cancel}
+use Rattle.serve_command.specs.declared.asks.Ask.TheVariants.{Step, Wait, Cancel, Parts, Jobs}
+use Rattle.serve_command.proofs.Listing.{times-listed}
 use Rattle.serve_command.proofs.Saying.{cancel_case, request_case}
 use Rattle.serve_command.proofs.Times.{found-passes, one-leaves, times, times-append, times-cons, times-none, times-push}
 
@@ -136,11 +138,24 @@ module _ (cell : Cell) where
         times-cons (is_told_cancelled test) (Cancels session (Some w.request)) [],
       )
 
+  list-balances : (test : StepTest) (talk : Talk) (ask : Ask) (word : List ℕ) (parts : List Part)
+      → Balances test talk (said_listed talk ask word parts)
+  list-balances test talk ask word parts =
+      omega (
+        arith,
+        times-listed (is_told_waits test) (λ w part. refl) word parts,
+        times-listed (is_told_end test) (λ w part. refl) word parts,
+        times-listed (is_told_cancelled test) (λ w part. refl) word parts,
+      )
+
   ask-balances : (test : StepTest) (talk : Talk) (ask : Ask) → Balances test talk (said_to cell talk ask)
   ask-balances test talk (Step session request) = request-balances test talk session request false
   ask-balances test talk (Wait session request) = request-balances test talk session request true
   ask-balances test talk (Cancel session) =
       cancel_case talk session (Balances test talk) (cancel-balances test talk session) (omega arith)
+  ask-balances test talk Parts = list-balances test talk Parts (codes "part") (replay cell talk.granted)
+  ask-balances test talk (Jobs request) =
+      list-balances test talk (Jobs request) (codes "job") (parts_in_the_way cell (replay cell talk.granted) request)
   ask-balances test talk _ = omega arith
 
   -- ---- asks in turn

@@ -22,9 +22,9 @@ use Rattle.record_text.specs.Lines.{entry_words, left_words, line_of, told_words
 use Rattle.step_text.specs.Steps.{done_word, request_words}
 use Rattle.wait_queue.specs.declared.waiter.Waiter.{Waiter}
 use Rattle.serve_command.specs.declared.asks.Ask.{Ask}
-use Rattle.serve_command.specs.declared.asks.Ask.TheVariants.{Step, Wait, Count, Last, Why, Job, Next, Room, Left}
+use Rattle.serve_command.specs.declared.asks.Ask.TheVariants.{Step, Wait, Count, Last, Why, Job, Next, Room, Left, Parts, Jobs}
 use Rattle.serve_command.specs.declared.command.TheConstants.{MAX_SERVED}
-use Rattle.serve_command.specs.Talks.{Cancels, Decides, Ends, Replies, Talk, Telling, Turns, Waits, entry_of, said_to, talk_after_one}
+use Rattle.serve_command.specs.Talks.{Cancels, Decides, Ends, Lists, Replies, Talk, Telling, Turns, Waits, entry_of, parts_in_the_way, said_to, talk_after_one}
 
 -- what a request is told after these grants
 abbrev pub reply_after : Cell → List Grant → Request → Reply
@@ -52,11 +52,23 @@ abbrev pub last_words : Cell → ℕ → ℕ → Option Request → List (List �
 last_words cell session count last = decimal session ∷ codes "last" ∷ decimal count ∷ step_or_none cell last
 
 -- where the part of a job stands: its type, its place of the route, the resource there, and whether its work is done
-abbrev pub job_words : Cell → JobId → Option Part → List (List ℕ)
-job_words cell job (Some part) =
-    codes "job" ∷ decimal job.0 ∷ type_name cell part.kind.0 ∷ decimal part.place ∷ resource_name cell (resource_of_part cell part)
+abbrev pub part_words : Cell → List ℕ → JobId → Part → List (List ℕ)
+part_words cell word job part =
+    word ∷ decimal job.0 ∷ type_name cell part.kind.0 ∷ decimal part.place ∷ resource_name cell (resource_of_part cell part)
     ∷ done_word part.done ∷ []
+
+-- the line of a part in a list
+abbrev pub item_line : Cell → List ℕ → Part → List ℕ
+item_line cell word part = line_of (part_words cell word part.job part)
+
+-- the same of a job, of which a part may be in the cell
+abbrev pub job_words : Cell → JobId → Option Part → List (List ℕ)
+job_words cell job (Some part) = part_words cell (codes "job") job part
 job_words cell job None = codes "job" ∷ decimal job.0 ∷ codes "none" ∷ []
+
+-- how many parts a list of a step has
+abbrev pub jobs_words : Cell → Request → ℕ → List (List ℕ)
+jobs_words cell request count = codes "jobs" ∷ request_words cell request ++ decimal count ∷ []
 
 -- the words of the answer to a question after these grants, which is that of the line of this number
 abbrev pub reply_words : Cell → List Grant → ℕ → Ask → List (List ℕ)
@@ -68,6 +80,8 @@ reply_words cell grants number (Job job) = job_words cell job (part_of (replay c
 reply_words cell grants number Next = codes "next" ∷ step_or_none cell (plan_step cell (replay cell grants))
 reply_words cell grants number Room = codes "room" ∷ decimal (MAX_SERVED - length grants) ∷ []
 reply_words cell grants number Left = left_words (length (replay cell grants))
+reply_words cell grants number Parts = codes "parts" ∷ decimal (length (replay cell grants)) ∷ []
+reply_words cell grants number (Jobs request) = jobs_words cell request (length (parts_in_the_way cell (replay cell grants) request))
 reply_words cell grants number _ = codes "line" ∷ codes "refused" ∷ decimal number ∷ []
 
 -- the words of a session's request, and what is said of it
@@ -99,13 +113,14 @@ telling_words cell grants number (Waits session request why) = asked_words cell 
 telling_words cell grants number (Ends entry) = ended_words cell entry
 telling_words cell grants number (Cancels session request) = decimal session ∷ codes "cancel" ∷ step_or_none cell request
 telling_words cell grants number (Turns session request why) = asked_words cell session request (codes "refused" ∷ why ∷ [])
+telling_words cell grants number (Lists word part) = part_words cell word part.job part
 telling_words cell grants number (Replies ask) = reply_words cell grants number ask
 
 -- the line
 abbrev pub telling_line : Cell → List Grant → ℕ → Telling → List ℕ
 telling_line cell grants number telling = line_of (telling_words cell grants number telling)
 
--- the answer to the ask of the line of this number: its own line, and one for each wait that it ends
+-- the answer to the ask of the line of this number: its own line, and one for each wait that it ends, or for each part that it lists
 abbrev pub answer : Cell → Talk → ℕ → Ask → List (List ℕ)
 answer cell talk number ask = map (telling_line cell talk.granted number) (said_to cell talk ask).told
 

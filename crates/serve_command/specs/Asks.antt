@@ -13,7 +13,7 @@ use Rattle.step_text.specs.Steps.{IsStep, step_of_words}
 use Rattle.step_text.specs.Words.{number_of, words}
 use Rattle.serve_command.specs.declared.asks.Ask.{Ask}
 use Rattle.record_text.specs.Reading.{placing_of}
-use Rattle.serve_command.specs.declared.asks.Ask.TheVariants.{Step, Wait, Cancel, Count, Last, Why, Job, Next, Room, Left, Nothing}
+use Rattle.serve_command.specs.declared.asks.Ask.TheVariants.{Step, Wait, Cancel, Count, Last, Why, Job, Next, Room, Left, Nothing, Parts, Jobs}
 use Rattle.serve_command.specs.declared.asks.TheConstants.{MAX_ASK_BYTES, MAX_JOB, MAX_SESSION}
 
 -- | Line           | Ask                                               |
@@ -28,6 +28,8 @@ use Rattle.serve_command.specs.declared.asks.TheConstants.{MAX_ASK_BYTES, MAX_JO
 -- | `next`         | the next step of the plan                         |
 -- | `room`         | how many grants more the journal takes            |
 -- | `left`         | how many parts are left                           |
+-- | `parts`        | where all parts stand                             |
+-- | `jobs STEP`    | which parts stand in the way of the step          |
 -- | any other      | nothing                                           |
 
 -- these words are this one
@@ -78,6 +80,14 @@ asked_why (Err fault) = Nothing
 abbrev pub why_asked : Cell → List (List ℕ) → Ask
 why_asked cell rest = asked_why (step_of_words cell rest)
 
+-- the step of which these words ask what stands in its way
+abbrev pub asked_jobs : Result Request StepFault → Ask
+asked_jobs (Ok request) = Jobs request
+asked_jobs (Err fault) = Nothing
+
+abbrev pub jobs_asked : Cell → List (List ℕ) → Ask
+jobs_asked cell rest = asked_jobs (step_of_words cell rest)
+
 -- the job of which a word asks where its part stands
 abbrev pub job_asked : List (List ℕ) → Ask
 job_asked (word ∷ []) = option_map_or (λ job. Job (record { 0 = job })) (number_of 0 MAX_JOB word) Nothing
@@ -89,14 +99,16 @@ ask_of_one word =
     if bytes_eq word (codes "left") then Left
     else (if bytes_eq word (codes "next") then Next
     else (if bytes_eq word (codes "room") then Room
-    else Nothing))
+    else (if bytes_eq word (codes "parts") then Parts
+    else Nothing)))
 
 -- what is asked in a word and those after it
 abbrev pub ask_of_several : Cell → List ℕ → List (List ℕ) → Ask
 ask_of_several cell word rest =
     if bytes_eq word (codes "why") then why_asked cell rest
+    else (if bytes_eq word (codes "jobs") then jobs_asked cell rest
     else (if bytes_eq word (codes "job") then job_asked rest
-    else ask_of_number cell (number_of 1 MAX_SESSION word) rest)
+    else ask_of_number cell (number_of 1 MAX_SESSION word) rest))
 
 -- what words ask
 abbrev pub ask_of_words : Cell → List (List ℕ) → Ask
@@ -113,9 +125,10 @@ ask_of cell line =
 abbrev pub asks_in : Cell → List ℕ → List Ask
 asks_in cell text = map (ask_of cell) (whole_lines text)
 
--- what is asked of a cell fits it, and a step of which it is asked what it would be told is one
+-- what is asked of a cell fits it, and a step of which it is asked what it would be told, or what stands in its way, is one
 abbrev pub AskFits : Cell → Ask → Type 0
 AskFits cell (Step session request) = RequestFits cell request
 AskFits cell (Wait session request) = RequestFits cell request
 AskFits cell (Why request) = IsStep cell request
+AskFits cell (Jobs request) = IsStep cell request
 AskFits cell _ = ⊤

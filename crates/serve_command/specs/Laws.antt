@@ -11,7 +11,7 @@ use Rattle.cell_texts.specs.Blocks.{history_lines}
 use Rattle.wait_queue.specs.declared.waiter.Waiter.{Waiter}
 use Rattle.wait_queue.specs.Waiting.{is_of_session}
 use Rattle.serve_command.specs.Answers.{count_of}
-use Rattle.serve_command.specs.Talks.{Cancels, Decides, Ends, IsSettled, Talk, Telling, Waits, entries_in, opened, since, talk_after, told_in_turn}
+use Rattle.serve_command.specs.Talks.{Cancels, Decides, Ends, IsSettled, Lists, Talk, Telling, Waits, entries_in, opened, since, talk_after, told_in_turn}
 use Rattle.serve_command.specs.Serve.{answered_lines}
 use Rattle.serve_command.specs.declared.asks.Ask.{Ask}
 use Rattle.serve_command.specs.declared.asks.Ask.TheVariants.{Step}
@@ -24,16 +24,17 @@ StaysSettled cell = (opening : List Grant) (asked : List Ask) → IsSettled cell
 
 -- ---- each line is answered once
 
--- the line answers one that was sent: it ends no wait
+-- the line answers one that was sent: it ends no wait, and is no part of a list
 abbrev pub is_answer : Telling → Bool
 is_answer (Ends entry) = false
+is_answer (Lists word part) = false
 is_answer _ = true
 
 -- how many lines pass a test
 abbrev pub told_times : (Telling → Bool) → List Telling → ℕ
 told_times test told = length (filter test told)
 
--- as many lines answer as were sent; all others end waits
+-- as many lines answer as were sent; all others end waits, or are parts of lists
 abbrev pub AnswersEach : Cell → Type 0
 AnswersEach cell = (talk : Talk) (asked : List Ask) → told_times is_answer (told_in_turn cell talk asked) ≡ length asked
 

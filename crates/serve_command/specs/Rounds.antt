@@ -18,7 +18,7 @@ pub use Rattle.serve_command.specs.Serve.{Stops, full_line}
 pub use Rattle.serve_command.specs.Serving.{IsJournalFull, IsAnsweredGroup, HasNoGroup, KeepsWaiters, StandsAt, Stays}
 use Rattle.serve_command.specs.declared.asks.Ask.{Ask}
 pub use Rattle.serve_command.specs.declared.command.TheConstants.{MAX_SERVED}
-pub use Rattle.serve_command.specs.declared.replies.TheConstants.{GROUP_LINES}
+pub use Rattle.serve_command.specs.declared.replies.TheConstants.{GROUP_LINES, MAX_REPLIES}
 use Rattle.serve_command.specs.declared.server.Server.{Server}
 
 -- which lines were taken: those of the group, and the one that found the journal full

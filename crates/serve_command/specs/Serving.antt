@@ -76,11 +76,10 @@ pub record Stays {D : Type 0} (old new : Server D) : Type 0 where
   pub runs : new.live.is_halted ≡ old.live.is_halted
   pub spare : new.live.spare + length new.live.pending ≡ old.live.spare + length old.live.pending
 
--- One line more was asked. It has an answer, may begin a wait, and may end others; each grant that is pending has its answer.
+-- One line more was asked; each grant that is pending has its answer.
 pub record TakesOneLine {D : Type 0} (old new : Server D) : Type 0 where
   pub stays : Stays old new
   pub told : length new.live.pending + length old.replies ≤ length old.live.pending + length new.replies
-  pub few : length new.replies + length new.queue.waiters ≤ length old.replies + length old.queue.waiters + 2
   pub asked : new.asked ≡ line_number (old.asked + 1)
 
 -- An ask would be granted after this talk, and the journal has no room for its grant and one of each session that waits.

@@ -1,7 +1,9 @@
 -- A conversation in which sessions may wait: what is told of each ask, and what stands after it.
 use Rattle.std.specs.Prelude.{codes, ℕ, Bool, true, false, ◌&&◌, nat_lt, if◌then◌else◌, Option, Some, None, List, [], ◌∷◌, ◌++◌, length, map}
 use Rattle.cell_base.specs.declared.cells.Cell.{Cell}
+use Rattle.cell_base.specs.declared.requests.Part.{Part}
 use Rattle.cell_base.specs.declared.requests.Refusal.{Refusal}
+use Rattle.cell_base.specs.declared.requests.Refusal.TheVariants.{Saturated}
 use Rattle.cell_base.specs.declared.requests.Reply.{Reply}
 use Rattle.cell_base.specs.declared.requests.Reply.TheVariants.{Granted, Refused}
 use Rattle.cell_base.specs.declared.requests.Request.{Request}
@@ -10,13 +12,14 @@ use Rattle.cell_base.specs.declared.requests.Told.TheVariants.{Answered}
 use Rattle.cell_base.specs.declared.shifts.Entry.{Entry}
 use Rattle.cell_base.specs.declared.shifts.Grant.{Grant}
 use Rattle.cell_base.specs.Histories.{grants, replay}
+use Rattle.cell_base.specs.Neighborhoods.{counted}
 use Rattle.cell_base.specs.Outcomes.{reply_to}
 use Rattle.policy_laws.specs.Decisions.{is_saturation}
 use Rattle.wait_queue.specs.declared.waiter.Waiter.{Waiter}
 use Rattle.wait_queue.specs.Waiting.{Waiting, is_of_session, served, waiter_of, waiting, without_first}
 use Rattle.wait_queue.specs.Watching.{HoldsAll}
 use Rattle.serve_command.specs.declared.asks.Ask.{Ask}
-use Rattle.serve_command.specs.declared.asks.Ask.TheVariants.{Step, Wait, Cancel}
+use Rattle.serve_command.specs.declared.asks.Ask.TheVariants.{Step, Wait, Cancel, Parts, Jobs}
 use Rattle.serve_command.specs.declared.replies.TheConstants.{MAX_WAITERS}
 
 -- the grants so far, and who waits, in the order in which they began to
@@ -34,6 +37,7 @@ opened granted = record { granted = granted; waiters = [] }
 -- | `K STEP served`, `K STEP dropped WHY`                           | Ends: a wait ends                                          |
 -- | `K cancel STEP`, `K cancel none`                                | Cancels: the step of the session waits no longer           |
 -- | `K STEP refused already-waiting`, `K STEP refused waiters-full` | Turns: the step is turned away without a decision          |
+-- | `part 7 A 1 M1 waiting`, `job 7 A 1 M1 done`                    | Lists: a part of the list whose head stands before it      |
 -- | any other                                                       | Replies: the answer to a question, which changes nothing   |
 pub data Telling : Type 0 where
   Decides : (entry : Entry) → Telling
@@ -41,6 +45,7 @@ pub data Telling : Type 0 where
   Ends : (entry : Entry) → Telling
   Cancels : (session : ℕ) (request : Option Request) → Telling
   Turns : (session : ℕ) (request : Request) (why : List ℕ) → Telling
+  Lists : (word : List ℕ) (part : Part) → Telling
   Replies : (ask : Ask) → Telling
 
 -- what an ask comes to: what is told, a line each, and who waits then
@@ -128,11 +133,31 @@ request_told cell talk session request may_wait =
     where_free talk session request (waiter_of talk.waiters session)
     (reply_told cell talk session request may_wait (reply_to cell (replay cell talk.granted) request))
 
+-- ---- lists
+
+-- the parts that are counted in the neighborhood for which a step is refused
+abbrev pub in_the_way : Cell → List Part → Reply → List Part
+in_the_way cell parts (Refused (Saturated at held units)) = counted cell parts at.0
+in_the_way cell parts _ = []
+
+-- the same of a step in the present state
+abbrev pub parts_in_the_way : Cell → List Part → Request → List Part
+parts_in_the_way cell parts request = in_the_way cell parts (reply_to cell parts request)
+
+-- the head of a list, and a line for each of its parts, which begins with this word
+abbrev pub said_listed : Talk → Ask → List ℕ → List Part → Said
+said_listed talk ask word parts = record { told = Replies ask ∷ map (Lists word) parts; waiters = talk.waiters }
+
+-- ---- asks
+
 -- what an ask comes to
 abbrev pub said_to : Cell → Talk → Ask → Said
 said_to cell talk (Step session request) = request_told cell talk session request false
 said_to cell talk (Wait session request) = request_told cell talk session request true
 said_to cell talk (Cancel session) = cancelled talk session (waiter_of talk.waiters session)
+said_to cell talk Parts = said_listed talk Parts (codes "part") (replay cell talk.granted)
+said_to cell talk (Jobs request) =
+    said_listed talk (Jobs request) (codes "job") (parts_in_the_way cell (replay cell talk.granted) request)
 said_to cell talk ask = said (Replies ask) talk.waiters
 
 -- a session asks for this, and may wait or not

@@ -1,5 +1,5 @@
 -- What the calls of the server do with the requests of sessions and with those that wait.
-use Rattle.std.specs.Prelude.{codes, ◌≡◌, ℕ, ◌+◌, ◌<◌, ◌≤◌, false, Option, None, Some, List, [], ◌∷◌, ◌++◌, length, map}
+use Rattle.std.specs.Prelude.{codes, ◌≡◌, ℕ, ◌+◌, ◌<◌, false, Option, None, Some, List, [], ◌∷◌, ◌++◌, length, map}
 use Rattle.cell_base.specs.declared.cells.ResId.{ResId}
 use Rattle.cell_base.specs.declared.requests.Refusal.{Refusal}
 use Rattle.cell_base.specs.declared.requests.Refusal.TheVariants.{Saturated}
@@ -23,13 +23,13 @@ use Rattle.serve_command.specs.declared.command.TheConstants.{MAX_SERVED}
 use Rattle.serve_command.specs.declared.replies.TheConstants.{MAX_REPLIES}
 use Rattle.serve_command.specs.declared.server.Server.{Server}
 
--- The server may answer a line: no commit failed, and there is room for the answer and for the end of each wait.
+-- The server may answer a line: no commit failed, and there is room for the answer, for the end of each wait, and for a list of all parts.
 pub record IsOpen {D : Type 0} (server : Server D) : Type 0 where
   pub runs : server.live.is_halted ≡ false
   pub room : server.live.room ≡ MAX_SERVED
   pub waiters : KeepsWaiters server
   pub spare : length server.queue.waiters < server.live.spare
-  pub short : length server.replies + length server.queue.waiters < MAX_REPLIES
+  pub short : length server.replies + length server.queue.waiters + length server.live.parts < MAX_REPLIES
 
 -- ---- a decision
 

@@ -3,7 +3,7 @@ ghost use Rattle.std.specs.Prelude.{◌≡◌, ◌∷◌, [], Ok, Err, IfSome};
 ghost use Rattle.cell_base.specs.declared.cells.Cell.{Cell};
 ghost use Rattle.cell_base.specs.Fits.{CellFits, RequestFits};
 ghost use Rattle.serve_command.specs.Asks.{AskFits, ask_of, ask_of_one, ask_of_several, ask_of_session, ask_of_words};
-ghost use Rattle.serve_command.specs.Asks.{is_word, job_asked, request_asked, request_of, step_asked, wait_asked, why_asked};
+ghost use Rattle.serve_command.specs.Asks.{is_word, job_asked, jobs_asked, request_asked, request_of, step_asked, wait_asked, why_asked};
 ghost use Rattle.step_text.specs.Words.{words};
 
 use cell_base::{Cell, JobId, Request};
@@ -24,6 +24,10 @@ const LEFT: &[u8] = b"left";
 const NEXT: &[u8] = b"next";
 
 const ROOM: &[u8] = b"room";
+
+const PARTS: &[u8] = b"parts";
+
+const JOBS: &[u8] = b"jobs";
 
 const WHY: &[u8] = b"why";
 
@@ -60,6 +64,10 @@ pub enum Ask {
     Room,
     /// How many parts are left in the cell.
     Left,
+    /// Where all parts stand.
+    Parts,
+    /// Which parts stand in the way of a step.
+    Jobs { request: Request },
     /// The line asks nothing.
     Nothing,
 }
@@ -100,6 +108,8 @@ fn ask_of_one(word: &[u8]) -> Ask
         Ask::Next
     } else if word == ROOM {
         Ask::Room
+    } else if word == PARTS {
+        Ask::Parts
     } else {
         Ask::Nothing
     }
@@ -112,6 +122,9 @@ fn ask_of_several(cell: &Cell, word: &[u8], rest: &[u8]) -> Ask
 {
     if word == WHY {
         return why_of(cell, rest);
+    }
+    if word == JOBS {
+        return jobs_of(cell, rest);
     }
     if word == JOB {
         return job_of(rest);
@@ -129,6 +142,17 @@ fn why_of(cell: &Cell, text: &[u8]) -> Ask
 {
     match read_step(cell, text) {
         Ok(request) => Ask::Why { request },
+        Err(_) => Ask::Nothing,
+    }
+}
+
+fn jobs_of(cell: &Cell, text: &[u8]) -> Ask
+    requires { CellFits cell.now }
+    ensures ask { result ≡ jobs_asked cell.now (words text.now) }
+    ensures fits { AskFits cell.now result }
+{
+    match read_step(cell, text) {
+        Ok(request) => Ask::Jobs { request },
         Err(_) => Ask::Nothing,
     }
 }

@@ -16,7 +16,7 @@ pub fn nobody_waits_that_could_be_granted(cell: &Cell)
     ensures { StaysSettled cell.now }
 {}
 
-/// As many lines answer as were sent, one each, and all other lines end waits: nothing else is put unasked.
+/// As many lines answer as were sent, one each, and all other lines end waits or are parts of lists: nothing else is put unasked.
 pub fn each_line_is_answered_once(cell: &Cell)
     ensures { AnswersEach cell.now }
 {}

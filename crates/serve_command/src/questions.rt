@@ -4,8 +4,8 @@ ghost use Rattle.std.specs.Fmt.{decimal};
 ghost use Rattle.cell_base.specs.declared.cells.Cell.{Cell};
 ghost use Rattle.record_text.specs.Lines.{line_of};
 ghost use Rattle.record_text.specs.Spaced.{spaced};
-ghost use Rattle.serve_command.specs.Clauses.{CellFits, IsStage, RequestFits, job_words, last_words, part_of, plan_step};
-ghost use Rattle.serve_command.specs.Clauses.{stage_of, step_or_none};
+ghost use Rattle.serve_command.specs.Clauses.{CellFits, IsStage, RequestFits, job_words, jobs_words, last_words, part_of};
+ghost use Rattle.serve_command.specs.Clauses.{part_words, plan_step, stage_of, step_or_none};
 
 use admission_core::Core;
 use cell_base::{Cell, JobId, Part, Request};
@@ -63,18 +63,19 @@ pub fn job_line(core: &Core, job: JobId) -> Line
     ensures { result ≡ line_of (job_words core.now.cell job (part_of core.now.parts job)) }
 {
     match core.part_of(job) {
-        Some(part) => part_line(core.cell(), job, part),
+        Some(part) => part_line(core.cell(), b"job", job, part),
         None => gone_line(job),
     }
 }
 
-// The same of a part.
-fn part_line(cell: &Cell, job: JobId, part: Part) -> Line
+/// The same of a part, in a line that begins with this word.
+pub fn part_line(cell: &Cell, word: &[u8], job: JobId, part: Part) -> Line
     requires fits { CellFits cell.now }
+    requires brief { length word.now ≤ 7 }
     requires standing { IsStage cell.now (stage_of part) }
-    ensures { result ≡ line_of (job_words cell.now job (Some part)) }
+    ensures { result ≡ line_of (part_words cell.now word.now job part) }
 {
-    let mut line = Line::of_word(b"job");
+    let mut line = Line::of_word(word);
     line.number(job.0);
     add_type(&mut line, cell, part.kind);
     line.number(part.place);
@@ -90,6 +91,26 @@ fn gone_line(job: JobId) -> Line
     let mut line = Line::of_word(b"job");
     line.number(job.0);
     line.word(b"none");
+    line.end()
+}
+
+/// The head of the list of all parts.
+pub fn parts_line(count: u32) -> Line
+    ensures { result ≡ line_of (codes "parts" ∷ decimal count ∷ []) }
+{
+    let mut line = Line::of_word(b"parts");
+    line.number(count);
+    line.end()
+}
+
+/// The head of the list of the parts that stand in the way of a step.
+pub fn jobs_line(cell: &Cell, request: &Request, count: u32) -> Line
+    requires { RequestFits cell.now request.now }
+    ensures { result ≡ line_of (jobs_words cell.now request.now count) }
+{
+    let mut line = Line::of_word(b"jobs");
+    add_request(&mut line, cell, request);
+    line.number(count);
     line.end()
 }
 

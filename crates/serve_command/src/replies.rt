@@ -12,9 +12,9 @@ pub const GROUP_LINES: u64 = 512;
 /// The most sessions that wait: as many as parts may be in a cell.
 pub const MAX_WAITERS: u16 = 4_096;
 
-/// The most answers of a group: one of each line, and one at the end of each wait. Each session may end a wait that waited before the group,
-/// and each line of the group may begin one.
-pub const MAX_REPLIES: u64 = 5_120;
+/// The most lines of the answers of a group. Each session may end a wait that waited before the group, each line of the group has an answer
+/// and may begin a wait, and one of them may list all parts, as many as may be in a cell.
+pub const MAX_REPLIES: u64 = 9_216;
 
 /// Answers in their order, with room for those of a group. Contracts see them as lines.
 #[derive(Drop)]
@@ -29,7 +29,7 @@ impl Model for Replies {
 
     ghost view = { λ s. s.lines.items };
 
-    ghost invariant = { λ s. 5120 ≤ vec_capacity s.lines };
+    ghost invariant = { λ s. 9216 ≤ vec_capacity s.lines };
 }
 
 impl Replies {

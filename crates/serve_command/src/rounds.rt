@@ -1,18 +1,18 @@
 //! One round of a conversation: the lines at hand are answered as a group.
-ghost use Rattle.std.specs.Prelude.{◌≡◌, List, ℕ, Ok, IfSome, OnOk, take, length, ◌≤◌, ◌++◌, ◌∷◌, []};
+ghost use Rattle.std.specs.Prelude.{◌≡◌, List, ℕ, Ok, IfSome, OnOk, take, true, length, ◌<◌, ◌≤◌, ◌+◌, ◌++◌, ◌∷◌, []};
 ghost use Rattle.input_lines.specs.Reading.{AreLinesSoFar};
 ghost use Rattle.peers.specs.Meanings.{peer_took};
 ghost use Rattle.lent_peers.specs.Beside.{IsBeside};
 ghost use Rattle.cell_walks.specs.Clauses.{IsDelivered, printed};
 ghost use Rattle.cell_walks.specs.declared.status.Status.TheVariants.{DeviceFault, JournalRefused};
 ghost use Rattle.serve_command.specs.Lives.{LivesOn};
-ghost use Rattle.serve_command.specs.Rounds.{StandsAfter, HasNoGroup, IsGroupOfLines, KeepsWaiters, Rounds, StandsAt, Stays, full_line};
+ghost use Rattle.serve_command.specs.Rounds.{StandsAfter, HasNoGroup, IsGroupOfLines, KeepsWaiters, MAX_REPLIES, Rounds, StandsAt, Stays, full_line};
 ghost use Rattle.serve_command.specs.Talks.{Talk};
 
 use crate::asks::read_ask;
 use crate::beside::{finish_beside, print_beside};
 use crate::command::MAX_SERVED;
-use crate::replies::GROUP_LINES;
+use crate::replies::{GROUP_LINES, MAX_REPLIES};
 use crate::server::Server;
 use cell_walks::Status;
 use input_lines::InputLines;
@@ -25,7 +25,8 @@ use std::slice;
 
 impl<D: Disk> Server<D> {
     /// Answers the lines that are at hand, up to a group of them: the answers are kept, and the grants are pending. Says whether the
-    /// journal was full at a line after these, which is taken too.
+    /// journal was full at a line after these, which is taken too. A line is taken only while there is room for whatever its answer may be:
+    /// lines that ask for no list fill a group, and a long list ends one.
     pub fn take_group(&mut self, lines: &mut InputLines) -> bool
         requires ready { HasNoGroup self.old }
         ensures taken { (talk : Talk) (text : List ℕ) (given : List (List ℕ)) → StandsAt talk self.old
@@ -35,6 +36,9 @@ impl<D: Disk> Server<D> {
         ensures waiters { KeepsWaiters self.new }
     {
         for _i in 0..GROUP_LINES {
+            if !self.has_room() {
+                return false;
+            }
             if !lines.next_line() {
                 return false;
             }
@@ -44,6 +48,18 @@ impl<D: Disk> Server<D> {
             }
         }
         false
+    }
+
+    // Whether there is room for one answer more, whatever it is: its first line, a line at the end of each wait, and one for each part.
+    fn has_room(&self) -> bool
+        ensures { result ≡ true → length self.now.replies + length self.now.queue.waiters + length self.now.live.parts < MAX_REPLIES }
+    {
+        let ends = self.queue.waiting().len() as u64;
+        let listed = u64::from(self.live.core().parts_left());
+        (self.replies.len() as u64)
+            .saturating_add(ends)
+            .saturating_add(listed)
+            < MAX_REPLIES
     }
 
     /// Answers a group of the lines at hand: decides them, makes their grants stable, and puts the answers. Or gives the status with which

@@ -78,6 +78,8 @@ impl<D: Disk> Server<D> {
                 let line = left_line(self.live.core().parts_left());
                 self.keep(line);
             }
+            Ask::Parts => self.list_parts(),
+            Ask::Jobs { request } => self.list_jobs(request),
             Ask::Nothing => {
                 let line = refused_line(self.asked.saturating_add(1));
                 self.keep(line);
@@ -108,7 +110,7 @@ impl<D: Disk> Server<D> {
         last_line(cell, session, self.counts.of(session), last)
     }
 
-    /// Keeps the answer to a line.
+    /// Keeps the answer to a line, or its first line.
     pub fn keep(&mut self, line: Line)
         requires short { length self.old.replies < MAX_REPLIES }
         ensures kept { self.new ≡ record self.old { replies = self.old.replies ++ line ∷ []; asked = line_number (self.old.asked + 1) } }

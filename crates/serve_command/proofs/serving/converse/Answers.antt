@@ -1,5 +1,5 @@
 -- The head, and then round after round.
-use Rattle.std.proofs.Common.{◌≡◌, ◌<◌, ℕ, [], ◌∷◌, Ok, length, ap, arith, inl, inr, map, refl, subst, sym, ◌∙◌, ◌++◌}
+use Rattle.std.proofs.Common.{◌<◌, ℕ, [], ◌∷◌, Ok, length, ap, arith, inl, inr, map, refl, subst, sym, ◌∙◌, ◌++◌}
 use Rattle.cell_base.specs.declared.cells.Cell.{Cell}
 use Rattle.input_lines.specs.Reading.{LinesState}
 use Rattle.lent_peers.specs.Beside.{IsBeside}
@@ -12,7 +12,6 @@ use Rattle.outside_io.specs.Puts.{TookAll, TookSome}
 use Rattle.record_text.specs.Lines.{head_words, line_of}
 use Rattle.serve_command.specs.Asks.{ask_of}
 use Rattle.serve_command.specs.Conversing.{IsConversing}
-use Rattle.serve_command.specs.Lives.{LivesTo}
 use Rattle.serve_command.specs.Rounds.{IsLastRound, IsRound}
 use Rattle.serve_command.specs.Talks.{opened, talk_after}
 use Rattle.serve_command.proofs.Conversing.{begins, head_is, input_kept, is_lost, none_is_ahead, not_begun, piece_comes, round_goes}

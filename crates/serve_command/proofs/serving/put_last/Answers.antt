@@ -1,5 +1,5 @@
 -- The lines of those that wait, and then the plan.
-use Rattle.std.proofs.Common.{◌≡◌, List, ℕ, ap, refl, subst, sym, ◌∙◌, ◌++◌}
+use Rattle.std.proofs.Common.{◌≡◌, List, ℕ, ap, refl, subst, ◌∙◌, ◌++◌}
 use Rattle.outside_io.specs.Causes.{Rose}
 use Rattle.outside_io.specs.PutLaws.{failed_after, failed_before, took_more}
 use Rattle.outside_io.specs.Puts.{TookAll, TookSome}

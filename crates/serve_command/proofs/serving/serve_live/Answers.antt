@@ -1,6 +1,5 @@
 -- The input has ended: what comes last is put.
 use Rattle.std.proofs.Common.{inr, subst, sym}
-use Rattle.lent_peers.specs.Beside.{IsBeside}
 use Rattle.peers.specs.Meanings.{peer_gave, peer_took}
 use Rattle.serve_command.specs.Conversing.{IsServedAfter, end_lines}
 use Rattle.serve_command.specs.Lives.{LivesTo}

@@ -1,6 +1,6 @@
 -- The queue is without the waiter of the session, if it had one.
 use Rattle.std.specs.Prelude.{Option, None, Some}
-use Rattle.std.proofs.Common.{List, [], ap, arith, refl, subst, sym, ◌∙◌}
+use Rattle.std.proofs.Common.{List, [], ap, refl, subst, sym, ◌∙◌}
 use Rattle.cell_base.proofs.Elements.{All-found, All-find_none}
 use Rattle.cell_base.specs.Fits.{RequestFits}
 use Rattle.wait_queue.specs.declared.waiter.Waiter.{Waiter}
@@ -9,7 +9,7 @@ use Rattle.wait_queue.proofs.Looks.{none-removed}
 use Rattle.serve_command.specs.Serving.{IsSaid}
 use Rattle.serve_command.specs.Talks.{Cancels, cancelled}
 use Rattle.serve_command.proofs.Answering.{kept_goes, kept_said}
-use Rattle.serve_command.proofs.Scanning.{taken_few, taken_kept}
+use Rattle.serve_command.proofs.Scanning.{taken_kept}
 use Rattle.serve_command.proofs.server.Server.cancel.Goals as goal
 
 pub tell_cancel-requires-clause-fits : goal.tell_cancel-requires-clause-fits
@@ -30,10 +30,7 @@ returns-in-Some-clause-answered g c = λ talk at.
     (c.in-Some.ensures.others ∙ ap (without_first (is_of_session session)) at.waiters) refl refl)
 
 pub returns-in-Some-clause-goes_on : goal.returns-in-Some-clause-goes_on
-returns-in-Some-clause-goes_on g c =
-    let old = c.args.self.now in
-    let few = taken_few old c.cancel.new.self (is_of_session c.args.session) c.in-Some.ensures.others in
-    kept_goes old c.tell_cancel.new.self c.cancel.new.self _ c.tell_cancel.ensures.kept (omega (arith, few))
+returns-in-Some-clause-goes_on g c = kept_goes c.args.self.now c.tell_cancel.new.self c.cancel.new.self _ c.tell_cancel.ensures.kept
 
 pub returns-in-Some-clause-waiters : goal.returns-in-Some-clause-waiters
 returns-in-Some-clause-waiters g c =
@@ -55,10 +52,7 @@ returns-in-None-clause-answered g c = λ talk at.
     (Cancels session None) talk.waiters at (same ∙ at.waiters) refl refl)
 
 pub returns-in-None-clause-goes_on : goal.returns-in-None-clause-goes_on
-returns-in-None-clause-goes_on g c =
-    let old = c.args.self.now in
-    let few = taken_few old c.cancel.new.self (is_of_session c.args.session) c.in-None.ensures.others in
-    kept_goes old c.tell_cancel-in-None.new.self c.cancel.new.self _ c.tell_cancel-in-None.ensures.kept (omega (arith, few))
+returns-in-None-clause-goes_on g c = kept_goes c.args.self.now c.tell_cancel-in-None.new.self c.cancel.new.self _ c.tell_cancel-in-None.ensures.kept
 
 pub returns-in-None-clause-waiters : goal.returns-in-None-clause-waiters
 returns-in-None-clause-waiters g c =

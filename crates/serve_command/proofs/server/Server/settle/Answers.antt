@@ -8,7 +8,7 @@ use Rattle.cell_base.specs.declared.shifts.Grant.{Grant}
 use Rattle.cell_base.specs.Histories.{grants}
 use Rattle.wait_queue.specs.declared.waiter.Waiter.{Waiter}
 use Rattle.wait_queue.specs.Waiting.{end_of, is_ready, waiting, without_first}
-use Rattle.wait_queue.specs.Watching.{AreFit, AreWatching}
+use Rattle.wait_queue.specs.Watching.{AreWatching}
 use Rattle.wait_queue.proofs.Looks.{none-removed}
 use Rattle.serve_command.specs.Answers.{ended_line}
 use Rattle.serve_command.proofs.Answering.{grants-few}

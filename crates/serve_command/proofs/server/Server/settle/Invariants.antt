@@ -14,7 +14,7 @@ invariant-loop-waiter g l = record {
   waiters : KeepsWaiters l.self;
   fits : l.self.live.len + length l.self.live.pending + length l.self.queue.waiters ≤ 1572864;
   spare : length l.self.queue.waiters ≤ l.self.live.spare;
-  short : length l.self.replies + length l.self.queue.waiters ≤ 5120;
+  short : length l.self.replies + length l.self.queue.waiters ≤ 9216;
 }
 
 abbrev pub decreases-loop-waiter : goal.decreases-loop-waiter

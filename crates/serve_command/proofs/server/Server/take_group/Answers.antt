@@ -1,5 +1,5 @@
 -- Line by line.
-use Rattle.std.proofs.Common.{List, ℕ, ap, arith, length, map, refl, subst, sym, ◌∙◌}
+use Rattle.std.proofs.Common.{List, ℕ, ap, arith, length, map, subst, sym, ◌∙◌}
 use Rattle.admission_core.specs.CoreState.{CoreState}
 use Rattle.serve_command.specs.Asks.{ask_of}
 use Rattle.serve_command.specs.Rounds.{IsAnsweredGroup, KeepsWaiters, Stays}
@@ -16,9 +16,18 @@ loop-i-init g c =
       goes_on = λ talk text given at reads. begins c.args.self.now ready talk text given c.args.lines.now at reads;
       stays = stays_same c.args.self.now;
       waiters = ready.waiters;
-      replies = omega (arith, none, ready.waiters.few);
       pending = omega (arith, none, ap (λ (gs : List _). length gs) ready.pending);
     }
+
+pub returns-then-not-has_room-clause-taken : goal.returns-then-not-has_room-clause-taken
+returns-then-not-has_room-clause-taken g c = λ talk text given at reads.
+    let so = c.loop-i.invariant.goes_on talk text given at reads in (so.0, so.1, so.2, omega (arith, so.3, c.loop-i-test.true))
+
+pub returns-then-not-has_room-clause-stays : goal.returns-then-not-has_room-clause-stays
+returns-then-not-has_room-clause-stays g c = c.loop-i.invariant.stays
+
+pub returns-then-not-has_room-clause-waiters : goal.returns-then-not-has_room-clause-waiters
+returns-then-not-has_room-clause-waiters g c = c.loop-i.invariant.waiters
 
 pub returns-then-not-next_line-clause-taken : goal.returns-then-not-next_line-clause-taken
 returns-then-not-next_line-clause-taken g c = λ talk text given at reads.
@@ -35,20 +44,20 @@ pub answer-requires-clause-ready : goal.answer-requires-clause-ready
 answer-requires-clause-ready g c =
     let so = c.loop-i.invariant in
     let ready = c.requires.ready in
+    let short = c.has_room.ensures c.if-not-has_room.false in
     record {
       runs = so.stays.runs ∙ ready.runs;
       room = so.stays.room ∙ ready.room;
       waiters = so.waiters;
       spare = omega (
         arith,
-        c.loop-i-test.true,
         so.stays.spare,
         so.pending,
-        so.replies,
+        short,
         ready.spare,
         ap (λ (gs : List _). length gs) ready.pending,
       );
-      short = omega (arith, c.loop-i-test.true, so.replies);
+      short = short;
     }
 
 pub returns-in-Err-clause-taken : goal.returns-in-Err-clause-taken
@@ -87,7 +96,6 @@ loop-i-preserved g c =
           (c.in_default.ensures.answered _ taken.1.at) goes line.2;
       stays = stays_more c.args.self.now _ c.answer.new.self so.stays goes.stays;
       waiters = c.in_default.ensures.waiters;
-      replies = omega (arith, so.replies, goes.few);
       pending = omega (arith, so.pending, goes.told);
     }
 
