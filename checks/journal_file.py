@@ -93,7 +93,7 @@ def granted(numbers, lines, shift):
     found = []
     for line in lines:
         words = line.split(" ")
-        if words[-1] == "granted" and words[0] != "why":
+        if words[-1] in ("granted", "served") and words[0] != "why":
             found.append(entry(numbers, " ".join(words[1:-1]), int(words[0]), shift))
     return found
 

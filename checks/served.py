@@ -8,6 +8,13 @@ import time
 
 from journal_file import Numbers, entries_in, entry, step_in
 
+# What a session is told of a step that doesn't wait.
+ANSWERS = "granted", "refused"
+# What it asks beside its steps, of its job, and while it waits; and how long it waits at most for a line before it does.
+QUESTIONS = "next", "room", "left", "job JOB", "why unload JOB"
+MEANWHILE = "cancel", "grants", "unload 4294967295", "wait unload 4294967295"
+WAIT_SECONDS = 0.03
+
 
 class Wrong:
     """What went otherwise, and how many kills and cases there were."""
@@ -171,17 +178,51 @@ class Session:
             self.place = 0 if self.place is None else self.place + 1
 
     def ask_on(self, server, stop):
-        """Asks one step after the other, and now and then how many were granted, until the server is gone or it is to stop."""
+        """Asks one step after the other, and now and then a question, until the server is gone or it is to stop. Every second step may wait."""
         while not stop.is_set():
             if self.chance.random() < 0.1 and not self.counts(server):
                 return
-            self.asked = self.step()
-            reply = server.asked(f"{self.number} {self.asked}")
+            if self.chance.random() < 0.1:
+                server.send(f"{self.chance.choice(QUESTIONS)}\n".replace("JOB", str(self.job)).encode())
+            self.asked, may_wait = self.step(), self.chance.random() < 0.5
+            reply = server.asked(f"{self.number} {'wait ' * may_wait}{self.asked}")
+            if may_wait and self.is_told(reply, "waits"):
+                reply = self.wait_on(server, stop)
             if reply is None:
                 return
-            if not reply.startswith(f"{self.number} {self.asked} "):
+            if not self.is_told(reply, *ANSWERS) or may_wait and self.is_told(reply, "refused saturated"):
                 self.faults.append(f"asked {self.asked}, and told {reply}")
             self.take(reply)
+
+    def is_told(self, line, *words):
+        """Whether a line says of the step that was asked one of these words."""
+        return line is not None and line.startswith(tuple(f"{self.number} {self.asked} {word}" for word in words))
+
+    def wait_on(self, server, stop):
+        """Waits, and meanwhile asks now and then, which it may not, or gives up: what came of the step, or None where nothing came."""
+        heard, end, due = server.hear(str(self.number)), None, 0
+        while end is None or due:
+            try:
+                line = heard.get(timeout=self.chance.uniform(0, WAIT_SECONDS))
+            except queue.Empty:
+                if stop.is_set() and not due:
+                    return None
+                if end is None and self.chance.random() < 0.5:
+                    server.send(f"{self.number} {self.chance.choice(MEANWHILE)}\n".encode())
+                    due += 1
+                continue
+            if line is None:
+                heard.put(None)
+                return end
+            if self.is_told(line, "served", "dropped"):
+                end = line.replace(" served", " granted").replace(" dropped ", " refused ")
+            elif line == f"{self.number} cancel {self.asked}":
+                end, due = f"{self.number} {self.asked} refused cancelled", due - 1
+            elif line.split(" ")[1] in ("cancel", "grants", "unload"):
+                due -= 1
+            else:
+                self.faults.append(f"{self.asked} waits, and told {line}")
+        return end
 
     def counts(self, server):
         """Asks how many steps were granted, and which was the last; after a kill that may be the one that was asked before it. Whether the

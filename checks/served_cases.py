@@ -2,14 +2,18 @@
 import errno
 import os
 import pathlib
+import re
 import signal
 import socket
+import statistics
 import subprocess
 import sys
 import time
+from concurrent.futures import ThreadPoolExecutor
 
 from journal_file import granted, journal
-from served import CellFile, Server, within
+from referee import MOST_WAITERS, Referee
+from served import CellFile, Server, servers_of, within
 
 HERE = pathlib.Path(__file__).resolve().parent
 sys.path.insert(0, str(HERE.parent / "examples"))
@@ -64,6 +68,50 @@ TALK = [
     ("5 grants", "0"),
 ]
 TAIL = ["left 1", "plan 3", "move 8", "process M1", "unload 8"]
+# Lines of sessions that wait, with what is told of each, from the empty cell on. The unload lets two go on, one after the other.
+WAITS = [
+    ("1 load 7 Z", ["1 load 7 Z granted"]),
+    ("2 wait load 8 Z", ["2 load 8 Z waits saturated M2 1 of 1"]),
+    ("3 wait load 9 A", ["3 load 9 A waits saturated M2 1 of 1"]),
+    ("4 load 9 A", ["4 load 9 A refused saturated M2 1 of 1"]),
+    ("2 load 8 Z", ["2 load 8 Z refused already-waiting"]),
+    ("2 wait load 8 A", ["2 load 8 A refused already-waiting"]),
+    ("2 place 8 Z 0 done", ["2 place 8 Z 0 done refused already-waiting"]),
+    ("2 grants", ["2 grants 0"]),
+    ("4 cancel", ["4 cancel none"]),
+    ("3 cancel", ["3 cancel load 9 A"]),
+    ("3 cancel", ["3 cancel none"]),
+    ("3 wait move 7", ["3 move 7 refused not-processed"]),
+    ("3 wait load 9 Z", ["3 load 9 Z waits saturated M2 1 of 1"]),
+    ("1 process M2", ["1 process M2 granted"]),
+    ("1 wait move 7", ["1 move 7 granted", "2 load 8 Z served"]),
+    ("2 grants", ["2 grants 1"]),
+    ("2 last", ["2 last 1 load 8 Z"]),
+    ("2 process M2", ["2 process M2 granted"]),
+    ("2 wait move 8", ["2 move 8 waits saturated M1 1 of 1"]),
+    ("1 process M1", ["1 process M1 granted"]),
+    ("1 unload 7", ["1 unload 7 granted", "2 move 8 served", "3 load 9 Z served"]),
+    ("5 wait load 10 Z", ["5 load 10 Z waits saturated M2 1 of 1"]),
+    ("6 wait load 11 Z", ["6 load 11 Z waits saturated M2 1 of 1"]),
+    ("7 wait load 10 A", ["7 load 10 A waits saturated M1 1 of 1"]),
+    ("2 process M1", ["2 process M1 granted"]),
+    ("2 unload 8", ["2 unload 8 granted"]),
+    ("4 place 10 Z 1 waiting", ["4 place 10 Z 1 waiting granted", "5 load 10 Z dropped job-loaded", "7 load 10 A dropped job-loaded"]),
+    ("5 cancel", ["5 cancel none"]),
+    ("3 process M2", ["3 process M2 granted"]),
+    ("3 wait move 9", ["3 move 9 waits saturated M1 1 of 1"]),
+]
+STILL = ["6 load 11 Z still saturated M2 1 of 1", "3 move 9 still saturated M1 1 of 1",
+         "left 2", "plan 5", "process M1", "unload 10", "move 9", "process M1", "unload 9"]
+# The same, and the cell is empty again, and nobody waits.
+WAITS_ROUND = [
+    *WAITS,
+    ("6 cancel", ["6 cancel load 11 Z"]),
+    ("4 process M1", ["4 process M1 granted"]),
+    ("4 unload 10", ["4 unload 10 granted", "3 move 9 served"]),
+    ("3 process M1", ["3 process M1 granted"]),
+    ("3 unload 9", ["3 unload 9 granted"]),
+]
 # The first of these lines that is granted.
 LOADS = TALK.index(("1 load 7 A", "granted"))
 # The talk, and the cell is empty again.
@@ -78,7 +126,9 @@ GARBAGE = [
     b"room 1", b"job", b"job ", b"job 07", b"job 7 A", b"job A", b"job 4294967296", b"1 job 7",
     b"1 grants 0", b"1 grant", b"grants", b"0 grants", b"65536 grants",
     b"1 left", b"left 0", b"Left", b"left ", b"why", b"why ", b"why left", b"why 1 load 7 A", b"why place 7 A 0 done", b"1 why load 7 A",
-    b"1 load 7 A granted", b"plan", b"plan 0", b"drain", b"exit", b"quit", b"help", b"\0", b"1 load 7 A\0", b"\xff\xfe",
+    b"1 wait", b"1 wait ", b"wait load 7 A", b"0 wait load 7 A", b"1 wait wait load 7 A", b"1  wait load 7 A", b"1 wait place 7 A 0 done",
+    b"1 wait grants", b"1 wait left", b"1 wait load 7 A 1", b"1 Wait load 7 A", b"why wait load 7 A", b"cancel", b"0 cancel", b"1 cancel 0",
+    b"1 cancel load 7 A", b"1 Cancel", b"1 load 7 A served", b"1 load 7 A granted", b"plan", b"plan 0", b"drain", b"exit", b"quit", b"help", b"\0", b"1 load 7 A\0", b"\xff\xfe",
     b"1 load 7 \xc3\x84", b"\x1b[A", b"shift 0 after 0", b"line refused 1", b"1 load " + b"7" * 60 + b" A", b"x" * 65, b"x" * 66,
     b"x" * 67, b"1 load 7 A" + b"A" * 4096, b"9" * 1_000_000, b"1 load 7 A" + b"\0" * 1_000_000,
 ]
@@ -127,6 +177,59 @@ def talks(wrong, cell, folder):
     server = Server(cell, folder / "line by line")
     wrong.see("the talk line by line", [server.asked(line) for line, _ in TALK], told(TALK))
     server.end()
+
+
+def told_of(lines):
+    """What is told of lines with waits."""
+    return [line for _, all_told in lines for line in all_told]
+
+
+def waits(wrong, cell, folder):
+    """Sessions wait: at once, in pieces of some sizes, and up to each line, where the input ends or the server is killed."""
+    for piece in (1_000_000, 1, 2, 3, 7, 66, 67, 68):
+        file = folder / f"pieces of {piece}"
+        server = Server(cell, file)
+        for at in range(0, len(sent(WAITS)), piece):
+            server.send(sent(WAITS)[at : at + piece])
+            time.sleep(0.0002)
+        wanted = 0, ["shift 0 after 0", *told_of(WAITS), *STILL]
+        wrong.see(f"waits in pieces of {piece}", (server.end(), server.lines), wanted)
+        wrong.see(f"their journal, in pieces of {piece}", cell.entries(file), granted(cell.numbers, told_of(WAITS), 0))
+    for count in range(len(WAITS)):
+        file, referee = folder / f"{count} lines", Referee(cell.text)
+        for line in told_of(WAITS[:count]):
+            referee.hear(line)
+        wanted = 0, text_of(["shift 0 after 0", *told_of(WAITS[:count]), *referee.last_lines()])
+        wrong.see(f"{count} lines with waits", cell.served(file, sent(WAITS[:count])), wanted)
+        file.unlink()
+        server = Server(cell, file)
+        for line, all_told in WAITS[:count]:
+            server.send(f"{line}\n".encode())
+        within(10, lambda: len(server.lines) > len(told_of(WAITS[:count])))
+        server.kill()
+        server.end()
+        wrong.see(f"killed after {count} lines with waits", server.lines[1:], told_of(WAITS[:count]))
+        grants = len(granted(cell.numbers, told_of(WAITS[:count]), 0))
+        nobody = [f"{session} cancel none" for session in range(1, 8)]
+        status, text = cell.served(file, "".join(f"{session} cancel\n" for session in range(1, 8)).encode())
+        wrong.see(f"nobody waits after the kill after {count} lines", (status, text.splitlines()[:8]), (0, [f"shift 0 after {grants}", *nobody]))
+
+
+def many_wait(wrong, cell, folder):
+    """So many sessions wait as may, and one more. Each is served when its turn has come, or told that it waits still."""
+    store = folder / "store.toml"
+    store.write_text('version = 1\n[[resource]]\nname = "R"\ncapacity = 1\n[[type]]\nname = "K"\nroute = ["R:hold"]\n')
+    first, last, full = 2, MOST_WAITERS + 1, "saturated R 1 of 1"
+    asked = ["1 load 1 K", *(f"{one} wait load {one} K" for one in range(first, last + 1)), f"{last + 1} wait load {last + 1} K", "1 unload 1",
+             f"{last + 1} wait load {last + 1} K", *(f"{one} unload {one}" for one in range(first, first + 10))]
+    wanted = ["shift 0 after 0", "1 load 1 K granted", *(f"{one} load {one} K waits {full}" for one in range(first, last + 1)),
+              f"{last + 1} load {last + 1} K refused waiters-full", "1 unload 1 granted", f"{first} load {first} K served",
+              f"{last + 1} load {last + 1} K waits {full}"]
+    for one in range(first, first + 10):
+        wanted += [f"{one} unload {one} granted", f"{one + 1} load {one + 1} K served"]
+    wanted += [*(f"{one} load {one} K still {full}" for one in range(first + 11, last + 2)), "left 1", "plan 1", f"unload {first + 10}"]
+    found = CellFile(cell.program, store).served(folder / "journal", text_of(asked).encode())
+    wrong.see(f"{MOST_WAITERS} sessions wait", found, (0, text_of(wanted)))
 
 
 def cuts(wrong, cell, folder):
@@ -285,14 +388,17 @@ def statuses(wrong, cell, folder):
 
 
 def full_journals(wrong, cell, folder):
-    """A journal takes so many grants that a drain has room after them."""
+    """A journal takes so many grants that a drain has room after them, and while sessions wait one less for each of them."""
     file, most = folder / "journal", 1_572_864
     step = ["1 load 7 A", "2 process M1", "1 move 7", "2 process M2", "1 unload 7"]
     turn = [cell.entry(int(one[0]), one[2:]) for one in step]
     entries = (turn * (most // len(turn) + 1))[: most - 1]
     file.write_bytes(journal(cell.text, entries))
-    server = Server(cell, file)
     last, over = step[(most - 1) % 5], step[most % 5]
+    found = cell.served(file, f"3 wait load 8 Z\n1 unload 9\n{last}\nleft\n".encode())
+    wanted = [f"shift 0 after {most - 1}", "3 load 8 Z waits saturated M2 1 of 1", "1 unload 9 refused no-such-job", f"journal refused 4 {most + 1}"]
+    wrong.see("a journal with room for one grant, and a session that waits", found, (6, text_of(wanted)))
+    server = Server(cell, file)
     wrong.see("a journal with room for one grant", server.head, f"shift 0 after {most - 1}")
     wrong.see("the last grant", server.asked(last), f"{last} granted")
     wrong.see("a refusal after it", server.asked("1 unload 9"), "1 unload 9 refused no-such-job")
@@ -321,38 +427,101 @@ def sockets(wrong, cell, folder):
 
 
 def dispatched(wrong, cell, folder):
-    """Two programs ask one server through the dispatcher of the examples."""
+    """Two programs ask one server through the dispatcher of the examples. Each has sessions of its own, and who waits is told there."""
     places, file = (folder / "socket", folder / "second"), folder / "journal"
     words = [[sys.executable, HERE.parent / "examples/dispatcher.py", place, cell.program, cell.path, file] for place in places]
     dispatcher = subprocess.Popen(words[0])
-    connections = [socket.socket(socket.AF_UNIX), socket.socket(socket.AF_UNIX)]
-    for one in connections:
-        wrong.see("a program connects", within(10, lambda: one.connect_ex(str(places[0])) == 0), True)
-    programs = [one.makefile("rw") for one in connections]
-    for number, (line, reply) in enumerate([*TALK, ("please", "")]):
-        program = programs[number % 2]
-        print(line, file=program, flush=True)
-        wrong.see(f"{line} through the dispatcher", program.readline(), f"{line} {reply}\n" if reply else "line refused\n")
+    programs = [Program(wrong, places[0]) for _ in range(2)]
+    for line, reply in [*TALK, ("please", "")]:
+        program = programs[line[0] in "24"]
+        wrong.see(f"{line} through the dispatcher", program.asked(line), f"{line} {reply}" if reply else "line refused")
+    for line in ("2 unload 8", "2 grants", "2 last", "2 cancel", "2 wait unload 8"):
+        wrong.see(f"{line} of another program", programs[0].asked(line), f"{line.replace(' wait', '')} refused session-taken")
+    full = "waits saturated M2 1 of 1"
+    wrong.see("a program waits", programs[0].asked("1 wait load 9 Z"), f"1 load 9 Z {full}")
+    wrong.see("another program waits", programs[1].asked("4 wait load 10 Z"), f"4 load 10 Z {full}")
+    programs[0].close()
+    programs[0] = Program(wrong, places[0])
+    wrong.see("a session of a program that comes again", programs[0].asked("1 grants"), "1 grants 3")
+    wrong.see("a wait of a program that is gone", programs[0].asked("1 cancel"), "1 cancel none")
+    wrong.see("it waits again", programs[0].asked("1 wait load 9 Z"), f"1 load 9 Z {full}")
+    wrong.see("it gives up", programs[0].asked("1 cancel"), "1 cancel load 9 Z")
+    wrong.see("the first to wait is served", programs[1].asked("2 move 8"), "2 move 8 granted")
+    wrong.see("it is told", programs[1].hears(), "4 load 10 Z served")
+    wrong.see("it waits once more", programs[1].asked("4 wait load 11 Z"), f"4 load 11 Z {full}")
+    for server in servers_of(file):
+        os.kill(server, signal.SIGKILL)
+    wrong.see("a connection that waits ends with its server", programs[1].hears(), "")
+    programs[1].close()
+    programs[1] = Program(wrong, places[0])
+    wrong.see("it counts", programs[1].asked("4 last"), "4 last 4 load 10 Z")
     second = subprocess.run(words[1], stderr=subprocess.PIPE, check=False)
     wrong.see("a second dispatcher", (second.returncode, b"device fault" in second.stderr), (7, True))
     dispatcher.terminate()
     wrong.see("a dispatcher that is told to end", dispatcher.wait(), 0)
     wrong.see("its server has ended before it", cell.told("plan", file)[0], 0)
     wrong.see("its socket is gone", places[0].exists(), False)
-    wrong.see("its journal", cell.entries(file), granted(cell.numbers, told(TALK), 0))
-    for one in (*programs, *connections):
-        one.close()
+    more = ["2 move 8 granted", "4 load 10 Z granted"]
+    wrong.see("its journal", cell.entries(file), granted(cell.numbers, [*told(TALK), *more], 0))
+    for program in programs:
+        program.close()
+
+
+class Program:
+    """A program that is connected to a dispatcher."""
+
+    def __init__(self, wrong, place):
+        self.end = socket.socket(socket.AF_UNIX)
+        wrong.see("a program connects", within(10, lambda: self.end.connect_ex(str(place)) == 0), True)
+        self.file = self.end.makefile("rw", newline="\n")
+
+    def asked(self, line):
+        """The reply to a line."""
+        print(line, file=self.file, flush=True)
+        return self.hears()
+
+    def hears(self):
+        """The next line, and an empty text where the connection has ended."""
+        return self.file.readline().rstrip("\n")
+
+    def close(self):
+        self.file.close()
+        self.end.close()
 
 
 def asked_in_python(wrong, cell, folder):
-    """The client in Python asks the questions."""
+    """The client in Python asks the questions, and waits."""
     file = folder / "journal"
-    with Cell(cell.program, "serve", str(cell.path), str(file)) as asked:
+    with Cell(cell.program, "serve", str(cell.path), str(file)) as asked, ThreadPoolExecutor() as threads:
         wrong.see("its questions at first", (asked.next(), asked.room(), asked.last(1), asked.where(9)), (None, 1_572_864, (0, None), None))
         wrong.see("a part that was put in", asked.ask(1, "place 9 A 1 waiting"), "granted")
         found = asked.next(), asked.room(), asked.last(1), asked.where(9), asked.seen
         wrong.see("its questions then", found, ("process M2", 1_572_863, (1, "place 9 A 1 waiting"), ("A", 1, "M2", False), 1))
-    wrong.see("its journal", cell.entries(file), [cell.entry(1, "place 9 A 1 waiting")])
+        asked.cancel(2)
+        wrong.see("a wait for nothing but room", asked.wait(2, "move 9"), "refused not-processed")
+        steps = ((2, "load 7 Z"), (3, "load 8 A"), (4, "load 10 A"), (5, "load 11 A"))
+        load, dropped, cancelled, closed = (threads.submit(asked.wait, *step) for step in steps)
+        wrong.see("four wait", within(10, lambda: len(asked.ends) == 4), True)
+        asked.cancel(4)
+        wrong.see("a wait that is cancelled", cancelled.result(10), "refused cancelled")
+        wrong.see("another session puts the part in", asked.ask(1, "place 8 Z 1 waiting"), "granted")
+        wrong.see("a wait that is dropped", dropped.result(10), "refused job-loaded")
+        wrong.see("room is made", [asked.ask(1, step) for step in ("process M2", "unload 9")], ["granted"] * 2)
+        wrong.see("a wait that is served", (load.result(10), asked.last(2), asked.seen), ("granted", (1, "load 7 Z"), 5))
+        asked.close()
+        wrong.see("a wait at the end", closed.result(10), "refused saturated M1 1 of 1")
+    steps = ["1 place 9 A 1 waiting", "1 place 8 Z 1 waiting", "1 process M2", "1 unload 9", "2 load 7 Z"]
+    wrong.see("its journal", cell.entries(file), [cell.entry(int(step[0]), step[2:]) for step in steps])
+
+
+def workshop(wrong, cell, folder):
+    """The workshop of the examples makes at most 430 requests for its 252 steps, as the median of nine runs."""
+    refused = []
+    for number in range(9):
+        words = [sys.executable, HERE.parent / "examples/live_workshop.py", cell.program, folder / str(number)]
+        lines = subprocess.run(words, stdout=subprocess.PIPE, text=True, check=True).stdout
+        refused.append(int(re.fullmatch("252 steps granted, ([0-9]+) refused\nleft 0\nplan 0\n", lines)[1]))
+    wrong.see(f"the workshop, refused {sorted(refused)}", 252 + statistics.median(refused) <= 430, True)
 
 
 def library_of(folder, name):
@@ -387,18 +556,19 @@ def interrupted(wrong, cell, folder):
 
 def memory(wrong, cell, folder):
     """A server asks for no memory after its head line: as often on many lines as on none."""
-    library = library_of(folder, "refuse_nth")
-    counts = [served_under(cell, folder / str(count), sent(ROUND) * count, LD_PRELOAD=library)[2] for count in (0, 1, 1000)]
+    library, lines = library_of(folder, "refuse_nth"), sent([*ROUND, *WAITS_ROUND])
+    counts = [served_under(cell, folder / str(count), lines * count, LD_PRELOAD=library)[2] for count in (0, 1, 1000)]
     wrong.see("how often memory is asked for", counts, [counts[0]] * 3)
 
 
 def order_of_writes(wrong, cell, folder):
-    """No line `granted` is written before the sync that makes its grant stable, and lines that wait together share their syncs."""
+    """No line `granted` or `served` is written before the sync that makes its grant stable, and lines that come together share their syncs."""
     library, trace = library_of(folder, "fail_nth"), folder / "trace"
-    for name, count in (("a few lines", 1), ("many lines", 200)):
-        file, lines = folder / name, sent(ROUND) * count
+    for name, lines, replies in (("a few lines", sent(ROUND), told(ROUND)), ("many lines", sent(ROUND) * 200, told(ROUND) * 200),
+                                 ("waits", sent(WAITS_ROUND), told_of(WAITS_ROUND))):
+        file = folder / name
         status, text, _ = served_under(cell, file, lines, LD_PRELOAD=library, TRACE=str(trace), WRITES="1")
-        wrong.see(f"{name}: the status and the replies", (status, text.count("\n")), (0, 3 + len(ROUND) * count))
+        wrong.see(f"{name}: the status and the replies", (status, text.count("\n")), (0, 3 + len(replies)))
         grants = len(cell.entries(file))
         stable, syncs = stable_before_told(trace.read_text(), text, 13 + len(cell.text))
         wrong.see(f"{name}: each grant is stable before it is told", stable, grants)
@@ -426,11 +596,11 @@ def stable_before_told(trace, text, gate):
             while lines and rest >= len(lines[0]):
                 line = lines.pop(0)
                 rest -= len(line)
-                grants += line.endswith(" granted\n") and not line.startswith("why ")
+                grants += line.endswith((" granted\n", " served\n")) and not line.startswith("why ")
                 if grants > stable:
                     return f"told {grants}, stable {stable}", syncs
     return grants, syncs
 
 
-CASES = [talks, cuts, garbage, longest, many, slow_clients, beside, statuses, full_journals, sockets, dispatched, asked_in_python, interrupted,
-         memory, order_of_writes]
+CASES = [talks, waits, many_wait, cuts, garbage, longest, many, slow_clients, beside, statuses, full_journals, sockets, dispatched,
+         asked_in_python, workshop, interrupted, memory, order_of_writes]

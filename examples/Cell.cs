@@ -6,6 +6,7 @@ using System.Diagnostics;
 using System.IO;
 using System.Linq;
 using System.Text;
+using System.Text.RegularExpressions;
 using System.Threading;
 using System.Threading.Tasks;
 
@@ -14,6 +15,7 @@ using System.Threading.Tasks;
 /// using (var cell = new Cell("wishkabe", "serve", "cell.toml", "journal"))
 /// {
 ///     string reply = cell.Ask(1, "load 7 A"); // "granted", or "refused saturated M2 1 of 1"
+///     reply = cell.Wait(1, "move 7"); // it waits while there is no room: "granted", or "refused not-processed"
 /// }
 /// </code></example>
 /// <remarks>A `Cell` is a running server with the pipes to it. Threads may share one: each asks under session numbers of its own, from 1
@@ -43,7 +45,9 @@ public sealed class Cell : IDisposable
 
     private readonly string arguments;
     private readonly ConcurrentDictionary<int, long> taken = new ConcurrentDictionary<int, long>();
+    private readonly ConcurrentDictionary<int, bool> waits = new ConcurrentDictionary<int, bool>();
     private readonly ConcurrentQueue<Waiting> waiting = new ConcurrentQueue<Waiting>();
+    private readonly Dictionary<string, Waiting> ends = new Dictionary<string, Waiting>(); // by the session
     private readonly object sending = new object();
     private readonly Thread reader;
     private long seen;
@@ -67,19 +71,18 @@ public sealed class Cell : IDisposable
     public Cell(params string[] command) : this(0, command) { }
 
     /// <summary>Asks for a step of a session: `granted` or `refused WHY`.</summary>
-    public string Ask(int session, string step)
+    public string Ask(int session, string step) => Take(session, $"{session} {step}");
+    /// <summary>The same, but it waits while there is no room. A refusal has another reason then, or `Cancel` or `End` ended the wait.</summary>
+    public string Wait(int session, string step)
     {
-        // A call that ends by an exception leaves no count, and the next one asks for it.
-        if (!taken.TryRemove(session, out long before)) before = Grants(session);
-        string reply = Say($"{session} {step}");
-        while (reply == null)
-        {
-            long now = Grants(session);
-            if (now < before || now > before + 1) throw new SharedSessionException($"another client asks as session {session}");
-            reply = now > before ? "granted" : Say($"{session} {step}");
-        }
-        taken[session] = reply == "granted" ? before + 1 : before;
-        return reply;
+        waits[session] = true;
+        try { return Take(session, $"{session} wait {step}"); } finally { waits.TryRemove(session, out bool _); }
+    }
+    /// <summary>Gives up what a session waits for: its `Wait` in another thread answers `refused cancelled`, or what it was told.</summary>
+    public void Cancel(int session)
+    {
+        // Where nobody waits, the server doesn't have the line of that call yet, or has it no more.
+        while ((Say($"{session} cancel") ?? "none") == "none" && waits.ContainsKey(session)) Thread.Sleep(1);
     }
     /// <summary>How many steps of a session were granted. A client with a list of steps goes on after so many of them.</summary>
     public long Grants(int session) => long.Parse(Told($"{session} grants"));
@@ -90,12 +93,12 @@ public sealed class Cell : IDisposable
     /// <summary>How many grants the journal has, as far as the replies tell.</summary>
     public long Seen => Interlocked.Read(ref seen);
 
-    /// <summary>The reply to a line, after the line's own words. Null: the server was killed before it came, and is started again.</summary>
+    /// <summary>The reply to a line, after its words, or how its wait ended. Null: the server was killed before, and is started again.</summary>
     public string Say(string line)
     {
         byte[] sent = new UTF8Encoding(false).GetBytes(line + "\n");
-        if (sent.Length > 65 || line.Contains("\n")) throw new NoRequestException(line);
-        var reply = new Waiting { Words = line + " " };
+        if (sent.Length > 67 || line.Contains("\n")) throw new NoRequestException(line);
+        var reply = new Waiting { Words = Regex.Replace(line, "^([0-9]+) wait ", "$1 ") + " " };
         lock (sending)
         {
             if (stopped != null) throw stopped;
@@ -106,7 +109,7 @@ public sealed class Cell : IDisposable
         }
         string said = reply.Task.GetAwaiter().GetResult();
         if (said != null && Begins(said, "line refused ")) throw new NoRequestException(line);
-        return said?.Substring(line.Length + 1);
+        return said?.Substring(reply.Words.Length);
     }
 
     /// <summary>Ends the conversation, and answers its last lines: how many parts are left, and the plan that brings them out.</summary>
@@ -122,6 +125,22 @@ public sealed class Cell : IDisposable
 
     private static bool Begins(string line, string with) => line.StartsWith(with, StringComparison.Ordinal);
     private static bool Ends(string line, string with) => line.EndsWith(with, StringComparison.Ordinal);
+
+    /// <summary>Says a line of a session until it is known what came of its step.</summary>
+    private string Take(int session, string line)
+    {
+        // A call that ends by an exception leaves no count, and the next one asks for it.
+        if (!taken.TryRemove(session, out long before)) before = Grants(session);
+        string reply = Say(line);
+        while (reply == null)
+        {
+            long now = Grants(session);
+            if (now < before || now > before + 1) throw new SharedSessionException($"another client asks as session {session}");
+            reply = now > before ? "granted" : Say(line);
+        }
+        taken[session] = reply == "granted" ? before + 1 : before;
+        return reply;
+    }
 
     /// <summary>The reply to a line that changes nothing, and so may be said again after a kill.</summary>
     private string Told(string line) => Say(line) ?? Told(line);
@@ -169,17 +188,7 @@ public sealed class Cell : IDisposable
         {
             lines = new List<string>();
             for (string line; (line = ReadLine()) != "";)
-            {
-                bool isReply = waiting.TryPeek(out Waiting first) && (Begins(line, first.Words) || Begins(line, "line refused "));
-                if (!isReply || !Ends(line, "\n") || Ends(line, " halted\n"))
-                {
-                    lines.Add(line.TrimEnd());
-                    continue;
-                }
-                if (Ends(line, " granted\n") && !Begins(line, "why ")) Interlocked.Increment(ref seen);
-                waiting.TryDequeue(out first);
-                first.SetResult(line.TrimEnd());
-            }
+                if (!Ends(line, "\n") || !HandOut(line.TrimEnd())) lines.Add(line.TrimEnd());
             lock (sending)
             {
                 child.WaitForExit();
@@ -187,9 +196,37 @@ public sealed class Cell : IDisposable
                 if (!isClosing || status != 0) stopped = new StoppedException(status, lines.LastOrDefault() ?? "");
                 if (!isClosing && status > 128) try { Start(); stopped = null; } catch (StoppedException fault) { stopped = fault; }
                 isOver = isClosing || stopped != null;
+                foreach (Waiting ended in ends.Values) waiting.Enqueue(ended);
+                ends.Clear();
                 while (waiting.TryDequeue(out Waiting one))
                     if (stopped != null) one.SetException(stopped); else one.SetResult(null);
             }
         }
+    }
+
+    /// <summary>Hands out a line that is a reply, or the end of a wait. Whether it is one.</summary>
+    private bool HandOut(string line)
+    {
+        string session = line.Split(' ')[0];
+        bool isWaiting = ends.TryGetValue(session, out Waiting wait);
+        if (isWaiting && Begins(line, wait.Words) && Regex.IsMatch(line.Substring(wait.Words.Length), "^(served$|dropped |still )"))
+        {
+            string end = line.Substring(wait.Words.Length);
+            if (end == "served") Interlocked.Increment(ref seen);
+            ends.Remove(session);
+            wait.SetResult(wait.Words + (end == "served" ? "granted" : "refused" + end.Substring(end.IndexOf(' '))));
+            return true;
+        }
+        bool isReply = waiting.TryPeek(out Waiting first) && (Begins(line, first.Words) || Begins(line, "line refused "));
+        if (!isReply || line == first.Words + "halted") return false;
+        waiting.TryDequeue(out first);
+        if (line == first.Words + "granted" && !Begins(line, "why ")) Interlocked.Increment(ref seen);
+        if (isWaiting && first.Words == session + " cancel " && line != first.Words + "none")
+        {
+            ends.Remove(session);
+            wait.SetResult(wait.Words + "refused cancelled");
+        }
+        if (Begins(line, first.Words + "waits ") && session != "job") ends[session] = first; else first.SetResult(line);
+        return true;
     }
 }

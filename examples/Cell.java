@@ -12,6 +12,7 @@ import java.util.concurrent.atomic.AtomicLong;
  * <pre>{@code
  * try (Cell cell = new Cell("wishkabe", "serve", "cell.toml", "journal")) {
  *     String reply = cell.ask(1, "load 7 A"); // "granted", or "refused saturated M2 1 of 1"
+ *     reply = cell.wait(1, "move 7"); // it waits while there is no room: "granted", or "refused not-processed"
  * }
  * }</pre>
  *
@@ -42,7 +43,9 @@ public final class Cell implements AutoCloseable {
 
     private final List<String> command = new ArrayList<>();
     private final Map<Integer, Long> taken = new ConcurrentHashMap<>();
+    private final Set<Integer> waits = ConcurrentHashMap.newKeySet();
     private final Queue<Map.Entry<String, CompletableFuture<Optional<String>>>> waiting = new ConcurrentLinkedQueue<>();
+    private final Map<String, Map.Entry<String, CompletableFuture<Optional<String>>>> ends = new HashMap<>(); // by the session
     private final AtomicLong seen = new AtomicLong();
     private final Object sending = new Object();
     private final CompletableFuture<List<String>> end = new CompletableFuture<>();
@@ -66,16 +69,21 @@ public final class Cell implements AutoCloseable {
 
     /** Asks for a step of a session: {@code granted} or {@code refused WHY}. */
     public String ask(int session, String step) throws StoppedException, InterruptedException {
-        Long count = taken.remove(session); // a call that ends by an exception leaves no count, and the next one asks for it
-        long before = count != null ? count : grants(session);
-        Optional<String> reply = say(session + " " + step);
-        while (reply.isEmpty()) {
-            long now = grants(session);
-            if (now < before || now > before + 1) throw new SharedSessionException("another client asks as session " + session);
-            reply = now > before ? Optional.of("granted") : say(session + " " + step);
+        return take(session, session + " " + step);
+    }
+    /** The same, but it waits while there is no room. A refusal has another reason then, or {@link #cancel} or {@link #end} ended it. */
+    public String wait(int session, String step) throws StoppedException, InterruptedException {
+        waits.add(session);
+        try {
+            return take(session, session + " wait " + step);
+        } finally {
+            waits.remove(session);
         }
-        taken.put(session, reply.get().equals("granted") ? before + 1 : before);
-        return reply.get();
+    }
+    /** Gives up what a session waits for: its {@code wait} in another thread answers {@code refused cancelled}, or what it was told. */
+    public void cancel(int session) throws StoppedException, InterruptedException {
+        // Where nobody waits, the server doesn't have the line of that call yet, or has it no more.
+        while (say(session + " cancel").orElse("none").equals("none") && waits.contains(session)) Thread.sleep(1);
     }
 
     /** How many steps of a session were granted. A client with a list of steps goes on after so many of them. */
@@ -87,22 +95,23 @@ public final class Cell implements AutoCloseable {
     /** How many grants the journal has, as far as the replies tell. */
     public long seen() { return seen.get(); }
 
-    /** The reply to a line, after the line's own words. Empty: the server was killed before it came, and is started again. */
+    /** The reply to a line, after its words, or how its wait ended. Empty: the server was killed before, and is started again. */
     public Optional<String> say(String line) throws StoppedException, InterruptedException {
         byte[] sent = (line + "\n").getBytes(StandardCharsets.UTF_8);
-        if (sent.length > 65 || line.contains("\n")) throw new NoRequestException(line);
+        if (sent.length > 67 || line.contains("\n")) throw new NoRequestException(line);
+        String words = line.replaceFirst("^(\\d+) wait ", "$1 ") + " ";
         CompletableFuture<Optional<String>> reply = new CompletableFuture<>();
         synchronized (sending) {
             if (stopped != null) throw stopped;
             if (isClosing) throw new StoppedException(0, "the conversation is closed");
-            waiting.add(Map.entry(line + " ", reply));
+            waiting.add(Map.entry(words, reply));
             input.write(sent, 0, sent.length);
             input.flush();
         }
         try {
             Optional<String> said = reply.get();
             if (said.isPresent() && said.get().startsWith("line refused ")) throw new NoRequestException(line);
-            return said.map(text -> text.substring(line.length() + 1));
+            return said.map(text -> text.substring(words.length()));
         } catch (ExecutionException fault) {
             throw (StoppedException) fault.getCause();
         }
@@ -120,6 +129,20 @@ public final class Cell implements AutoCloseable {
     }
     /** The same. Who wants to know how the conversation ended calls {@link #end} before. */
     @Override public void close() { try { end(); } catch (StoppedException ended) { } }
+
+    /** Says a line of a session until it is known what came of its step. */
+    private String take(int session, String line) throws StoppedException, InterruptedException {
+        Long count = taken.remove(session); // a call that ends by an exception leaves no count, and the next one asks for it
+        long before = count != null ? count : grants(session);
+        Optional<String> reply = say(line);
+        while (reply.isEmpty()) {
+            long now = grants(session);
+            if (now < before || now > before + 1) throw new SharedSessionException("another client asks as session " + session);
+            reply = now > before ? Optional.of("granted") : say(line);
+        }
+        taken.put(session, reply.get().equals("granted") ? before + 1 : before);
+        return reply.get();
+    }
 
     /** The reply to a line that changes nothing, and so may be said again after a kill. */
     private String told(String line) throws StoppedException, InterruptedException {
@@ -168,13 +191,7 @@ public final class Cell implements AutoCloseable {
         for (boolean isOver = false; !isOver; ) {
             List<String> lines = new ArrayList<>();
             for (String line; !(line = readLine()).isEmpty(); ) {
-                boolean isReply = !waiting.isEmpty() && (line.startsWith(waiting.peek().getKey()) || line.startsWith("line refused "));
-                if (isReply && line.endsWith("\n") && !line.endsWith(" halted\n")) {
-                    if (line.endsWith(" granted\n") && !line.startsWith("why ")) seen.incrementAndGet();
-                    waiting.remove().getValue().complete(Optional.of(line.stripTrailing()));
-                } else {
-                    lines.add(line.stripTrailing());
-                }
+                if (!line.endsWith("\n") || !handOut(line.stripTrailing())) lines.add(line.stripTrailing());
             }
             synchronized (sending) {
                 int status = child.onExit().join().exitValue();
@@ -188,6 +205,8 @@ public final class Cell implements AutoCloseable {
                     }
                 }
                 isOver = isClosing || stopped != null;
+                waiting.addAll(ends.values());
+                ends.clear();
                 for (var one = waiting.poll(); one != null; one = waiting.poll()) {
                     if (stopped != null) one.getValue().completeExceptionally(stopped);
                     else one.getValue().complete(Optional.empty());
@@ -195,5 +214,30 @@ public final class Cell implements AutoCloseable {
             }
             if (isOver) end.complete(lines);
         }
+    }
+
+    /** Hands out a line that is a reply, or the end of a wait. Whether it is one. */
+    private boolean handOut(String line) {
+        String session = line.split(" ")[0];
+        var first = ends.get(session);
+        String words = first == null ? line : first.getKey();
+        if (line.startsWith(words) && line.substring(words.length()).matches("served|dropped .*|still .*")) {
+            if (line.equals(words + "served")) seen.incrementAndGet();
+            String end = line.substring(words.length()).replaceFirst("^served$", "granted").replaceFirst("^(dropped|still) ", "refused ");
+            ends.remove(session).getValue().complete(Optional.of(words + end));
+            return true;
+        }
+        first = waiting.peek();
+        words = first == null ? line : first.getKey();
+        if (first == null || !line.startsWith(words) && !line.startsWith("line refused ") || line.equals(words + "halted")) return false;
+        waiting.remove();
+        if (line.equals(words + "granted") && !words.startsWith("why ")) seen.incrementAndGet();
+        if (words.equals(session + " cancel ") && !line.equals(words + "none") && ends.containsKey(session)) {
+            var ended = ends.remove(session);
+            ended.getValue().complete(Optional.of(ended.getKey() + "refused cancelled"));
+        }
+        if (line.startsWith(words + "waits ") && !words.startsWith("job ")) ends.put(session, first);
+        else first.getValue().complete(Optional.of(line));
+        return true;
     }
 }

@@ -2,6 +2,7 @@
 //
 //     wishkabe::Cell cell({"wishkabe", "serve", "cell.toml", "journal"});
 //     std::string reply = cell.ask(1, "load 7 A");  // "granted", or "refused saturated M2 1 of 1"
+//     reply = cell.wait(1, "move 7");  // it waits while there is no room: "granted", or "refused not-processed"
 //
 // A `Cell` is a running server with a socket to it. Threads may share one: each asks under session numbers of its own, from 1 to 65,535,
 // and one step of a session at a time, so that no step is lost or taken twice. Where the server is killed it is started again, and the
@@ -14,6 +15,7 @@
 
 #include <atomic>
 #include <cerrno>
+#include <chrono>
 #include <cstdint>
 #include <cstdio>
 #include <deque>
@@ -21,6 +23,7 @@
 #include <map>
 #include <mutex>
 #include <optional>
+#include <set>
 #include <stdexcept>
 #include <string>
 #include <thread>
@@ -53,21 +56,22 @@ class Cell {
   ~Cell() { try { close(); } catch (const std::exception&) {} }
 
   /// Asks for a step of a session: `granted` or `refused WHY`.
-  std::string ask(unsigned session, const std::string& step) {
-    const std::string line = std::to_string(session) + " " + step;
-    std::unique_lock lock(state_);
-    const auto taken = taken_.extract(session);  // a call that ends by an exception leaves no count, and the next one asks for it
-    lock.unlock();
-    const std::uint64_t before = taken ? taken.mapped() : grants(session);
-    Reply reply = say(line);
-    while (!reply) {
-      const std::uint64_t now = grants(session);
-      if (now < before || now > before + 1) throw SharedSession("another client asks: " + line);
-      reply = now > before ? Reply("granted") : say(line);
-    }
-    lock.lock();
-    taken_[session] = before + (*reply == "granted");
-    return *reply;
+  std::string ask(unsigned session, const std::string& step) { return take(session, " " + step); }
+  /// The same, but it waits while there is no room. A refusal has another reason then, or `cancel` or `close` ended the wait.
+  std::string wait(unsigned session, const std::string& step) {
+    struct Call {
+      Call(Cell& of, unsigned one) : cell(of), session(one) { const std::lock_guard lock(cell.state_); cell.waits_.insert(session); }
+      ~Call() { const std::lock_guard lock(cell.state_); cell.waits_.erase(session); }
+      Cell& cell;
+      const unsigned session;
+    } call(*this, session);
+    return take(session, " wait " + step);
+  }
+  /// Gives up what a session waits for: its `wait` in another thread answers `refused cancelled`, or what it was told before.
+  void cancel(unsigned session) {
+    // Where nobody waits, the server doesn't have the line of that call yet, or has it no more.
+    while (say(std::to_string(session) + " cancel").value_or("none") == "none" && is_waiting(session))
+      std::this_thread::sleep_for(std::chrono::milliseconds(1));
   }
   /// How many steps of a session were granted. A client with a list of steps goes on after so many of them.
   std::uint64_t grants(unsigned session) { return std::stoull(told(std::to_string(session) + " grants")); }
@@ -78,20 +82,22 @@ class Cell {
   /// How many grants the journal has, as far as the replies tell.
   std::uint64_t seen() const { return seen_; }
 
-  /// The reply to a line, after the line's own words. None: the server was killed before it came, and is started again.
+  /// The reply to a line, after its words, or how its wait ended. None: the server was killed before, and is started again.
   std::optional<std::string> say(const std::string& line) {
-    if (line.size() > 64 || line.find('\n') != line.npos) throw NoRequest(line);
+    if (line.size() > 66 || line.find('\n') != line.npos) throw NoRequest(line);
     std::unique_lock sending(sending_), state(state_, std::defer_lock);
     if (stopped_) std::rethrow_exception(stopped_);
     state.lock();
-    std::future<Reply> reply = waiting_.emplace_back(line + " ", std::promise<Reply>()).second.get_future();
+    std::string words = line + " ";
+    if (const std::size_t at = line.find(' '); line.compare(at == line.npos ? 0 : at, 6, " wait ") == 0) words.erase(at, 5);
+    std::future<Reply> reply = waiting_.emplace_back(words, std::promise<Reply>()).second.get_future();
     state.unlock();
     const std::string sent = line + "\n";
     while (send(socket_, sent.data(), sent.size(), MSG_NOSIGNAL) < 0 && errno == EINTR) continue;
     sending.unlock();
     const Reply said = reply.get();
     if (said && begins(*said, "line refused ")) throw NoRequest(line);
-    return said ? Reply(said->substr(line.size() + 1)) : said;
+    return said ? Reply(said->substr(words.size())) : said;
   }
 
   /// Ends the conversation, and answers its last lines: how many parts are left, and the plan that brings them out.
@@ -106,8 +112,28 @@ class Cell {
 
  private:
   using Reply = std::optional<std::string>;
+  using Waiting = std::pair<std::string, std::promise<Reply>>;  // the words with which its reply begins
   static bool begins(const std::string& line, const std::string& with) { return line.compare(0, with.size(), with) == 0; }
-  static bool ends(const std::string& line, const std::string& with) { return line.find(with, line.size() - with.size()) != line.npos; }
+
+  /// Says a line of a session until it is known what came of its step.
+  std::string take(unsigned session, const std::string& words) {
+    const std::string line = std::to_string(session) + words;
+    std::unique_lock lock(state_);
+    const auto taken = taken_.extract(session);  // a call that ends by an exception leaves no count, and the next one asks for it
+    lock.unlock();
+    const std::uint64_t before = taken ? taken.mapped() : grants(session);
+    Reply reply = say(line);
+    while (!reply) {
+      const std::uint64_t now = grants(session);
+      if (now < before || now > before + 1) throw SharedSession("another client asks: " + line);
+      reply = now > before ? Reply("granted") : say(line);
+    }
+    lock.lock();
+    taken_[session] = before + (*reply == "granted");
+    return *reply;
+  }
+
+  bool is_waiting(unsigned session) { const std::lock_guard lock(state_); return waits_.count(session) > 0; }
 
   /// The reply to a line that changes nothing, and so may be said again after a kill.
   std::string told(const std::string& line) { for (;;) if (const Reply reply = say(line)) return *reply; }
@@ -165,14 +191,8 @@ class Cell {
   void read_replies() {
     for (bool is_over = false; !is_over;) {
       std::string line;
-      for (lines_.clear(); read_line(line);) {
-        const std::lock_guard lock(state_);
-        const bool is_reply = !waiting_.empty() && (begins(line, waiting_.front().first) || begins(line, "line refused "));
-        if (!is_reply || ends(line, " halted")) { lines_.push_back(line); continue; }
-        seen_ += ends(line, " granted") && !begins(line, "why ");
-        waiting_.front().second.set_value(line);
-        waiting_.pop_front();
-      }
+      for (lines_.clear(); read_line(line);)
+        if (!hand_out(line)) lines_.push_back(line);
       if (!line.empty()) lines_.push_back(line);
       const std::lock_guard sending(sending_);
       const bool is_closing = bool(stopped_);
@@ -180,14 +200,45 @@ class Cell {
       if (!is_closing || status_ != 0) stopped_ = std::make_exception_ptr(Stopped(status_, lines_.empty() ? "" : lines_.back()));
       if (!is_closing && status_ > 128) try { start(); stopped_ = nullptr; } catch (const Stopped&) { stopped_ = std::current_exception(); }
       is_over = bool(stopped_);
-      for (; !waiting_.empty(); waiting_.pop_front())
+      for (auto& one : ends_) waiting_.push_back(std::move(one.second));
+      for (ends_.clear(); !waiting_.empty(); waiting_.pop_front())
         is_over ? waiting_.front().second.set_exception(stopped_) : waiting_.front().second.set_value({});
     }
   }
 
+  /// Hands out a line that is a reply, or the end of a wait. Whether it is one.
+  bool hand_out(const std::string& line) {
+    const std::lock_guard lock(state_);
+    const std::string session = line.substr(0, line.find(' '));
+    const auto wait = ends_.find(session);
+    if (wait != ends_.end() && begins(line, wait->second.first)) {
+      const std::string words = wait->second.first, end = line.substr(words.size());
+      if (const bool is_served = end == "served"; is_served || begins(end, "dropped ") || begins(end, "still ")) {
+        seen_ += is_served;
+        wait->second.second.set_value(words + (is_served ? "granted" : "refused" + end.substr(end.find(' '))));
+        ends_.erase(wait);
+        return true;
+      }
+    }
+    if (waiting_.empty()) return false;
+    const std::string words = waiting_.front().first;
+    if (!(begins(line, words) || begins(line, "line refused ")) || line == words + "halted") return false;
+    seen_ += line == words + "granted" && !begins(line, "why ");
+    if (wait != ends_.end() && words == session + " cancel " && line != words + "none") {
+      wait->second.second.set_value(wait->second.first + "refused cancelled");
+      ends_.erase(wait);
+    }
+    if (begins(line, words + "waits ") && session != "job") ends_.emplace(session, std::move(waiting_.front()));
+    else waiting_.front().second.set_value(line);
+    waiting_.pop_front();
+    return true;
+  }
+
   std::vector<std::string> command_, lines_;
   std::map<unsigned, std::uint64_t> taken_;
-  std::deque<std::pair<std::string, std::promise<Reply>>> waiting_;
+  std::set<unsigned> waits_;
+  std::deque<Waiting> waiting_;
+  std::map<std::string, Waiting> ends_;  // of the sessions that wait there
   std::atomic<std::uint64_t> seen_;
   std::mutex sending_, state_;  // a line may block while it is sent, and replies are handed out meanwhile
   std::exception_ptr stopped_;

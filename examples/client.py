@@ -2,6 +2,7 @@
 
     with Cell("wishkabe", "serve", "cell.toml", "journal") as cell:
         reply = cell.ask(1, "load 7 A")  # "granted", or "refused saturated M2 1 of 1"
+        reply = cell.wait(1, "move 7")  # it waits while there is no room: "granted", or "refused not-processed"
 
 A `Cell` is a running server with the pipes to it. Threads may share one: each asks under session numbers of its own, from 1 to 65,535,
 and one step of a session at a time. Where the server is killed it is started again, and the steps that wait for their replies go on.
@@ -10,8 +11,17 @@ It needs Python 3.9 or later.
 import collections
 import os
 import queue
+import re
 import subprocess
 import threading
+import time
+
+ENDS = "served", "dropped", "still"  # how a wait ends
+
+
+def words_of(line):
+    """The words with which the reply to a line begins: its own, but for `wait`."""
+    return re.sub("^([0-9]+) wait ", r"\1 ", line)
 
 
 class Stopped(Exception):
@@ -39,6 +49,7 @@ class Cell:
         """Starts the server by these words. Its journal has to have `at_least` so many grants: the `seen` of an earlier run."""
         self.command, self.lock, self.is_closing = command, threading.Lock(), False
         self.waiting, self.taken, self.stopped = collections.deque(), {}, None
+        self.waits, self.ends = set(), {}  # the sessions in a call of `wait`, and those that the server lets wait
         self.seen = at_least  # how many grants the journal has, as far as the replies tell
         self._start()
         self.reader = threading.Thread(target=self._read, daemon=True)
@@ -52,18 +63,21 @@ class Cell:
 
     def ask(self, session, step):
         """Asks for a step of a session: `granted` or `refused WHY`."""
-        before = self.taken.pop(session, None)  # whoever breaks this call off leaves no count, and the next one asks for it
-        if before is None:
-            before = self.grants(session)
-        while (reply := self.say(f"{session} {step}")) is None:
-            now = self.grants(session)
-            if now not in (before, before + 1):
-                raise SharedSession(f"session {session} has {now} grants, and had {before}")
-            if now > before:
-                reply = "granted"
-                break
-        self.taken[session] = before + (reply == "granted")
-        return reply
+        return self._take(session, lambda: self.say(f"{session} {step}"))
+
+    def wait(self, session, step):
+        """The same, but where there is no room it waits until others have made some. A refusal then has another reason, or `cancel` or
+        `close` has ended the wait."""
+        self.waits.add(session)
+        try:
+            return self._take(session, lambda: self._wait(f"{session} wait {step}"))
+        finally:
+            self.waits.discard(session)
+
+    def cancel(self, session):
+        """Gives up what a session waits for: its `wait` in another thread answers `refused cancelled`, or what it was told before."""
+        while self.say(f"{session} cancel") in (None, "none") and session in self.waits:
+            time.sleep(0.001)  # the server doesn't have its line yet, or has it no more
 
     def grants(self, session):
         """How many steps of a session were granted. A client with a list of steps goes on after so many of them."""
@@ -101,25 +115,26 @@ class Cell:
         return int(self._told("room"))
 
     def say(self, line):
-        """The reply to a line, after the line's own words. None: the server was killed before it came, and is started again."""
-        sent = f"{line}\n".encode()
-        if len(sent) > 67 or "\n" in line:
-            raise NoRequest(line)
-        reply = queue.SimpleQueue()
+        """The reply to a line, after its words. None: the server was killed before it came, and is started again."""
+        return next(self._replies(line))
+
+    def send(self, line, told):
+        """Sends a line. The thread that reads calls `told` with what `say` answers or raises, and after `waits WHY` once more with how the
+        wait ends: `served`, `dropped WHY`, `still WHY`, `cancelled`, or None or `Stopped` where the server ended before."""
+        sent, fault = f"{line}\n".encode(), None
         with self.lock:
-            if self.stopped or self.is_closing:
-                raise self.stopped or Stopped(0, "the conversation is closed")
-            self.waiting.append((f"{line} ", reply))
-            try:
-                os.write(self.child.stdin.fileno(), sent)
-            except OSError:
-                pass  # the server has ended, and the reader comes to the end of its lines
-        said = reply.get()
-        if said is None and self.stopped:
-            raise self.stopped
-        if said and said.startswith("line refused "):
-            raise NoRequest(line)
-        return said and said.removeprefix(f"{line} ")
+            if len(sent) > 67 or "\n" in line:
+                fault = NoRequest(line)
+            elif self.stopped or self.is_closing:
+                fault = self.stopped or Stopped(0, "the conversation is closed")
+            else:
+                self.waiting.append((line, told))
+                try:
+                    os.write(self.child.stdin.fileno(), sent)
+                except OSError:
+                    pass  # the server has ended, and the reader comes to the end of its lines
+        if fault:
+            told(fault)
 
     def close(self):
         """Ends the conversation, and answers its last lines: how many parts are left, and the plan that brings them out."""
@@ -130,6 +145,40 @@ class Cell:
         if self.stopped.args[0] != 0:
             raise self.stopped
         return self.lines
+
+    def _take(self, session, say):
+        """Says a step of a session until it is known what came of it."""
+        before = self.taken.pop(session, None)  # whoever breaks this call off leaves no count, and the next one asks for it
+        if before is None:
+            before = self.grants(session)
+        while (reply := say()) is None:
+            now = self.grants(session)
+            if now not in (before, before + 1):
+                raise SharedSession(f"session {session} has {now} grants, and had {before}")
+            if now > before:
+                reply = "granted"
+                break
+        self.taken[session] = before + (reply == "granted")
+        return reply
+
+    def _wait(self, line):
+        """The reply to a line with `wait`, and where that waits how it ends. None: the server was killed before."""
+        replies = self._replies(line)
+        reply = next(replies)
+        if reply and reply.startswith("waits "):
+            end = next(replies)
+            reply = "granted" if end == "served" else end and f"refused {end.split(' ', 1)[-1]}"
+        return reply
+
+    def _replies(self, line):
+        """Yields what is told of a line."""
+        replies = queue.SimpleQueue()
+        self.send(line, replies.put)
+        while True:
+            said = replies.get()
+            if isinstance(said, Exception):
+                raise said
+            yield said
 
     def _told(self, line):
         """The reply to a line that changes nothing, and so may be said again after a kill."""
@@ -164,15 +213,10 @@ class Cell:
         while not self.stopped:
             self.lines = []
             for line in map(bytes.decode, self.child.stdout):
-                words = self.waiting[0][0] if self.waiting else None
-                is_reply = words and line.startswith((words, "line refused "))
-                if is_reply and line.endswith("\n") and line != f"{words}halted\n":
-                    self.seen += line == f"{words}granted\n" and not line.startswith("why ")
-                    self.waiting.popleft()[1].put(line.rstrip("\n"))
-                else:
+                if not line.endswith("\n") or not self._hand_out(line.rstrip("\n")):
                     self.lines.append(line.rstrip("\n"))
             with self.lock:
-                waiting, self.waiting = self.waiting, collections.deque()
+                lost, self.waiting, self.ends = [*self.waiting, *self.ends.values()], collections.deque(), {}
                 self.stopped = Stopped(self.child.wait(), self.lines[-1] if self.lines else "")
                 if self.child.returncode < 0 and not self.is_closing:
                     try:
@@ -180,5 +224,26 @@ class Cell:
                         self.stopped = None
                     except Stopped as stopped:
                         self.stopped = stopped
-            for _, reply in waiting:
-                reply.put(None)
+            for _, told in lost:
+                told(self.stopped)
+
+    def _hand_out(self, said):
+        """Hands out a line that is a reply, or the end of a wait. Whether it is one."""
+        session = said.split(" ")[0]
+        if session in self.ends and (end := said.removeprefix(self.ends[session][0])).split(" ")[0] in ENDS:
+            self.seen += end == "served"
+            self.ends.pop(session)[1](end)
+            return True
+        line, told = self.waiting[0] if self.waiting else ("", None)
+        words = f"{words_of(line)} "
+        if not told or not said.startswith((words, "line refused ")) or said == f"{words}halted":
+            return False
+        self.waiting.popleft()
+        reply = said.removeprefix(words)
+        self.seen += reply == "granted" and not line.startswith("why ")
+        if line == f"{session} cancel" and reply != "none" and session in self.ends:
+            self.ends.pop(session)[1]("cancelled")
+        if words != f"{line} " and reply.startswith("waits "):
+            self.ends[session] = words, told
+        told(NoRequest(line) if said.startswith("line refused ") else reply)
+        return True

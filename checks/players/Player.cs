@@ -8,12 +8,18 @@ using System.Threading;
 /// <summary>Plays sessions through `examples/Cell.cs`: Player AT_LEAST SCRIPT COMMAND.. (see checks/clients)</summary>
 internal static class Player
 {
-    /// <summary>Asks for the steps of a session in turn, each until it is granted.</summary>
+    private static readonly string[] Done = { "granted", "refused cancelled" };
+
+    /// <summary>Asks for the steps of a session in turn, each until it is granted or given up. One of an even number waits for room; the step
+    /// `cancel K` lets session K wait no longer.</summary>
     private static void Go(Cell cell, int session, IReadOnlyList<string> steps)
     {
         for (long at = cell.Grants(session); at < steps.Count; at++)
         {
-            for (int rest = 1; cell.Ask(session, steps[(int)at]) != "granted"; rest = Math.Min(2 * rest, 100)) Thread.Sleep(rest);
+            Func<int, string, string> ask = session % 2 == 0 ? (Func<int, string, string>)cell.Wait : cell.Ask;
+            string step = steps[(int)at];
+            if (step.StartsWith("cancel ")) cell.Cancel(int.Parse(step.Substring(7)));
+            else for (int rest = 1; !Done.Contains(ask(session, step)); rest = Math.Min(2 * rest, 100)) Thread.Sleep(rest);
         }
     }
 

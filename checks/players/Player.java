@@ -13,13 +13,25 @@ import java.util.concurrent.Future;
 
 /** Plays sessions through {@code examples/Cell.java}: Player AT_LEAST SCRIPT COMMAND.. (see checks/clients) */
 final class Player {
-    /** Asks for the steps of a session in turn, each until it is granted. */
+    /**
+     * Asks for the steps of a session in turn, each until it is granted or given up. One of an even number waits for room; the step
+     * {@code cancel K} lets session K wait no longer.
+     */
     private static void go(Cell cell, int session, List<String> steps) throws Exception {
         for (long at = cell.grants(session); at < steps.size(); at++) {
-            for (int rest = 1; !cell.ask(session, steps.get((int) at)).equals("granted"); rest = Math.min(2 * rest, 100)) {
+            for (int rest = 1; !take(cell, session, steps.get((int) at)); rest = Math.min(2 * rest, 100)) {
                 Thread.sleep(rest);
             }
         }
+    }
+
+    private static boolean take(Cell cell, int session, String step) throws Exception {
+        if (step.startsWith("cancel ")) {
+            cell.cancel(Integer.parseInt(step.substring(7)));
+            return true;
+        }
+        String reply = session % 2 == 0 ? cell.wait(session, step) : cell.ask(session, step);
+        return reply.equals("granted") || reply.equals("refused cancelled");
     }
 
     /** All sessions at the same time. The first exception of one of them comes out. */

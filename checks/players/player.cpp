@@ -10,10 +10,17 @@ using namespace wishkabe;
 
 namespace {
 
-/// Asks for the steps of a session in turn, each until it is granted.
+bool take(Cell& cell, unsigned session, const std::string& step) {
+  if (step.rfind("cancel ", 0) == 0) return cell.cancel(std::stoul(step.substr(7))), true;
+  const std::string reply = session % 2 == 0 ? cell.wait(session, step) : cell.ask(session, step);
+  return reply == "granted" || reply == "refused cancelled";
+}
+
+/// Asks for the steps of a session in turn, each until it is granted or given up. One of an even number waits for room; the step `cancel K`
+/// lets session K wait no longer.
 void go(Cell& cell, unsigned session, const std::vector<std::string>& steps) {
   for (std::uint64_t at = cell.grants(session); at < steps.size(); ++at) {
-    for (int rest = 1; cell.ask(session, steps[at]) != "granted"; rest = std::min(2 * rest, 100)) {
+    for (int rest = 1; !take(cell, session, steps[at]); rest = std::min(2 * rest, 100)) {
       std::this_thread::sleep_for(std::chrono::milliseconds(rest));
     }
   }

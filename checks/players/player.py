@@ -10,11 +10,16 @@ from client import Behind, Cell, NoRequest, SharedSession, Stopped  # noqa: E402
 
 
 def go(cell, session, steps, faults):
-    """Asks for the steps of a session in turn, each until it is granted."""
+    """Asks for the steps of a session in turn, each until it is granted or given up. One of an even number waits for room; the step `cancel K`
+    lets session K wait no longer."""
+    take = cell.wait if session % 2 == 0 else cell.ask
     try:
         for step in steps[cell.grants(session):]:
             rest = 0.001
-            while cell.ask(session, step) != "granted":
+            if step.startswith("cancel "):
+                cell.cancel(int(step.split(" ")[1]))
+                continue
+            while take(session, step) not in ("granted", "refused cancelled"):
                 time.sleep(rest)
                 rest = min(2 * rest, 0.1)
     except Exception as fault:
