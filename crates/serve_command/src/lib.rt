@@ -1,8 +1,8 @@
 //! `serve CELL JOURNAL`: one step at a time, durably, for software that asks while it runs.
 //!
-//! The command reads lines and answers each by one line, or by a list, in turn. A step that is granted is on the disk before its answer is put. The lines
-//! that are there when it reads are answered as one group, up to 512 of them: they are decided in turn, their grants are made stable by one
-//! pair of syncs, and then the answers are put. All memory is taken before the first line is put, and none after:
+//! The command reads lines and answers each by one line, or by a list, in turn. A step that is granted is on the disk before its answer is
+//! put. The lines that are there when it reads are answered as one group, up to 512 of them: they are decided in turn, their grants are made
+//! stable by one pair of syncs, and then the answers are put. All memory is taken before the first line is put, and none after:
 //!
 //! ```text
 //! shift 0 after 12          // ready, after twelve grants
