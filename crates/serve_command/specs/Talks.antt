@@ -66,6 +66,7 @@ entries_of_telling (Waits session request why) = entry_of session request (Answe
 entries_of_telling (Ends entry) = entry ∷ []
 entries_of_telling _ = []
 
+-- those of lines in turn
 abbrev pub entries_in : List Telling → List Entry
 entries_in [] = []
 entries_in (telling ∷ tellings) = entries_of_telling telling ++ entries_in tellings
