@@ -4,6 +4,11 @@
 //                                                         each, one in the air at each; and GROUPS groups of AIR grants go to a file: 17
 //                                                         bytes each are written and synced, and one byte more. Prints the seconds of each
 //                                                         server and of the file, added up over SLICES turns
+//   asking room CELL FOLDER SLICES GRANTS AIR PROGRAM PROGRAM
+//                                                         in turns, until GRANTS are told: AIR sessions load and unload a job each, and not
+//                                                         all have room in the cell. At the first server a load that is refused is asked
+//                                                         again at once, at the second it waits. Prints the seconds of both, added up over
+//                                                         SLICES turns, and how many lines were sent to each
 //   asking refused CELL FOLDER SLICES REQUESTS PROGRAM..  in turns: each server is asked for what is refused, REQUESTS times one after the
 //                                                         other. Prints for each the median of the microseconds from a line to its refusal
 //
@@ -21,6 +26,7 @@
 
 struct server {
   int to, from;
+  long said;
   size_t have, taken;
   char replies[1 << 16];
 };
@@ -152,6 +158,51 @@ static void rate(const char *folder, long slices, long groups, long air) {
   printf("%.6f\n", alone);
 }
 
+static const char *const loads[] = {"%ld load %ld K\n", "%ld wait load %ld K\n"};
+
+// A reply brings the next line of its session: after a grant the other step, and after a refusal the same one. Who waits says nothing.
+static double contend(struct server *server, long grants, int waits) {
+  static char lines[1 << 16];
+  double began = now();
+  while (grants > 0) {
+    size_t length = 0;
+    do {
+      long session;
+      char told[9], *line = reply(server);
+      int is_load = sscanf(line, "%ld load %*d K %8s", &session, told) == 2;
+      if (!is_load && sscanf(line, "%ld unload %*d %8s", &session, told) != 2)
+        fail(line);
+      int is_granted = !strcmp(told, "granted") || !strcmp(told, "served");
+      if (!is_granted && strcmp(told, waits ? "waits" : "refused"))
+        fail(line);
+      grants -= is_granted;
+      if (is_granted && is_load)
+        length += sprintf(lines + length, "%ld unload %ld\n", session, session);
+      else if (is_granted || !waits)
+        length += sprintf(lines + length, loads[waits], session, session);
+      server->said += is_granted || !waits;
+    } while (is_here(server) && length < sizeof lines / 2);
+    if (length)
+      send(server, lines, length);
+  }
+  return now() - began;
+}
+
+static void room(long slices, long grants, long air) {
+  static char lines[1 << 16];
+  double seconds[2] = {0};
+  for (int waits = 0; waits < 2; waits++) {
+    size_t length = 0;
+    for (long session = 1; session <= air; session++)
+      length += sprintf(lines + length, loads[waits], session, session);
+    send(&servers[waits], lines, length);
+  }
+  for (long slice = 0; slice < slices; slice++)
+    for (int waits = 0; waits < 2; waits++)
+      seconds[waits] += contend(&servers[waits], grants, waits);
+  printf("%.6f %.6f %ld %ld\n", seconds[0], seconds[1], servers[0].said, servers[1].said);
+}
+
 static int by_size(const void *left, const void *right) {
   double difference = *(const double *)left - *(const double *)right;
   return (difference > 0) - (difference < 0);
@@ -179,13 +230,16 @@ static void refused(long slices, long requests) {
 }
 
 int main(int count, char **words) {
-  int is_rate = count > 7 && !strcmp(words[1], "rate"), first = is_rate ? 7 : 6;
-  if (count <= first || count > first + MOST || (!is_rate && strcmp(words[1], "refused")))
+  const char *kind = count > 6 ? words[1] : "";
+  int is_rate = !strcmp(kind, "rate"), is_room = !strcmp(kind, "room"), first = is_rate || is_room ? 7 : 6;
+  if (count <= first || count > first + MOST || (is_room ? count != first + 2 : !is_rate && strcmp(kind, "refused")))
     fail("no words");
   for (int word = first; word < count; word++)
     start(words[word], words[2], words[3]);
   if (is_rate)
     rate(words[3], atol(words[4]), atol(words[5]), atol(words[6]));
+  else if (is_room)
+    room(atol(words[4]), atol(words[5]), atol(words[6]));
   else
     refused(atol(words[4]), atol(words[5]));
   int worst = 0;

@@ -1,4 +1,5 @@
 """Judges what a server says, line by line, by the rules of the policy and of the conversation: a plain recount, apart from the program."""
+import collections
 import tomllib
 
 MOST_GRANTS, MOST_WAITERS = 1_572_864, 4_096
@@ -76,6 +77,12 @@ class Parts:
         job, (stage, is_done) = min(self.parts.items(), key=rank)
         return f"process {self.places[stage][0]}" if not is_done else f"move {job}" if self.after[stage] else f"unload {job}"
 
+    def in_the_way(self, step):
+        """The jobs that stand in the way of a step: where a neighborhood is full for it, those that this one counts."""
+        why, _ = self.decide(step)
+        full = why.split(" ")[1] if why and why.startswith("saturated ") else None
+        return [job for job, (stage, _) in self.parts.items() if full in self.leads[stage]]
+
     def where(self, job):
         """Where the part of a job stands."""
         if job not in self.parts:
@@ -90,29 +97,36 @@ class Referee:
     def __init__(self, text):
         self.parts, self.grants, self.waiters = Parts(text), [], {}
         self.ready = None  # the first who waits and wouldn't be refused for want of room: nothing but the end of this wait may come
+        self.due = []  # of a list that is being told, the lines that are to come
         self.decided = []  # what came of each step since the server began, as a record has it
+        self.answered = collections.Counter()  # the questions that it has answered since then
 
     def go_on(self, grants):
         """A server begins on a journal of these grants, which has all that were told, and perhaps more. Nobody waits."""
         if grants[: len(self.grants)] != self.grants:
             raise ValueError(f"told {self.grants[-3:]}, and the journal has {grants[: len(self.grants)][-3:]}")
-        self.waiters, self.ready = {}, None
+        self.waiters, self.ready, self.due = {}, None, []
         for session, step in grants[len(self.grants) :]:
             if (why := self.decide(session, step)) != "granted":
                 raise ValueError(f"the journal has {session} {step}, which is {why}")
-        self.decided = []
+        self.decided, self.answered = [], collections.Counter()
 
     def hear(self, line):
         """A line in its turn. A ValueError where another one had to come."""
         words = line.split(" ")
-        wanted = self.end_of(*self.ready) if self.ready else self.answer(words) if words[0].isdigit() else self.told(words)
+        if self.due:
+            wanted = self.due.pop(0)
+        elif self.ready:
+            wanted = self.end_of(*self.ready)
+        else:
+            wanted = self.answer(words) if words[0].isdigit() else self.told(words)
         if line != wanted:
             raise ValueError(f"told {line}, and not {wanted}")
 
     def last_lines(self):
         """The lines after the end of the input: who waits still, what is left, and the plan."""
-        if self.ready:
-            raise ValueError(f"{self.ready} isn't told")
+        if self.ready or self.due:
+            raise ValueError(f"{self.ready or self.due} isn't told")
         still = [f"{session} {step} still {self.parts.decide(step)[0]}" for session, step in self.waiters.items()]
         parts, plan = self.parts.parts, []
         while (step := self.parts.next()) != "none":
@@ -122,20 +136,46 @@ class Referee:
         return [*still, f"left {len(parts)}", f"plan {len(plan)}", *plan]
 
     def told(self, words):
-        """The reply to a question."""
-        known = {"next": self.parts.next(), "room": MOST_GRANTS - len(self.grants), "left": len(self.parts.parts)}
-        if words[0] in known:
-            return f"{words[0]} {known[words[0]]}"
-        if words[0] == "job":
-            return f"job {words[1]} {self.parts.where(words[1])}"
-        step, _ = step_of(words[1:])
+        """The reply to a question. Of a list it is the first line, and the others are due."""
+        known = {"next": self.next, "job": self.parts.where, "why": self.why, "parts": self.all_parts, "jobs": self.jobs,
+                 "room": lambda: MOST_GRANTS - len(self.grants), "left": lambda: len(self.parts.parts)}
+        word, *about = question_in(words)
+        if word not in known:
+            raise ValueError(f"told {' '.join(words)}, which answers nothing")
+        self.answered[" ".join([word, *about])] += 1
+        return " ".join([word, *about, str(known[word](*about))])
+
+    def next(self):
+        """The next step of the plan, which would be granted."""
+        step = self.parts.next()
+        if step != "none" and (why := self.parts.decide(step)[0]):
+            raise ValueError(f"the next step of the plan is {step}, which is refused {why}")
+        return step
+
+    def why(self, step):
+        """What a step would be told."""
         why, _ = self.parts.decide(step)
-        return f"why {step} refused {why}" if why else f"why {step} granted"
+        return f"refused {why}" if why else "granted"
+
+    def all_parts(self):
+        """How many parts there are, whose lines are due."""
+        return self.listed("part", list(self.parts.parts))
+
+    def jobs(self, step):
+        """How many parts stand in the way of a step, whose lines are due."""
+        return self.listed("job", self.parts.in_the_way(step))
+
+    def listed(self, word, jobs):
+        """How many jobs there are. A line for each, with this word, is due."""
+        self.due = [f"{word} {job} {self.parts.where(job)}" for job in jobs]
+        return len(jobs)
 
     def answer(self, words):
         """The reply to a line of a session. It may wait or not where there is no room, as the line was."""
         session, what = words[:2]
         steps = [step for one, step in self.grants if one == session]
+        if what in ("grants", "last"):
+            self.answered[f"{session} {what}"] += 1
         if what == "grants":
             return f"{session} grants {len(steps)}"
         if what == "last":
@@ -167,6 +207,16 @@ class Referee:
         refused = ((one, self.parts.decide(one[1])[0]) for one in self.waiters.items())
         self.ready = next((one for one, why in refused if not (why or "").startswith("saturated ")), None)
         return answer
+
+
+def question_in(words):
+    """The question with which a reply to it begins: its word, and what it is about, if it is about something."""
+    word, *more = words
+    if word == "why":
+        return word, step_of(more)[0]
+    if word == "jobs":
+        return word, " ".join(more[:-1])  # a step, and how many they are
+    return words[:2] if word == "job" else words[:1]
 
 
 def step_of(words):

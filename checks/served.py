@@ -1,4 +1,5 @@
 """A server over pipes, and sessions that ask it and count what they were granted, apart from the client in `examples/`."""
+import collections
 import os
 import pathlib
 import queue
@@ -10,17 +11,24 @@ from journal_file import Numbers, entries_in, entry, step_in
 
 # What a session is told of a step that doesn't wait.
 ANSWERS = "granted", "refused"
-# What it asks beside its steps, of its job, and while it waits; and how long it waits at most for a line before it does.
-QUESTIONS = "next", "room", "left", "job JOB", "why unload JOB"
-MEANWHILE = "cancel", "grants", "unload 4294967295", "wait unload 4294967295"
+# What it asks beside its steps, of its job and of a step; what it says while it waits, and how long it waits at most for a line before it does.
+QUESTIONS = "parts", "jobs STEP", "next", "job JOB", "room", "left", "why STEP"
+MEANWHILE = "cancel", "grants", "last", "unload 4294967295", "wait unload 4294967295"
 WAIT_SECONDS = 0.03
 
 
+def kind_of(line):
+    """The kind of a question, as `jobs` or `K last`, and none of a line that is no question."""
+    first, *more = line.split(" ")
+    return first if not first.isdigit() else f"K {more[0]}" if more[0] in ("grants", "last") else None
+
+
 class Wrong:
-    """What went otherwise, and how many kills and cases there were."""
+    """What went otherwise, how many kills and cases there were, and how many questions of each kind were answered."""
 
     def __init__(self):
         self.kills = self.cases = self.otherwise = 0
+        self.answered = collections.Counter()
 
     def tell(self, name, what):
         """Something went otherwise."""
@@ -89,12 +97,12 @@ class CellFile:
 
 
 class Server:
-    """`serve` as a child. Its lines are handed out by their first word, and all of them are kept."""
+    """`serve` as a child. Its lines are handed out by their first word. All of them are kept, and the lines that are said to it."""
 
     def __init__(self, cell, file, **outside):
         self.child = subprocess.Popen([cell.program, "serve", cell.path, file], stdin=subprocess.PIPE, stdout=subprocess.PIPE,
                                       env=dict(os.environ, **outside))
-        self.lines, self.heard, self.is_gone, self.lock = [], {}, False, threading.Lock()
+        self.lines, self.said, self.heard, self.is_gone, self.lock = [], [], {}, False, threading.Lock()
         self.reader = threading.Thread(target=self._read, daemon=True)
         self.reader.start()
         self.head = self.hear("shift").get()
@@ -126,10 +134,15 @@ class Server:
         except BrokenPipeError:
             pass
 
+    def say(self, *lines):
+        """Sends lines, at most 4,096 bytes at once, between which another thread's can't come."""
+        self.said += lines
+        self.send("".join(f"{line}\n" for line in lines).encode())
+
     def asked(self, line):
         """The reply to a line, or None."""
         heard = self.hear(line.split(" ")[0])
-        self.send(f"{line}\n".encode())
+        self.say(line)
         return heard.get()
 
     def kill(self):
@@ -182,9 +195,10 @@ class Session:
         while not stop.is_set():
             if self.chance.random() < 0.1 and not self.counts(server):
                 return
-            if self.chance.random() < 0.1:
-                server.send(f"{self.chance.choice(QUESTIONS)}\n".replace("JOB", str(self.job)).encode())
-            self.asked, may_wait = self.step(), self.chance.random() < 0.5
+            step, may_wait = self.step(), self.chance.random() < 0.5
+            if self.chance.random() < 0.2:
+                server.say(self.question(step))
+            self.asked = step
             reply = server.asked(f"{self.number} {'wait ' * may_wait}{self.asked}")
             if may_wait and self.is_told(reply, "waits"):
                 reply = self.wait_on(server, stop)
@@ -194,12 +208,17 @@ class Session:
                 self.faults.append(f"asked {self.asked}, and told {reply}")
             self.take(reply)
 
+    def question(self, step):
+        """A question of the cell, of its job, or of a step."""
+        return self.chance.choice(QUESTIONS).replace("JOB", str(self.job)).replace("STEP", step)
+
     def is_told(self, line, *words):
         """Whether a line says of the step that was asked one of these words."""
         return line is not None and line.startswith(tuple(f"{self.number} {self.asked} {word}" for word in words))
 
     def wait_on(self, server, stop):
-        """Waits, and meanwhile asks now and then, which it may not, or gives up: what came of the step, or None where nothing came."""
+        """Waits, and meanwhile asks now and then, also for a step, which it may not, or gives up: what came of its own, or None where nothing
+        came."""
         heard, end, due = server.hear(str(self.number)), None, 0
         while end is None or due:
             try:
@@ -208,7 +227,7 @@ class Session:
                 if stop.is_set() and not due:
                     return None
                 if end is None and self.chance.random() < 0.5:
-                    server.send(f"{self.number} {self.chance.choice(MEANWHILE)}\n".encode())
+                    server.say(self.question(self.asked), f"{self.number} {self.chance.choice(MEANWHILE)}")
                     due += 1
                 continue
             if line is None:
@@ -218,7 +237,7 @@ class Session:
                 end = line.replace(" served", " granted").replace(" dropped ", " refused ")
             elif line == f"{self.number} cancel {self.asked}":
                 end, due = f"{self.number} {self.asked} refused cancelled", due - 1
-            elif line.split(" ")[1] in ("cancel", "grants", "unload"):
+            elif line.split(" ")[1] in ("cancel", "grants", "last", "unload"):
                 due -= 1
             else:
                 self.faults.append(f"{self.asked} waits, and told {line}")

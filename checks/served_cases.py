@@ -1,4 +1,5 @@
 """Cases of `serve` over real pipes: strange input, clients that are slow, gone or stopped, each status, and the order of the calls."""
+import collections
 import errno
 import os
 import pathlib
@@ -68,10 +69,18 @@ TALK = [
     ("5 grants", "0"),
 ]
 TAIL = ["left 1", "plan 3", "move 8", "process M1", "unload 8"]
-# Lines of sessions that wait, with what is told of each, from the empty cell on. The unload lets two go on, one after the other.
+# Lists after the talk.
+LISTED = [
+    ("parts", ["parts 1", "part 8 Z 0 M2 done"]),
+    ("jobs load 9 A", ["jobs load 9 A 1", "job 8 Z 0 M2 done"]),
+    ("jobs move 8", ["jobs move 8 0"]),
+]
+# Lines of sessions that wait, and lists, with what is told of each, from the empty cell on. The unload lets two go on, one after the other.
 WAITS = [
     ("1 load 7 Z", ["1 load 7 Z granted"]),
     ("2 wait load 8 Z", ["2 load 8 Z waits saturated M2 1 of 1"]),
+    ("jobs load 8 Z", ["jobs load 8 Z 1", "job 7 Z 0 M2 waiting"]),
+    ("jobs process M2", ["jobs process M2 0"]),
     ("3 wait load 9 A", ["3 load 9 A waits saturated M2 1 of 1"]),
     ("4 load 9 A", ["4 load 9 A refused saturated M2 1 of 1"]),
     ("2 load 8 Z", ["2 load 8 Z refused already-waiting"]),
@@ -85,6 +94,8 @@ WAITS = [
     ("3 wait load 9 Z", ["3 load 9 Z waits saturated M2 1 of 1"]),
     ("1 process M2", ["1 process M2 granted"]),
     ("1 wait move 7", ["1 move 7 granted", "2 load 8 Z served"]),
+    ("parts", ["parts 2", "part 7 Z 1 M1 waiting", "part 8 Z 0 M2 waiting"]),
+    ("jobs load 10 A", ["jobs load 10 A 1", "job 7 Z 1 M1 waiting"]),
     ("2 grants", ["2 grants 1"]),
     ("2 last", ["2 last 1 load 8 Z"]),
     ("2 process M2", ["2 process M2 granted"]),
@@ -216,10 +227,15 @@ def waits(wrong, cell, folder):
         wrong.see(f"nobody waits after the kill after {count} lines", (status, text.splitlines()[:8]), (0, [f"shift 0 after {grants}", *nobody]))
 
 
+def store_of(program, folder, places):
+    """A cell of one resource with so many places."""
+    file = folder / "store.toml"
+    file.write_text(f'version = 1\n[[resource]]\nname = "R"\ncapacity = {places}\n[[type]]\nname = "K"\nroute = ["R:hold"]\n')
+    return CellFile(program, file)
+
+
 def many_wait(wrong, cell, folder):
     """So many sessions wait as may, and one more. Each is served when its turn has come, or told that it waits still."""
-    store = folder / "store.toml"
-    store.write_text('version = 1\n[[resource]]\nname = "R"\ncapacity = 1\n[[type]]\nname = "K"\nroute = ["R:hold"]\n')
     first, last, full = 2, MOST_WAITERS + 1, "saturated R 1 of 1"
     asked = ["1 load 1 K", *(f"{one} wait load {one} K" for one in range(first, last + 1)), f"{last + 1} wait load {last + 1} K", "1 unload 1",
              f"{last + 1} wait load {last + 1} K", *(f"{one} unload {one}" for one in range(first, first + 10))]
@@ -229,8 +245,23 @@ def many_wait(wrong, cell, folder):
     for one in range(first, first + 10):
         wanted += [f"{one} unload {one} granted", f"{one + 1} load {one + 1} K served"]
     wanted += [*(f"{one} load {one} K still {full}" for one in range(first + 11, last + 2)), "left 1", "plan 1", f"unload {first + 10}"]
-    found = CellFile(cell.program, store).served(folder / "journal", text_of(asked).encode())
+    found = store_of(cell.program, folder, 1).served(folder / "journal", text_of(asked).encode())
     wrong.see(f"{MOST_WAITERS} sessions wait", found, (0, text_of(wanted)))
+
+
+def long_lists(wrong, cell, folder):
+    """Lists of five hundred parts, of which not all fit into one group, between the steps that change them; all is sent at once."""
+    count = 500
+    store = store_of(cell.program, folder, count)
+    loads = [f"1 load {job} K" for job in range(count)]
+    turns = [[f"jobs load {job + count} K", "parts", f"1 unload {job}", "parts", f"1 load {job + count} K"] for job in range(20)]
+    asked = [*loads, *(line for turn in turns for line in turn)]
+    status, text = store.served(folder / "journal", text_of(asked).encode())
+    referee, lines = Referee(store.text), text.splitlines()[1:]
+    for line in lines[: -count - 2]:
+        referee.hear(line)
+    wrong.see("long lists: the status, the grants and the end", (status, len(referee.grants), lines[-count - 2 :]), (0, count + 40, referee.last_lines()))
+    wrong.see("long lists: the questions", referee.answered, collections.Counter(line for line in asked if line[0] in "jp"))
 
 
 def cuts(wrong, cell, folder):
@@ -431,13 +462,18 @@ def dispatched(wrong, cell, folder):
     """Two programs ask one server through the dispatcher of the examples. Each has sessions of its own, and who waits is told there."""
     places, file = (folder / "socket", folder / "second"), folder / "journal"
     words = [[sys.executable, HERE.parent / "examples/dispatcher.py", place, cell.program, cell.path, file] for place in places]
-    dispatcher = subprocess.Popen(words[0])
+    with open(folder / "told", "wb") as people:
+        dispatcher = subprocess.Popen(words[0], stderr=people, env=dict(os.environ, WISHKABE_HINTS="1"))
     programs = [Program(wrong, places[0]) for _ in range(2)]
     for line, reply in [*TALK, ("please", "")]:
         program = programs[line[0] in "24"]
         wrong.see(f"{line} through the dispatcher", program.asked(line), f"{line} {reply}" if reply else "line refused")
-    for line in ("2 unload 8", "2 grants", "2 last", "2 cancel", "2 wait unload 8"):
-        wrong.see(f"{line} of another program", programs[0].asked(line), f"{line.replace(' wait', '')} refused session-taken")
+    for line, wanted in LISTED:
+        wrong.see(f"{line} through the dispatcher", [programs[1].asked(line), *(programs[1].hears() for _ in wanted[1:])], wanted)
+    for line in ("\ufeff1 grants", "1 grants\r", "1 Ä \udcff"):
+        wrong.see(f"{line!a} through the dispatcher", programs[0].asked(line), "line refused")
+    for line in ("2 unload 8", "2 grants", "2 last", "2 cancel", "2 wait unload 8", "2 Ä \udcff"):
+        wrong.see(f"{line!a} of another program", programs[0].asked(line), f"{line.replace(' wait', '')} refused session-taken")
     full = "waits saturated M2 1 of 1"
     wrong.see("a program waits", programs[0].asked("1 wait load 9 Z"), f"1 load 9 Z {full}")
     wrong.see("another program waits", programs[1].asked("4 wait load 10 Z"), f"4 load 10 Z {full}")
@@ -460,6 +496,9 @@ def dispatched(wrong, cell, folder):
     wrong.see("a second dispatcher", (second.returncode, b"device fault" in second.stderr), (7, True))
     dispatcher.terminate()
     wrong.see("a dispatcher that is told to end", dispatcher.wait(), 0)
+    told_people = (folder / "told").read_text()
+    hints = [told_people.count(f"standard input, a line, which {what}") for what in ("begins with a byte order mark", "ends in a carriage return")]
+    wrong.see("its server has told people of both lines", hints, [1, 1])
     wrong.see("its server has ended before it", cell.told("plan", file)[0], 0)
     wrong.see("its socket is gone", places[0].exists(), False)
     more = ["2 move 8 granted", "4 load 10 Z granted"]
@@ -474,7 +513,7 @@ class Program:
     def __init__(self, wrong, place):
         self.end = socket.socket(socket.AF_UNIX)
         wrong.see("a program connects", within(10, lambda: self.end.connect_ex(str(place)) == 0), True)
-        self.file = self.end.makefile("rw", newline="\n")
+        self.file = self.end.makefile("rw", encoding="utf-8", errors="surrogateescape", newline="\n")
 
     def asked(self, line):
         """The reply to a line."""
@@ -605,5 +644,5 @@ def stable_before_told(trace, text, gate):
     return grants, syncs
 
 
-CASES = [talks, waits, many_wait, cuts, garbage, longest, many, slow_clients, beside, statuses, full_journals, sockets, dispatched,
+CASES = [talks, waits, many_wait, long_lists, cuts, garbage, longest, many, slow_clients, beside, statuses, full_journals, sockets, dispatched,
          asked_in_python, workshop, interrupted, memory, order_of_writes]

@@ -40,6 +40,18 @@ public sealed class Cell : IDisposable
     /// <summary>Another client asks under this session number, so its count doesn't tell whose step was granted.</summary>
     public sealed class SharedSessionException : InvalidOperationException { public SharedSessionException(string line) : base(line) { } }
 
+    /// <summary>A part in the cell: its type, its place of the route, the resource there, and whether its work there is done.</summary>
+    public sealed class Part
+    {
+        internal Part(string[] item)
+            => (Job, Type, Place, Resource, IsDone) = (long.Parse(item[1]), item[2], int.Parse(item[3]), item[4], item[5] == "done");
+        public long Job { get; }
+        public string Type { get; }
+        public int Place { get; }
+        public string Resource { get; }
+        public bool IsDone { get; }
+    }
+
     /// <summary>A line that waits for its reply, and the words with which that begins. The reply is null where the server was killed.</summary>
     private sealed class Waiting : TaskCompletionSource<string> { public string Words; }
 
@@ -90,10 +102,15 @@ public sealed class Cell : IDisposable
     public string Why(string step) => Told($"why {step}");
     /// <summary>How many parts are in the cell.</summary>
     public long Left() => long.Parse(Told("left"));
+    /// <summary>All parts, in the order in which they came to their places.</summary>
+    public IReadOnlyList<Part> Parts() => Listed("parts");
+    /// <summary>The parts that stand in the way of a step. There are some exactly where it would be refused as `saturated`.</summary>
+    public IReadOnlyList<Part> Jobs(string step) => Listed("jobs " + step);
     /// <summary>How many grants the journal has, as far as the replies tell.</summary>
     public long Seen => Interlocked.Read(ref seen);
 
-    /// <summary>The reply to a line, after its words, or how its wait ended. Null: the server was killed before, and is started again.</summary>
+    /// <summary>The reply to a line, after its words, with all lines of a list, or how its wait ended. Null: the server was killed before,
+    /// and is started again.</summary>
     public string Say(string line)
     {
         byte[] sent = new UTF8Encoding(false).GetBytes(line + "\n");
@@ -145,6 +162,8 @@ public sealed class Cell : IDisposable
     /// <summary>The reply to a line that changes nothing, and so may be said again after a kill.</summary>
     private string Told(string line) => Say(line) ?? Told(line);
 
+    private List<Part> Listed(string line) => Told(line).Split('\n').Skip(1).Select(item => new Part(item.Split(' '))).ToList();
+
     /// <summary>Starts the server and waits until it is ready. A few times it may be killed before.</summary>
     private void Start()
     {
@@ -181,13 +200,28 @@ public sealed class Cell : IDisposable
         return line.ToString();
     }
 
+    /// <summary>A line, or where it begins a list all lines of that, with its end; or without one what the server left.</summary>
+    private string ReadReply()
+    {
+        string head = ReadLine();
+        if (!Ends(head, "\n") || !Begins(head, "parts ") && !Begins(head, "jobs ")) return head;
+        var list = new StringBuilder(head);
+        for (int due = int.Parse(head.Substring(head.LastIndexOf(' ') + 1)); due > 0; due--)
+        {
+            string item = ReadLine();
+            list.Append(item);
+            if (!Ends(item, "\n")) return list.ToString().TrimEnd();
+        }
+        return list.ToString();
+    }
+
     /// <summary>Hands out the replies, which come in the order of the lines, and starts the server again where it was killed.</summary>
     private void ReadReplies()
     {
         for (bool isOver = false; !isOver;)
         {
             lines = new List<string>();
-            for (string line; (line = ReadLine()) != "";)
+            for (string line; (line = ReadReply()) != "";)
                 if (!Ends(line, "\n") || !HandOut(line.TrimEnd())) lines.Add(line.TrimEnd());
             lock (sending)
             {

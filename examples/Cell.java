@@ -5,6 +5,7 @@ import java.nio.charset.StandardCharsets;
 import java.util.*;
 import java.util.concurrent.*;
 import java.util.concurrent.atomic.AtomicLong;
+import java.util.stream.Collectors;
 
 /**
  * A client of {@code wishkabe serve}, to be copied: this file alone, for Java 11 or later on Linux.
@@ -40,6 +41,22 @@ public final class Cell implements AutoCloseable {
     public static final class NoRequestException extends IllegalArgumentException { NoRequestException(String line) { super(line); } }
     /** Another client asks under this session number, so its count doesn't tell whose step was granted. */
     public static final class SharedSessionException extends IllegalStateException { SharedSessionException(String line) { super(line); } }
+
+    /** A part in the cell: its type, its place of the route, the resource there, and whether its work there is done. */
+    public static final class Part {
+        public final long job;
+        public final String type, resource;
+        public final int place;
+        public final boolean isDone;
+        Part(String item) {
+            String[] words = item.split(" ");
+            job = Long.parseLong(words[1]);
+            type = words[2];
+            resource = words[4];
+            place = Integer.parseInt(words[3]);
+            isDone = words[5].equals("done");
+        }
+    }
 
     private final List<String> command = new ArrayList<>();
     private final Map<Integer, Long> taken = new ConcurrentHashMap<>();
@@ -92,10 +109,17 @@ public final class Cell implements AutoCloseable {
     public String why(String step) throws StoppedException, InterruptedException { return told("why " + step); }
     /** How many parts are in the cell. */
     public long left() throws StoppedException, InterruptedException { return Long.parseLong(told("left")); }
+    /** All parts, in the order in which they came to their places. */
+    public List<Part> parts() throws StoppedException, InterruptedException { return listed("parts"); }
+    /** The parts that stand in the way of a step. There are some exactly where it would be refused as {@code saturated}. */
+    public List<Part> jobs(String step) throws StoppedException, InterruptedException { return listed("jobs " + step); }
     /** How many grants the journal has, as far as the replies tell. */
     public long seen() { return seen.get(); }
 
-    /** The reply to a line, after its words, or how its wait ended. Empty: the server was killed before, and is started again. */
+    /**
+     * The reply to a line, after its words, with all lines of a list, or how its wait ended. Empty: the server was killed before, and is
+     * started again.
+     */
     public Optional<String> say(String line) throws StoppedException, InterruptedException {
         byte[] sent = (line + "\n").getBytes(StandardCharsets.UTF_8);
         if (sent.length > 67 || line.contains("\n")) throw new NoRequestException(line);
@@ -149,6 +173,10 @@ public final class Cell implements AutoCloseable {
         for (Optional<String> reply; ; ) if ((reply = say(line)).isPresent()) return reply.get();
     }
 
+    private List<Part> listed(String line) throws StoppedException, InterruptedException {
+        return told(line).lines().skip(1).map(Part::new).collect(Collectors.toList());
+    }
+
     /** Starts the server and waits until it is ready. A few times it may be killed before. */
     private void start() throws StoppedException {
         for (int tries = 1; ; tries++) {
@@ -186,11 +214,24 @@ public final class Cell implements AutoCloseable {
         return line.toString();
     }
 
+    /** A line, or where it begins a list all lines of that, with its end; or without one what the server left at its own end. */
+    private String readReply() {
+        String head = readLine();
+        if (!head.endsWith("\n") || !head.startsWith("parts ") && !head.startsWith("jobs ")) return head;
+        StringBuilder list = new StringBuilder(head);
+        for (int due = Integer.parseInt(head.substring(head.lastIndexOf(' ') + 1).stripTrailing()); due > 0; due--) {
+            String item = readLine();
+            list.append(item);
+            if (!item.endsWith("\n")) return list.toString().stripTrailing();
+        }
+        return list.toString();
+    }
+
     /** Hands out the replies, which come in the order of the lines, and starts the server again where it was killed. */
     private void readReplies() {
         for (boolean isOver = false; !isOver; ) {
             List<String> lines = new ArrayList<>();
-            for (String line; !(line = readLine()).isEmpty(); ) {
+            for (String line; !(line = readReply()).isEmpty(); ) {
                 if (!line.endsWith("\n") || !handOut(line.stripTrailing())) lines.add(line.stripTrailing());
             }
             synchronized (sending) {

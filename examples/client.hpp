@@ -24,6 +24,7 @@
 #include <mutex>
 #include <optional>
 #include <set>
+#include <sstream>
 #include <stdexcept>
 #include <string>
 #include <thread>
@@ -43,6 +44,14 @@ struct Behind : Stopped { using Stopped::Stopped; };
 struct NoRequest : std::invalid_argument { using invalid_argument::invalid_argument; };
 /// Another client asks under this session number, so its count doesn't tell whose step was granted.
 struct SharedSession : std::logic_error { using logic_error::logic_error; };
+
+/// A part in the cell: its type, its place of the route, the resource there, and whether its work there is done.
+struct Part {
+  std::uint32_t job;
+  std::string type, resource;
+  unsigned place;
+  bool is_done;
+};
 
 /// A running server, and how many steps of each session were granted.
 class Cell {
@@ -79,10 +88,15 @@ class Cell {
   std::string why(const std::string& step) { return told("why " + step); }
   /// How many parts are in the cell.
   std::uint64_t left() { return std::stoull(told("left")); }
+  /// All parts, in the order in which they came to their places.
+  std::vector<Part> parts() { return listed("parts"); }
+  /// The parts that stand in the way of a step. There are some exactly where it would be refused as `saturated`.
+  std::vector<Part> jobs(const std::string& step) { return listed("jobs " + step); }
   /// How many grants the journal has, as far as the replies tell.
   std::uint64_t seen() const { return seen_; }
 
-  /// The reply to a line, after its words, or how its wait ended. None: the server was killed before, and is started again.
+  /// The reply to a line, after its words, with all lines of a list, or how its wait ended. None: the server was killed before, and is
+  /// started again.
   std::optional<std::string> say(const std::string& line) {
     if (line.size() > 66 || line.find('\n') != line.npos) throw NoRequest(line);
     std::unique_lock sending(sending_), state(state_, std::defer_lock);
@@ -138,6 +152,19 @@ class Cell {
   /// The reply to a line that changes nothing, and so may be said again after a kill.
   std::string told(const std::string& line) { for (;;) if (const Reply reply = say(line)) return *reply; }
 
+  std::vector<Part> listed(const std::string& line) {
+    std::istringstream words(told(line));
+    std::size_t count;
+    words >> count;
+    std::vector<Part> parts(count);
+    std::string word, work;
+    for (Part& part : parts) {
+      words >> word >> part.job >> part.type >> part.place >> part.resource >> work;
+      part.is_done = work == "done";
+    }
+    return parts;
+  }
+
   /// Starts the server and waits until it is ready. A few times it may be killed before.
   void start() {
     std::string head;
@@ -187,11 +214,23 @@ class Cell {
     return true;
   }
 
+  /// Reads a line, or where it begins a list all lines of that. False: the server has ended, and this is what it left of one.
+  bool read_reply(std::string& reply) {
+    bool is_whole = read_line(reply);
+    if (!is_whole || !(begins(reply, "parts ") || begins(reply, "jobs "))) return is_whole;
+    std::string item;
+    for (unsigned long due = std::stoul(reply.substr(reply.rfind(' '))); is_whole && due > 0; --due) {
+      is_whole = read_line(item);
+      reply += "\n" + item;
+    }
+    return is_whole;
+  }
+
   /// Hands out the replies, which come in the order of the lines, and starts the server again where it was killed.
   void read_replies() {
     for (bool is_over = false; !is_over;) {
       std::string line;
-      for (lines_.clear(); read_line(line);)
+      for (lines_.clear(); read_reply(line);)
         if (!hand_out(line)) lines_.push_back(line);
       if (!line.empty()) lines_.push_back(line);
       const std::lock_guard sending(sending_);

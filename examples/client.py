@@ -9,6 +9,7 @@ and one step of a session at a time. Where the server is killed it is started ag
 It needs Python 3.9 or later.
 """
 import collections
+import itertools
 import os
 import queue
 import re
@@ -17,7 +18,7 @@ import threading
 import time
 
 ENDS = "served", "dropped", "still"  # how a wait ends
-LISTS = "parts", "jobs "  # what a list is asked by
+LISTS = "parts ", "jobs "  # with what a list begins
 
 
 def words_of(line):
@@ -56,7 +57,6 @@ class Cell:
         """Starts the server by these words. Its journal has to have `at_least` so many grants: the `seen` of an earlier run."""
         self.command, self.lock, self.is_closing = command, threading.Lock(), False
         self.waiting, self.taken, self.stopped = collections.deque(), {}, None
-        self.list = []  # of a list that is being told, its lines so far, the first with their number
         self.waits, self.ends = set(), {}  # the sessions in a call of `wait`, and those that the server lets wait
         self.seen = at_least  # how many grants the journal has, as far as the replies tell
         self._start()
@@ -111,7 +111,7 @@ class Cell:
         return None if told == "none" else place_of(told)
 
     def parts(self):
-        """Where all parts stand, as `where` tells it, by their jobs: a dictionary in the order in which they came in."""
+        """Where all parts stand, as `where` tells it, by their jobs: a dictionary in the order in which they came to their places."""
         return self._listed("parts")
 
     def jobs(self, step):
@@ -128,14 +128,14 @@ class Cell:
         return int(self._told("room"))
 
     def say(self, line):
-        """The reply to a line, after its words. None: the server was killed before it came, and is started again."""
+        """The reply to a line, after its words, with all lines of a list. None: the server was killed before it came, and is started again."""
         return next(self._replies(line))
 
     def send(self, line, told):
         """Sends a line. The thread that reads calls `told` with what `say` answers or raises, of a list with all its lines, and after `waits WHY`
         once more with how the wait ends: `served`, `dropped WHY`, `still WHY`, `cancelled`, or None or `Stopped` where the server ended
-        before."""
-        sent, fault = f"{line}\n".encode(), None
+        before. The bytes of a line that was decoded with `surrogateescape` are sent as they were."""
+        sent, fault = f"{line}\n".encode(errors="surrogateescape"), None
         with self.lock:
             if len(sent) > 67 or "\n" in line:
                 fault = NoRequest(line)
@@ -230,8 +230,8 @@ class Cell:
     def _read(self):
         """Hands out the replies, which come in the order of the lines, and starts the server again where it was killed."""
         while not self.stopped:
-            self.lines, self.list = [], []
-            for line in map(bytes.decode, self.child.stdout):
+            self.lines = []
+            for line in self._said():
                 if not line.endswith("\n") or not self._hand_out(line.rstrip("\n")):
                     self.lines.append(line.rstrip("\n"))
             with self.lock:
@@ -246,6 +246,17 @@ class Cell:
             for _, told in lost:
                 told(self.stopped)
 
+    def _said(self):
+        """Yields each line of the server, and each list with all its lines. What it left of one at its own end has no newline."""
+        lines = map(bytes.decode, self.child.stdout)
+        for line in lines:
+            if line.startswith(LISTS) and line.endswith("\n"):
+                count = int(line.split(" ")[-1])
+                items = list(itertools.islice(lines, count))
+                line = "".join([line, *items])
+                line = line if len(items) == count else line.rstrip("\n")
+            yield line
+
     def _hand_out(self, said):
         """Hands out a line that is a reply, or the end of a wait. Whether it is one."""
         session = said.split(" ")[0]
@@ -255,8 +266,6 @@ class Cell:
             return True
         line, told = self.waiting[0] if self.waiting else ("", None)
         words = f"{words_of(line)} "
-        if self.list or (line.startswith(LISTS) and said.startswith(words)):
-            return self._add_to_list(said if self.list else said.removeprefix(words), told)
         if not told or not said.startswith((words, "line refused ")) or said == f"{words}halted":
             return False
         self.waiting.popleft()
@@ -267,13 +276,4 @@ class Cell:
         if words != f"{line} " and reply.startswith("waits "):
             self.ends[session] = words, told
         told(NoRequest(line) if said.startswith("line refused ") else reply)
-        return True
-
-    def _add_to_list(self, said, told):
-        """Adds what a line tells to the list that is being told, and hands that out once it is whole. True: the line is a reply."""
-        self.list.append(said)
-        if len(self.list) > int(self.list[0]):
-            self.waiting.popleft()
-            listed, self.list = "\n".join(self.list), []
-            told(listed)
         return True

@@ -42,7 +42,7 @@ class Connection(socketserver.StreamRequestHandler):
             for line in self.rfile:
                 if self.is_over or not line.endswith(b"\n"):
                     return  # it was cut off
-                self.answer(line.decode("ascii", "replace").rstrip("\n"))
+                self.answer(line.decode(errors="surrogateescape").rstrip("\n"))  # any bytes, which are handed on as they are
 
     def finish(self):
         """Cancels the waits, and lets the sessions go."""
@@ -95,7 +95,7 @@ class Connection(socketserver.StreamRequestHandler):
         """Writes what there is to be written. Where the program is gone it is lost, and `K grants` tells the next one."""
         while (line := self.out.get()) is not None:
             with contextlib.suppress(OSError):
-                self.connection.sendall(line.encode())
+                self.connection.sendall(line.encode(errors="surrogateescape"))
             self.out.task_done()
 
     def owns(self, session):

@@ -36,6 +36,13 @@ internal static class Player
         fault?.Throw();
     }
 
+    /// <summary>Prints how many parts a list has, and each with this word.</summary>
+    private static void Print(string list, string word, IReadOnlyList<Cell.Part> parts)
+    {
+        Console.WriteLine($"{list} {parts.Count}");
+        foreach (Cell.Part it in parts) Console.WriteLine($"{word} {it.Job} {it.Type} {it.Place} {it.Resource} {(it.IsDone ? "done" : "waiting")}");
+    }
+
     private static void Main(string[] words)
     {
         var scripts = File.ReadLines(words[1]).Select(line => line.Split(new[] { ' ' }, 2)).GroupBy(line => int.Parse(line[0]), line => line[1]);
@@ -45,6 +52,8 @@ internal static class Player
             {
                 Play(cell, scripts);
                 Console.WriteLine($"seen {cell.Seen}\nleft {cell.Left()}\nwhy {cell.Why("load 1 P1")}");
+                Print("parts", "part", cell.Parts());
+                Print("jobs", "job", cell.Jobs("load 1 P1"));
                 foreach (string line in cell.End()) Console.WriteLine(line);
             }
         }

@@ -53,6 +53,14 @@ final class Player {
         }
     }
 
+    /** Prints how many parts a list has, and each with this word. */
+    private static void print(String list, String word, List<Cell.Part> parts) {
+        System.out.println(list + " " + parts.size());
+        for (Cell.Part it : parts) {
+            System.out.println(String.join(" ", word, "" + it.job, it.type, "" + it.place, it.resource, it.isDone ? "done" : "waiting"));
+        }
+    }
+
     public static void main(String[] words) throws Exception {
         Map<Integer, List<String>> scripts = new TreeMap<>();
         for (String line : Files.readAllLines(Path.of(words[1]))) {
@@ -62,6 +70,8 @@ final class Player {
         try (Cell cell = new Cell(Long.parseLong(words[0]), Arrays.copyOfRange(words, 2, words.length))) {
             play(cell, scripts);
             System.out.println("seen " + cell.seen() + "\nleft " + cell.left() + "\nwhy " + cell.why("load 1 P1"));
+            print("parts", "part", cell.parts());
+            print("jobs", "job", cell.jobs("load 1 P1"));
             cell.end().forEach(System.out::println);
         } catch (Cell.BehindException behind) {
             System.out.println("behind " + behind.status + " " + behind.line);

@@ -35,6 +35,14 @@ void play(Cell& cell, const std::map<unsigned, std::vector<std::string>>& script
   for (std::future<void>& session : sessions) session.get();
 }
 
+/// Prints how many parts a list has, and each with this word.
+void print(const std::string& list, const std::string& word, const std::vector<Part>& parts) {
+  std::cout << list << " " << parts.size() << "\n";
+  for (const Part& it : parts) {
+    std::cout << word << " " << it.job << " " << it.type << " " << it.place << " " << it.resource << (it.is_done ? " done\n" : " waiting\n");
+  }
+}
+
 void play_all(std::uint64_t at_least, const char* script, const std::vector<std::string>& command) {
   std::map<unsigned, std::vector<std::string>> scripts;
   std::ifstream file(script);
@@ -43,6 +51,8 @@ void play_all(std::uint64_t at_least, const char* script, const std::vector<std:
   Cell cell(command, at_least);
   play(cell, scripts);
   std::cout << "seen " << cell.seen() << "\nleft " << cell.left() << "\nwhy " << cell.why("load 1 P1") << "\n";
+  print("parts", "part", cell.parts());
+  print("jobs", "job", cell.jobs("load 1 P1"));
   for (const std::string& line : cell.close()) std::cout << line << "\n";
 }
 

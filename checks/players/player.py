@@ -38,6 +38,13 @@ def play(cell, scripts):
         raise faults[0]
 
 
+def print_list(name, word, parts):
+    """Prints how many parts a list has, and each with this word."""
+    print(name, len(parts))
+    for job, (kind, place, resource, is_done) in parts.items():
+        print(word, job, kind, place, resource, "done" if is_done else "waiting")
+
+
 def main():
     at_least, script, *command = sys.argv[1:]
     scripts = collections.defaultdict(list)
@@ -50,6 +57,8 @@ def main():
             print("seen", cell.seen)
             print("left", cell.left())
             print("why", cell.why("load 1 P1"))
+            print_list("parts", "part", cell.parts())
+            print_list("jobs", "job", cell.jobs("load 1 P1"))
             print(*cell.close(), sep="\n")
     except Behind as behind:
         print("behind", *behind.args)

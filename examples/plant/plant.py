@@ -4,14 +4,13 @@
 FILES is a folder with the plant's cell file `plant.toml`, the file of each cell, named after its resource there, and `orders.toml`, a shift
 file of the plant with the parts that are to come. JOURNALS is a folder for the journals, named alike. It hands the parts over by the rules
 of docs/PLANT.md, and works and moves them in each cell, where your cell software takes its place. What it knows stands in the journals, so
-it may be killed at any moment, and each server too: call it again. It ends when all parts have left, or with the status and the line of
-a server that a person has to look after. It needs `client.py` in the folder above, and Python 3.11 or later.
+it may be killed at any moment, and each server too: call it again. It ends when all parts have left; with the status and the line of a server
+that a person has to look after; or with 1 where nothing is granted any more. It needs `client.py` in the folder above, and Python 3.11 or later.
 """
 import fcntl
 import pathlib
 import subprocess
 import sys
-import time
 import tomllib
 from dataclasses import make_dataclass
 
@@ -19,7 +18,6 @@ sys.path.insert(0, str(pathlib.Path(__file__).resolve().parent.parent))
 from client import Cell, Stopped  # noqa: E402
 
 ENTRY, EXIT, WORK = 1, 2, 3  # the sessions at a server: loads; unloads, and the moves of the plant; what is done within a cell
-REST = 0.01  # seconds
 Part = make_dataclass("Part", ["job", "type", "place", "done", "at", "after"])  # its resource, and the places that follow: none at an exit
 
 
@@ -135,11 +133,13 @@ def main():
     try:
         plant = Plant(sys.argv[1], *map(pathlib.Path, sys.argv[2:]))
         print(f"{len(plant.to_come())} to come", *(" ".join(map(str, it)) for it in plant.stand()), sep="\n", flush=True)
-        while plant.to_come() or plant.above.parts or any(it[-1] != "strange" for it in plant.stand()):
-            if not plant.goes_on():
-                time.sleep(REST)
+        goes_on = True  # nobody else asks, so where nothing is granted nothing will be
+        while goes_on and (plant.to_come() or plant.above.parts or any(it[-1] != "strange" for it in plant.stand())):
+            goes_on = plant.goes_on()
         for Plant.asked, cell in plant.all.items():
             cell.server.close()
+        if not goes_on:
+            sys.exit("nothing is granted any more: a part that was put in by hand stands in the way, or the files break a rule")
         print("all have left")
     except Stopped as stopped:
         print(f"{Plant.asked}: {stopped.args[1]}", file=sys.stderr)

@@ -5,7 +5,7 @@ use Rattle.cell_base.specs.declared.requests.Request.{Request}
 use Rattle.cell_base.specs.declared.shifts.Grant.{Grant}
 use Rattle.durable_cell.specs.DurableState.{DurableState}
 use Rattle.durable_cell.specs.Openings.{fresh}
-use Rattle.shift_recovery.specs.Replayed.{AreDue, opened_as}
+use Rattle.journal_format.specs.Replayed.{AreDue, opened_as}
 use Rattle.durable_cell.specs.declared.replays.TheConstants.{MAX_ROOM}
 use Rattle.record_text.specs.StartFiles.{start_reads}
 use Rattle.cell_walks.specs.Allowed.{AllowsFrom, ByMemory, ByRefusal, IsEndedAt, JournalOpened}

@@ -12,7 +12,7 @@ use Rattle.cell_base.specs.declared.shifts.Entry.{Entry}
 use Rattle.cell_base.specs.declared.shifts.Grant.{Grant}
 use Rattle.cell_base.specs.Histories.{after, grants, replay}
 use Rattle.cell_base.specs.Plans.{Drains, plan_of}
-use Rattle.move_journal.specs.Journals.{StandsForPrefix, StandsFor}
+use Rattle.journal_format.specs.Journals.{StandsForPrefix, StandsFor}
 use Rattle.record_text.specs.Records.{text_of_record}
 use Rattle.cell_walks.specs.Allowed.{StandsForAdded}
 use Rattle.cell_walks.specs.DiskTold.{DiskTold}

@@ -7,7 +7,7 @@ use Rattle.cell_base.specs.declared.requests.Request.{Request}
 use Rattle.cell_base.specs.declared.shifts.Grant.{Grant}
 use Rattle.cell_base.specs.Histories.{after, replay}
 use Rattle.cell_base.specs.Plans.{Drains, plan_of}
-use Rattle.move_journal.specs.Journals.{StandsFor}
+use Rattle.journal_format.specs.Journals.{StandsFor}
 use Rattle.record_text.specs.Records.{text_of_record}
 use Rattle.durable_cell.specs.declared.replays.TheConstants.{MAX_ROOM}
 use Rattle.cell_walks.specs.Allowed.{IsOpenedAs}

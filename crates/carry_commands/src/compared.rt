@@ -3,7 +3,7 @@ ghost use Rattle.std.specs.Prelude.{◌≡◌, ◌↔◌, true, []};
 ghost use Rattle.carry_commands.specs.BeginClauses.{HasCompared, step_grant};
 
 use cell_base::{Grant, NoMemory, Request};
-use shift_recovery::Taker;
+use shift_recovery::GrantVisitor;
 
 /// Compares grants with the requests of a start. Up to the first other one it counts them.
 #[derive(Drop)]
@@ -28,11 +28,11 @@ impl<'a> Compared<'a> {
     }
 }
 
-impl<'a> Taker for Compared<'a> {
-    ghost took = { λ start _ grants now. (now.requests.now ≡ start.requests.now)
+impl<'a> GrantVisitor for Compared<'a> {
+    ghost visited = { λ start _ grants now. (now.requests.now ≡ start.requests.now)
         × HasCompared now.requests.now grants now.held now.other };
 
-    fn take(&mut self, _at: u64, grant: Grant) -> Result<(), NoMemory> {
+    fn visit(&mut self, _at: u64, grant: Grant) -> Result<(), NoMemory> {
         if self.other.is_none() {
             match self.requests.get(self.held as usize) {
                 Some(request) if is_grant_of(grant, *request) => self.held += 1,

@@ -13,8 +13,8 @@ use Rattle.cell_base.specs.declared.shifts.Grant.{Grant}
 use Rattle.cell_base.specs.Fits.{CellFits}
 use Rattle.cell_base.specs.Histories.{after, grants, replay}
 use Rattle.cell_base.specs.Plans.{plan_of}
-use Rattle.move_journal.specs.Journals.{StandsForPrefix, StandsFor}
-use Rattle.shift_recovery.specs.Replayed.{AreDue}
+use Rattle.journal_format.specs.Journals.{StandsForPrefix, StandsFor}
+use Rattle.journal_format.specs.Replayed.{AreDue}
 use Rattle.policy_laws.specs.Laws.{HasPlan}
 use Rattle.policy_laws.proofs.Plans.{plan_law}
 use Rattle.record_text.specs.Records.{text_of_record}

@@ -4,7 +4,7 @@ use Rattle.std.proofs.Common.{◌≡◌, ℕ, Ok, subst}
 use Rattle.outside_io.specs.Meanings.{DiskMeaning}
 use Rattle.durable_cell.specs.DurableState.{DurableState}
 use Rattle.durable_cell.specs.Openings.{fresh}
-use Rattle.shift_recovery.specs.Replayed.{AreDue, opened_as}
+use Rattle.journal_format.specs.Replayed.{AreDue, opened_as}
 use Rattle.durable_cell.specs.declared.replays.TheConstants.{MAX_ROOM}
 use Rattle.cell_walks.specs.Allowed.{IsAllowed, JournalOpened, StandsForAdded}
 use Rattle.cell_walks.specs.DiskTold.{disk_seen}

@@ -2,7 +2,7 @@
 pub use Rattle.cell_base.specs.Policy.{IsAdmitted}
 pub use Rattle.durable_cell.specs.DurableState.{first_parts}
 pub use Rattle.durable_cell.specs.Kept.{KeepsHistory}
-pub use Rattle.shift_recovery.specs.Replayed.{AreDue}
+pub use Rattle.journal_format.specs.Replayed.{AreDue}
 pub use Rattle.cell_walks.specs.Allowed.{StandsForAdded}
 pub use Rattle.cell_commands.specs.Drain.{IsDrained}
 use Rattle.cell_base.specs.Plans.{plan_of}

@@ -8,7 +8,7 @@ use Rattle.cell_base.specs.Plans.{Drains, plan_of}
 use Rattle.record_text.specs.Records.{text_of_record}
 use Rattle.cell_walks.specs.Outcomes.{Outcome, done}
 use Rattle.cell_walks.specs.Walks.{Walk, Tests, Opens, Answers}
-use Rattle.cell_texts.specs.Blocks.{planned_block}
+use Rattle.record_printer.specs.Blocks.{planned_block}
 use Rattle.cell_texts.specs.Tests.{KnownCell, cell_file}
 use Rattle.journal_texts.specs.Tests.{to_read}
 

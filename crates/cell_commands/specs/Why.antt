@@ -17,7 +17,7 @@ use Rattle.cell_walks.specs.Allowed.{IsOpenedAs}
 use Rattle.cell_walks.specs.DiskTold.{DiskTold}
 use Rattle.cell_walks.specs.Outcomes.{done}
 use Rattle.cell_walks.specs.Walks.{Journal, Walk, Tests, Opens, Answers}
-use Rattle.cell_texts.specs.Blocks.{Lines}
+use Rattle.record_printer.specs.Blocks.{Lines}
 use Rattle.cell_texts.specs.Tests.{KnownCell, cell_file, step}
 use Rattle.journal_texts.specs.Tests.{to_read}
 use Rattle.cell_texts.specs.Texts.{job_line}

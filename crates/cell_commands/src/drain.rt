@@ -12,7 +12,7 @@ use durable_cell::{Durable, MAX_ROOM, Recalled, durable_law};
 use journal_texts::{Recorded, open_journal_with, print_record, record_of};
 use outside_io::{Disk, Files, Sink};
 use printer::Printer;
-use shift_recovery::Unkept;
+use shift_recovery::Discard;
 use std::alloc::Global;
 
 /// The most steps of a plan: 128 for each of the 4,096 units of a cell.
@@ -41,7 +41,7 @@ impl Command for Drain {
         _files: &mut F,
         disk: D,
     ) -> Answered<Recorded, D> {
-        match open_journal_with(alloc, held, disk, MAX_ROOM, MAX_PLAN, Unkept) {
+        match open_journal_with(alloc, held, disk, MAX_ROOM, MAX_PLAN, Discard) {
             Ok(opened) => {
                 let Made {
                     made: recorded,

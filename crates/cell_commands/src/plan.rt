@@ -1,11 +1,11 @@
 //! `plan CELL JOURNAL`: the plan that empties the cell after the grants of the journal.
 use cell_driver::Command;
-use cell_texts::records::print_block;
 use cell_texts::{Answered, CellFile};
 use cell_walks::Status;
 use journal_texts::{AfterGrants, read_journal};
 use outside_io::{Disk, Files, Sink};
 use printer::Printer;
+use record_printer::records::print_block;
 use std::alloc::Global;
 
 /// The command `plan`.
@@ -14,7 +14,7 @@ pub struct Plan;
 impl Command for Plan {
     ghost use Rattle.std.specs.Prelude.{[], ⊤};
     ghost use Rattle.cell_walks.specs.Outcomes.{done};
-    ghost use Rattle.cell_texts.specs.Blocks.{block_of};
+    ghost use Rattle.record_printer.specs.Blocks.{block_of};
     ghost use Rattle.cell_commands.specs.Plan.{plan_journal};
 
     type Answer = AfterGrants;

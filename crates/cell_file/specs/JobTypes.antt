@@ -1,4 +1,4 @@
--- The types of a cell file.
+-- A type of a cell file: its keys, its members in the order in which they are read, and the types after one another.
 use Rattle.std.specs.Prelude.{codes, ℕ, ◌==◌, if◌then◌else◌, List, [], ◌∷◌, length, Result, Ok}
 use Rattle.cell_base.specs.Faults.{◌>>=◌}
 use Rattle.cell_base.specs.Named.{type_names}

@@ -1,4 +1,4 @@
--- The resources of a cell file.
+-- A resource of a cell file: its capacity, and an order where all resources have one.
 use Rattle.std.specs.Prelude.{codes, ℕ, Bool, ◌&&◌, not, nat_lt, if◌then◌else◌, List, [], ◌∷◌, length}
 use Rattle.std.specs.Prelude.{Option, Some, None, is_some, option_and_then, unwrap_or, Result, Ok, Err}
 use Rattle.cell_base.specs.Faults.{◌>>=◌}

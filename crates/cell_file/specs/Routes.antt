@@ -1,4 +1,4 @@
--- The routes of a cell file.
+-- The route of a type: each text is the name of a resource, with `:hold` where no work is done.
 use Rattle.std.specs.Prelude.{codes, ℕ, ◌-◌, Bool, not, if◌then◌else◌, List, [], length, take, drop, position, Result, Ok}
 use Rattle.std.specs.Str.{bytes_eq}
 use Rattle.cell_base.specs.Faults.{◌>>=◌, or_fault}

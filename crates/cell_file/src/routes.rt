@@ -1,4 +1,4 @@
-//! The routes of a cell file.
+//! The route of a type, text after text; `:hold` ends the text of a place where no work is done.
 ghost use Rattle.std.specs.Prelude.{◌≡◌, ◌≤◌, ◌<◌, length, not, position, All, IfOk, IfSome};
 ghost use Rattle.std.specs.Str.{bytes_eq};
 ghost use Rattle.toml.specs.View.{view, items_view};

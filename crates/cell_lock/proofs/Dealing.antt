@@ -11,9 +11,9 @@ use Rattle.durable_cell.specs.DurableState.{DurableState}
 use Rattle.cell_lock.specs.declared.board.Opening.{Opening}
 use Rattle.cell_lock.specs.declared.board.View.{View}
 use Rattle.cell_lock.specs.Openings.{Fits, Outside, first_moment}
-use Rattle.cell_lock.specs.Views.{mines_of, stock, passing, gathered, spent}
+use Rattle.cell_lock.specs.Views.{own_entries_of, initial_view, passing, gathered, spent}
 use Rattle.cell_lock.specs.Law.{Has, AllBegin, AllStand, Acknowledges, Knows, Free, Taken, Kept, sat}
-use Rattle.cell_lock.proofs.Histories.{prefix_nil, begin_append, mines-append, mines-empty}
+use Rattle.cell_lock.proofs.Histories.{prefix_nil, begin_append, own_entries-append, own_entries-empty}
 use Rattle.cell_lock.proofs.Acknowledging.{acknowledged_end, acknowledged_set, stand_append}
 use Rattle.cell_lock.proofs.Views.{at_end, each_set, each_end, apart_by, dealt, merged, split_at}
 use Rattle.cell_lock.proofs.Turns.{Homes, any_step, not_true}
@@ -61,11 +61,11 @@ only zero b e = (refl, some-injective _ b e)
 only (suc i) b e = absurd (some-ne-none b (sym e))
 
 -- a view of no number knows nothing
-nothing_known : {D : Type 0} (o p : Opening D) (log : List Entry) (first : ℕ) → Knows o log (stock p first 0)
+nothing_known : {D : Type 0} (o p : Opening D) (log : List Entry) (first : ℕ) → Knows o log (initial_view p first 0)
 nothing_known o p log first = record {
   same = λ h. absurd (omega arith);
   begin = tt;
-  mines = refl;
+  own_entries = refl;
   range = λ h. absurd (omega arith);
   acts = λ h. absurd (cc);
 }
@@ -73,18 +73,18 @@ nothing_known o p log first = record {
 pub starts : {D : Type 0} (has : DurableState D → ℕ → ℕ → Type 0) (moment : D → ℕ) (o : Opening D) (c : DurableState D)
     (passes : ℕ) (words : List ℕ) (slots : List (DurableState D)) → words ≡ 0 ∷ 0 ∷ [] → slots ≡ c ∷ [] → c.history ≡ [] → Fits o c
     → o.passes ≡ passes → has c (first_moment moment o) 0
-    → Kept has moment o (opening words slots (stock o 1 passes))
+    → Kept has moment o (opening words slots (initial_view o 1 passes))
 starts {D} has moment o c passes words slots words_are slots_are new fits count begun =
-    let alone : (i : ℕ) (v : View D) → get_elem? (stock o 1 passes ∷ []) i ≡ some v → (i ≡ 0) × (stock o 1 passes ≡ v) =
+    let alone : (i : ℕ) (v : View D) → get_elem? (initial_view o 1 passes ∷ []) i ≡ some v → (i ≡ 0) × (initial_view o 1 passes ≡ v) =
     λ i v e. only i v e in
-    let knows : Knows o [] (stock o 1 passes) = record {
+    let knows : Knows o [] (initial_view o 1 passes) = record {
       same = λ h. refl;
       begin = tt;
-      mines = sym (mines-empty 1 passes);
+      own_entries = sym (own_entries-empty 1 passes);
       range = λ h. (omega arith, omega arith);
       acts = λ h. absurd (cc);
     } in
-    let kept : Kept has moment o (opening (0 ∷ 0 ∷ []) (c ∷ []) (stock o 1 passes)) = record {
+    let kept : Kept has moment o (opening (0 ∷ 0 ∷ []) (c ∷ []) (initial_view o 1 passes)) = record {
       log = [];
       each = λ i v e. subst (Knows o []) (alone i v e).1 knows;
       apart = λ i j k v w ev ew hv hw. (alone i v ev).0 ∙ sym (alone j w ew).0;
@@ -102,13 +102,13 @@ starts {D} has moment o c passes words slots words_are slots_are new fits count 
         idle = λ i v e. ap (λ (x : View D). x.has_turn) (sym (alone i v e).1);
       };
     } in
-    subst (λ (z : List ℕ × List (DurableState D)). Kept has moment o (opening z.0 z.1 (stock o 1 passes)))
+    subst (λ (z : List ℕ × List (DurableState D)). Kept has moment o (opening z.0 z.1 (initial_view o 1 passes)))
     (λ i. (sym words_are i, sym slots_are i)) kept
 
 pub sits : {D : Type 0} (has : DurableState D → ℕ → ℕ → Type 0) (moment : D → ℕ) (o : Opening D) (slots passes : ℕ)
-    → Enters (Kept has moment o) slots 0 (λ n w. sat any_step (stock o 1 passes, []) n (w, []))
+    → Enters (Kept has moment o) slots 0 (λ n w. sat any_step (initial_view o 1 passes, []) n (w, []))
 sits {D} has moment o slots passes s k deep small =
-    let w : View D = stock o (1 + passes) 0 in
+    let w : View D = initial_view o (1 + passes) 0 in
     let views' : List (View D) = s.views ++ w ∷ [] in (
       w,
       record {
@@ -126,12 +126,12 @@ sits {D} has moment o slots passes s k deep small =
     )
 
 module _ {D : Type 0} (has : DurableState D → ℕ → ℕ → Type 0) (moment : D → ℕ) (o p : Opening D) (id n count : ℕ)
-    (s : State (DurableState D) (View D)) (k : Kept has moment o s) (at : get_elem? s.views id ≡ some (stock p n (suc count))) where
+    (s : State (DurableState D) (View D)) (k : Kept has moment o s) (at : get_elem? s.views id ≡ some (initial_view p n (suc count))) where
   abbrev X : View D
-  X = stock p n (suc count)
+  X = initial_view p n (suc count)
 
   abbrev Left : View D
-  Left = stock p (n + 1) (suc count - 1)
+  Left = initial_view p (n + 1) (suc count - 1)
 
   abbrev Right : View D
   Right = passing p n [] (first_moment moment p) [] []
@@ -148,8 +148,8 @@ module _ {D : Type 0} (has : DurableState D → ℕ → ℕ → Type 0) (moment 
       record {
         same = λ h. known.same (omega arith);
         begin = tt;
-        mines = subst (λ (c : ℕ). replicate c [] ≡ mines_of (n + 1) c k.log) (sym fewer)
-            (ap (λ (l : List (List Entry)). rest_of l) known.mines);
+        own_entries = subst (λ (c : ℕ). replicate c [] ≡ own_entries_of (n + 1) c k.log) (sym fewer)
+            (ap (λ (l : List (List Entry)). rest_of l) known.own_entries);
         range = λ h. (omega arith, omega (arith, range.1));
         acts = λ h. absurd (cc);
       }
@@ -158,7 +158,7 @@ module _ {D : Type 0} (has : DurableState D → ℕ → ℕ → Type 0) (moment 
   right_knows = record {
     same = λ h. known.same (omega arith);
     begin = (prefix_nil k.log, tt);
-    mines = ap (λ (l : List (List Entry)). get_or l 0 [] ∷ []) known.mines;
+    own_entries = ap (λ (l : List (List Entry)). get_or l 0 [] ∷ []) known.own_entries;
     range = λ h. (range.0, omega (arith, range.1));
     acts = λ h. absurd (cc);
   }
@@ -187,10 +187,10 @@ module _ {D : Type 0} (has : DurableState D → ℕ → ℕ → Type 0) (moment 
       }
 
 pub deals : {D : Type 0} (has : DurableState D → ℕ → ℕ → Type 0) (moment : D → ℕ) (o p : Opening D) (id n count : ℕ) (v : View D)
-    → v ≡ stock p n (suc count) → Splits (Kept has moment o) id v (stock v.opening (v.first + 1) (v.count - 1))
+    → v ≡ initial_view p n (suc count) → Splits (Kept has moment o) id v (initial_view v.opening (v.first + 1) (v.count - 1))
     (passing v.opening v.first [] (first_moment moment v.opening) [] [])
 deals {D} has moment o p id n count v is =
-    subst (λ (x : View D). Splits (Kept has moment o) id x (stock x.opening (x.first + 1) (x.count - 1))
+    subst (λ (x : View D). Splits (Kept has moment o) id x (initial_view x.opening (x.first + 1) (x.count - 1))
     (passing x.opening x.first [] (first_moment moment x.opening) [] [])) (sym is)
     (λ s k at. cut has moment o p id n count s k at)
 
@@ -212,7 +212,7 @@ module _ {D : Type 0} (has : DurableState D → ℕ → ℕ → Type 0) (moment 
       record {
         same = λ h. known.same (omega arith);
         begin = begin_append v.answers w.answers k.log known.begin joined.begin;
-        mines = (λ i. known.mines i ++ joined.mines i) ∙ sym (mines-append v.first v.count w.count w.first k.log next);
+        own_entries = (λ i. known.own_entries i ++ joined.own_entries i) ∙ sym (own_entries-append v.first v.count w.count w.first k.log next);
         range = λ h. (range.0, whole);
         acts = λ h. absurd (cc);
       }
@@ -260,7 +260,7 @@ gathers has moment o id other v w idle rests one next s k at apart_are at_other 
 pub closes : {D : Type 0} (has : DurableState D → ℕ → ℕ → Type 0) (moment : D → ℕ) (o : Opening D) (id : ℕ) (v : View D)
     (words : List ℕ) (slots : List (DurableState D)) (c : DurableState D) → Final (Seen (Kept has moment o) id v) words slots
     → get_elem? slots 0 ≡ some c → v.has_turn ≡ false → v.first ≡ 1 → v.count ≡ o.passes
-    → Fits o c × AllBegin v.answers c.history × (v.mines ≡ mines_of 1 o.passes c.history)
+    → Fits o c × AllBegin v.answers c.history × (v.own_entries ≡ own_entries_of 1 o.passes c.history)
     × ((k : ℕ) → Outside o k → entries_of k c.history ≡ []) × AllStand has o.shift c v.answers
 closes {D} has moment o id v words slots c final there idle from whole =
     let s : State (DurableState D) (View D) = final.0 in
@@ -273,7 +273,7 @@ closes {D} has moment o id v words slots c final there idle from whole =
     let log_is : k.log ≡ c.history = sym f.seen ∙ ap (λ (a : DurableState D). a.history) found in (
       subst (Fits o) found f.fits,
       subst (AllBegin v.answers) log_is known.begin,
-      known.mines ∙ (λ i. mines_of (from i) (whole i) (log_is i)),
+      known.own_entries ∙ (λ i. own_entries_of (from i) (whole i) (log_is i)),
       λ j out. ap (entries_of j) (sym log_is) ∙ k.others j out,
       subst (λ (a : DurableState D). AllStand has o.shift a v.answers) found (f.acknowledges.each id v at),
     ))

@@ -9,7 +9,7 @@ use Rattle.cell_base.specs.Histories.{entries_of, grants}
 use Rattle.durable_cell.specs.DurableState.{DurableState}
 use Rattle.cell_lock.specs.declared.board.Opening.{Opening}
 use Rattle.cell_lock.specs.Law.{AllBegin, AllStand}
-use Rattle.cell_lock.specs.Views.{mines_of, passing, gathered}
+use Rattle.cell_lock.specs.Views.{own_entries_of, passing, gathered}
 use Rattle.cell_lock.specs.Passes.{LockId, PassState, answers_of, all_answers, new_pass, new_passes, ArePassesNumbered}
 use Rattle.cell_lock.specs.Steps.{gathering}
 use Rattle.cell_lock.proofs.Histories.{begin_after}
@@ -36,7 +36,7 @@ gathered_more o first p ps is = λ i. record {
   first = p.number;
   count = (let e : 1 + length ps ≡ length (p ∷ ps) = omega arith in e) i;
   answers = all_answers (p ∷ ps);
-  mines = map (λ (q : PassState _). q.mine) (p ∷ ps);
+  own_entries = map (λ (q : PassState _). q.mine) (p ∷ ps);
   log = [];
   taken = None;
   has_turn = false;
@@ -73,7 +73,7 @@ rest_of [] = []
 rest_of (x ∷ xs) = xs
 
 pub all_mine : {D : Type 0} (lock : LockId D) (first : ℕ) (ps : List (PassState D)) (log : List Entry) → ArePassesNumbered lock first ps
-    → map (λ (p : PassState D). p.mine) ps ≡ mines_of first (length ps) log → All (λ (p : PassState D). entries_of p.number log ≡ p.mine) ps
+    → map (λ (p : PassState D). p.mine) ps ≡ own_entries_of first (length ps) log → All (λ (p : PassState D). entries_of p.number log ≡ p.mine) ps
 unfolding rest_of
 all_mine {D} lock first [] log h e = All-nil (λ (p : PassState D). entries_of p.number log ≡ p.mine)
 all_mine {D} lock first (p ∷ ps) log h e =

@@ -7,7 +7,7 @@ use mathlib.Core.List.{IsPrefix}
 use Rattle.cell_base.specs.declared.shifts.Entry.{Entry}
 use Rattle.cell_base.specs.Histories.{entries_of}
 use Rattle.cell_lock.specs.Law.{AllBegin}
-use Rattle.cell_lock.specs.Views.{mines_of}
+use Rattle.cell_lock.specs.Views.{own_entries_of}
 
 pub prefix_all : (xs : List Entry) → IsPrefix xs xs
 prefix_all xs = ([], append-nil xs)
@@ -40,21 +40,21 @@ entries-other k log e other =
     filter-append (λ (x : Entry). x.session == k) log (e ∷ [])
     ∙ ap (λ es. entries_of k log ++ es) (cond-false _ _ _ (ne_eqb e.session k other)) ∙ append-nil _
 
-pub mines-other : (first count : ℕ) (log : List Entry) (e : Entry) → ((first ≤ e.session) × (e.session < first + count) → ⊥)
-    → mines_of first count (log ++ e ∷ []) ≡ mines_of first count log
-mines-other first zero log e out = refl
-mines-other first (suc count) log e out = λ i.
+pub own_entries-other : (first count : ℕ) (log : List Entry) (e : Entry) → ((first ≤ e.session) × (e.session < first + count) → ⊥)
+    → own_entries_of first count (log ++ e ∷ []) ≡ own_entries_of first count log
+own_entries-other first zero log e out = refl
+own_entries-other first (suc count) log e out = λ i.
     entries-other first log e (λ same. out (omega arith, omega arith)) i
-    ∷ mines-other (first + 1) count log e (λ h. out (omega arith, omega arith)) i
+    ∷ own_entries-other (first + 1) count log e (λ h. out (omega arith, omega arith)) i
 
-pub mines-append : (first n m next : ℕ) (log : List Entry) → next ≡ first + n
-    → mines_of first (n + m) log ≡ mines_of first n log ++ mines_of next m log
-mines-append first zero m next log is = ap (λ (x : ℕ). mines_of first x log) (zero-add m) ∙ ap (λ (x : ℕ). mines_of x m log) (omega arith)
-mines-append first (suc n) m next log is =
+pub own_entries-append : (first n m next : ℕ) (log : List Entry) → next ≡ first + n
+    → own_entries_of first (n + m) log ≡ own_entries_of first n log ++ own_entries_of next m log
+own_entries-append first zero m next log is = ap (λ (x : ℕ). own_entries_of first x log) (zero-add m) ∙ ap (λ (x : ℕ). own_entries_of x m log) (omega arith)
+own_entries-append first (suc n) m next log is =
     let e : suc n + m ≡ suc (n + m) = omega arith in
-    ap (λ (x : ℕ). mines_of first x log) e
-    ∙ ap (λ (l : List (List Entry)). entries_of first log ∷ l) (mines-append (first + 1) n m next log (omega arith))
+    ap (λ (x : ℕ). own_entries_of first x log) e
+    ∙ ap (λ (l : List (List Entry)). entries_of first log ∷ l) (own_entries-append (first + 1) n m next log (omega arith))
 
-pub mines-empty : (first count : ℕ) → mines_of first count [] ≡ replicate count []
-mines-empty first zero = refl
-mines-empty first (suc count) = ap (λ (l : List (List Entry)). [] ∷ l) (mines-empty (first + 1) count)
+pub own_entries-empty : (first count : ℕ) → own_entries_of first count [] ≡ replicate count []
+own_entries-empty first zero = refl
+own_entries-empty first (suc count) = ap (λ (l : List (List Entry)). [] ∷ l) (own_entries-empty (first + 1) count)

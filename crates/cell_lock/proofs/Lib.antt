@@ -6,5 +6,6 @@ pub mod Turns
 pub mod Dealing
 pub mod Seats
 pub mod Asking
+pub mod Answering
 pub mod Gathering
 pub mod Passes

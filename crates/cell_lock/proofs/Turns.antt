@@ -16,7 +16,7 @@ use Rattle.cell_lock.specs.declared.board.View.{View}
 use Rattle.cell_lock.specs.Openings.{Fits, Outside}
 use Rattle.cell_lock.specs.Views.{AtSeat, passing, acting, caught_up, MayFind}
 use Rattle.cell_lock.specs.Law.{Has, AllBegin, AllStand, Knows, Free, Taken, Kept, took, grew, gave}
-use Rattle.cell_lock.proofs.Histories.{prefix_all, begin_more, entries-other, mines-other}
+use Rattle.cell_lock.proofs.Histories.{prefix_all, begin_more, entries-other, own_entries-other}
 use Rattle.cell_lock.proofs.Acknowledging.{acknowledged_set, stand_on}
 use Rattle.cell_lock.proofs.Views.{below, each_set, apart_set}
 
@@ -37,7 +37,7 @@ acting_knows : {D : Type 0} (o p : Opening D) (log : List Entry) (n : ℕ) (answ
 acting_knows o p log n answers taken is range begin = record {
   same = λ h. is;
   begin = begin;
-  mines = refl;
+  own_entries = refl;
   range = λ h. range;
   acts = λ h. (refl, refl);
 }
@@ -86,7 +86,7 @@ module _ {D : Type 0} (has : DurableState D → ℕ → ℕ → Type 0) (moment 
           alone = λ i v e h. ⊎_elim (λ t. t.0) (λ t. let was : v.has_turn ≡ false = f.idle i v t.1 in cc) (at_set s.views id i w v e);
         };
       } in
-      let mine_is : mine ≡ entries_of n k.log = ap (λ (l : List (List Entry)). get_or l 0 []) known.mines in
+      let mine_is : mine ≡ entries_of n k.log = ap (λ (l : List (List Entry)). get_or l 0 []) known.own_entries in
       let follows : MayFind V f.held = record {
         fits = subst (λ (x : Opening D). Fits x f.held) (sym here) f.fits;
         began = subst (λ (h : List Entry). IsPrefix seen h) (sym f.seen) known.begin.0;
@@ -140,7 +140,7 @@ knows_more : {D : Type 0} (o : Opening D) (log : List Entry) (e : Entry) (v : Vi
 knows_more o log e v apart idle k = record {
   same = k.same;
   begin = begin_more v.answers log (e ∷ []) k.begin;
-  mines = k.mines ∙ sym (mines-other v.first v.count log e apart);
+  own_entries = k.own_entries ∙ sym (own_entries-other v.first v.count log e apart);
   range = k.range;
   acts = λ h. absurd (idle h);
 }
@@ -223,7 +223,7 @@ module _ {D : Type 0} (has : DurableState D → ℕ → ℕ → Type 0) (moment 
       let knows : Knows o k.log w = record {
         same = known.same;
         begin = (subst (λ (l : List Entry). IsPrefix seen l) log_is (prefix_all seen), known.begin);
-        mines = known.mines;
+        own_entries = known.own_entries;
         range = known.range;
         acts = λ h. absurd (cc);
       } in

@@ -10,7 +10,7 @@ use Rattle.durable_cell.specs.DurableState.{DurableState}
 use Rattle.cell_lock.specs.declared.board.Opening.{Opening}
 use Rattle.cell_lock.specs.declared.board.View.{View}
 use Rattle.cell_lock.specs.Openings.{Fits, Outside, first_moment}
-use Rattle.cell_lock.specs.Views.{AtSeat, mines_of, stock, passing, mine_of, caught_up, MayFind}
+use Rattle.cell_lock.specs.Views.{AtSeat, own_entries_of, initial_view, passing, mine_of, caught_up, MayFind}
 
 -- the number is one of the view's own
 abbrev pub Has : {D : Type 0} → View D → ℕ → Type 0
@@ -36,7 +36,7 @@ AllStand has shift durable (answer ∷ answers) =
 pub record Knows {D : Type 0} (opening : Opening D) (log : List Entry) (v : View D) : Type 0 where
   pub same : 0 < v.count → v.opening ≡ opening
   pub begin : AllBegin v.answers log
-  pub mines : v.mines ≡ mines_of v.first v.count log
+  pub own_entries : v.own_entries ≡ own_entries_of v.first v.count log
   pub range : 0 < v.count → (1 ≤ v.first) × (v.first + v.count ≤ opening.passes + 1)
   pub acts : v.has_turn ≡ true → (v.log ≡ log) × (v.count ≡ 1)
 
@@ -112,4 +112,4 @@ gave moment st m found m' = m' ≡ (passing m.0.opening m.0.first m.0.log (momen
 
 -- a new seat has no number, and stands after the last one
 abbrev pub sat : {D : Type 0} → Step (DurableState D) → AtSeat D → ℕ → AtSeat D → Type 0
-sat st m found m' = m' ≡ (stock m.0.opening (m.0.first + m.0.count) 0, [])
+sat st m found m' = m' ≡ (initial_view m.0.opening (m.0.first + m.0.count) 0, [])

@@ -1,9 +1,12 @@
 -- What the steps at a seat say.
-use Rattle.std.specs.Prelude.{◌≡◌, ℕ, None, false, List, [], ◌∷◌, ◌++◌, map, length}
+use Rattle.std.specs.Prelude.{◌≡◌, ℕ, None, Bool, false, true, Result, Ok, Err, List, [], ◌∷◌, ◌++◌, map, length}
 use Rattle.atomic_table.specs.Seated.{TableId}
 use Rattle.atomic_table.specs.declared.shared.Seat.{Seat}
+use Rattle.cell_base.specs.declared.requests.Reply.{Reply}
 use Rattle.cell_base.specs.declared.shifts.Entry.{Entry}
 use Rattle.durable_cell.specs.DurableState.{DurableState}
+use Rattle.durable_cell.specs.declared.fault.AskFault.{AskFault}
+use Rattle.durable_cell.specs.declared.fault.AskFault.TheVariants.{Halted, Full, Device}
 use Rattle.cell_lock.specs.declared.board.Opening.{Opening}
 use Rattle.cell_lock.specs.declared.board.View.{View}
 use Rattle.cell_lock.specs.Passes.{LockId, PassState, all_answers}
@@ -24,6 +27,13 @@ pub record GrewBy {D : Type 0} (v : View D) (log : List Entry) : Type 0 where
   pub ends : log ≡ v.log ++ entry ∷ []
   pub own : entry.session ≡ v.first
 
+-- the answer is an entry of the history
+abbrev pub adds_entry : Result Reply AskFault → Bool
+adds_entry (Ok reply) = true
+adds_entry (Err (Device at)) = true
+adds_entry (Err (Halted at)) = false
+adds_entry (Err (Full len)) = false
+
 -- the lock that the seat is of
 abbrev pub lock_of : {D : Type 0} → Seat (DurableState D) (View D) → LockId D
 lock_of seat = record { table = seat.table_id; opening = seat.me.0.opening }
@@ -35,7 +45,7 @@ gathering {D} opening first passes = record {
   first = first;
   count = length passes;
   answers = all_answers passes;
-  mines = map (λ (pass : PassState D). pass.mine) passes;
+  own_entries = map (λ (pass : PassState D). pass.mine) passes;
   log = [];
   taken = None;
   has_turn = false;

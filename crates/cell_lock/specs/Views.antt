@@ -10,18 +10,18 @@ use Rattle.cell_lock.specs.declared.board.View.{View}
 use Rattle.cell_lock.specs.Openings.{nothing_opened, Fits}
 
 -- the entries of each of `count` numbers, from `first` on
-abbrev pub mines_of : ℕ → ℕ → List Entry → List (List Entry)
-mines_of first zero log = []
-mines_of first (suc count) log = entries_of first log ∷ mines_of (first + 1) count log
+abbrev pub own_entries_of : ℕ → ℕ → List Entry → List (List Entry)
+own_entries_of first zero log = []
+own_entries_of first (suc count) log = entries_of first log ∷ own_entries_of (first + 1) count log
 
 -- a view that has these numbers to give
-abbrev pub stock : {D : Type 0} → Opening D → ℕ → ℕ → View D
-stock opening first count = record {
+abbrev pub initial_view : {D : Type 0} → Opening D → ℕ → ℕ → View D
+initial_view opening first count = record {
   opening = opening;
   first = first;
   count = count;
   answers = [];
-  mines = replicate count [];
+  own_entries = replicate count [];
   log = [];
   taken = None;
   has_turn = false;
@@ -34,7 +34,7 @@ passing opening number seen moment earlier mine = record {
   first = number;
   count = 1;
   answers = (seen, moment) ∷ earlier;
-  mines = mine ∷ [];
+  own_entries = mine ∷ [];
   log = [];
   taken = None;
   has_turn = false;
@@ -47,7 +47,7 @@ acting opening number answers log mine taken = record {
   first = number;
   count = 1;
   answers = answers;
-  mines = mine ∷ [];
+  own_entries = mine ∷ [];
   log = log;
   taken = taken;
   has_turn = true;
@@ -60,7 +60,7 @@ gathered v w = record {
   first = v.first;
   count = v.count + w.count;
   answers = v.answers ++ w.answers;
-  mines = v.mines ++ w.mines;
+  own_entries = v.own_entries ++ w.own_entries;
   log = v.log;
   taken = v.taken;
   has_turn = v.has_turn;
@@ -68,7 +68,7 @@ gathered v w = record {
 
 -- what is left of a view that was taken in
 abbrev pub spent : {D : Type 0} → View D
-spent = stock nothing_opened 0 0
+spent = initial_view nothing_opened 0 0
 
 -- a seat's view, and the durable cell in its hand
 abbrev pub AtSeat : Type 0 → Type 0
@@ -88,7 +88,7 @@ earlier_of v = drop 1 v.answers
 
 -- the entries of its own number
 abbrev pub mine_of : {D : Type 0} → View D → List Entry
-mine_of v = slice_index_or v.mines 0 []
+mine_of v = slice_index_or v.own_entries 0 []
 
 -- the durable cell in hand; `other` stands for it where there is none
 abbrev pub held_of : {D : Type 0} → DurableState D → AtSeat D → DurableState D
@@ -99,8 +99,8 @@ abbrev pub caught_up : {D : Type 0} → View D → List Entry → Option (Durabl
 caught_up v log taken = acting v.opening v.first v.answers log (entries_of v.first log) taken
 
 -- the seat that has the numbers which are left
-abbrev pub IsStock : {D : Type 0} → AtSeat D → Type 0
-IsStock m = m ≡ (stock m.0.opening m.0.first m.0.count, [])
+abbrev pub IsInitial : {D : Type 0} → AtSeat D → Type 0
+IsInitial m = m ≡ (initial_view m.0.opening m.0.first m.0.count, [])
 
 -- the seat of a pass between its calls
 abbrev pub IsResting : {D : Type 0} → AtSeat D → Type 0

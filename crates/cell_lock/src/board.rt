@@ -30,7 +30,7 @@ pub(crate) struct View<D: Disk> {
     pub(crate) first: u64,
     pub(crate) count: u64,
     pub(crate) answers: LinkedList<(LinkedList<Entry>, u64)>,
-    pub(crate) mines: LinkedList<LinkedList<Entry>>,
+    pub(crate) own_entries: LinkedList<LinkedList<Entry>>,
     pub(crate) log: LinkedList<Entry>,
     pub(crate) taken: Option<Durable<D>>,
     pub(crate) has_turn: bool,
@@ -51,12 +51,12 @@ impl<D: Disk, G: Recall> TableRule<Durable<D, G>, View<D>, Key<D, G>> for LockRu
     ghost use Rattle.cell_lock.specs.Law.{Kept};
     ghost use Rattle.durable_cell.specs.Acknowledged.{HasSince};
     ghost use Rattle.cell_lock.specs.Openings.{opening_of};
-    ghost use Rattle.cell_lock.specs.Views.{stock};
+    ghost use Rattle.cell_lock.specs.Views.{initial_view};
 
     ghost holds = { λ key. Kept (HasSince D.reads_as D.moment D.left_since) D.moment
         (opening_of key.durable.value key.shift key.passes) };
 
-    ghost first = { λ key. stock (opening_of key.durable.value key.shift key.passes) 1 key.passes };
+    ghost first = { λ key. initial_view (opening_of key.durable.value key.shift key.passes) 1 key.passes };
 }
 
 /// The table itself: its one slot holds the durable cell, and words 0 and 1 are the turn and the length of the history.

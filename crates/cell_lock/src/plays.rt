@@ -3,7 +3,7 @@ ghost use Rattle.std.specs.Prelude.{◌+◌, ◌-◌, []};
 ghost use Rattle.cell_lock.specs.Clauses.{HasSince};
 ghost use Rattle.cell_lock.specs.Openings.{first_moment};
 ghost use Rattle.cell_lock.specs.Law.{took, grew, gave, sat};
-ghost use Rattle.cell_lock.specs.Views.{stock, passing, gathered, spent};
+ghost use Rattle.cell_lock.specs.Views.{initial_view, passing, gathered, spent};
 
 use crate::board::View;
 use atomic_table::{Join, Play, Split};
@@ -42,7 +42,7 @@ impl<D: Disk, G: Recall> Play<Durable<D, G>, View<D>> for NewSeat {
 pub(crate) struct Deal;
 
 impl<D: Disk> Split<View<D>> for Deal {
-    ghost left = { λ v. stock v.opening (v.first + 1) (v.count - 1) };
+    ghost left = { λ v. initial_view v.opening (v.first + 1) (v.count - 1) };
 
     ghost right = { λ v. passing v.opening v.first [] (first_moment D.moment v.opening) [] [] };
 }

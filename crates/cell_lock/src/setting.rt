@@ -1,7 +1,7 @@
 //! How a table is laid and its passes are dealt, and how they come together again.
 ghost use Rattle.std.specs.Prelude.{◌≡◌, ◌+◌, ◌-◌, ◌<◌, ◌≤◌, false, [], ◌∷◌, length, IfOk, IfErr};
 ghost use Rattle.cell_lock.specs.Openings.{opening_of};
-ghost use Rattle.cell_lock.specs.Views.{stock, passing, gathered, IsStock};
+ghost use Rattle.cell_lock.specs.Views.{initial_view, passing, gathered, IsInitial};
 ghost use Rattle.cell_lock.specs.Passes.{new_pass, new_passes, ArePassesNumbered};
 ghost use Rattle.cell_lock.specs.Steps.{IsWide, lock_of, gathering};
 
@@ -48,7 +48,7 @@ pub(crate) fn lay<D: Disk, G: Recall>(
         ≡ opening_of durable shift passes) }
     ensures shift { IfOk result (λ laid. laid.0.shared.key.shift ≡ shift) }
     ensures table { IfOk result (λ laid. laid.1.table_id ≡ laid.0.shared.table_id) }
-    ensures seat { IfOk result (λ laid. laid.1.me ≡ (stock (opening_of durable shift passes) 1 passes, [])) }
+    ensures seat { IfOk result (λ laid. laid.1.me ≡ (initial_view (opening_of durable shift passes) 1 passes, [])) }
     ensures back { IfErr result (λ back. back.0 ≡ durable) }
 {
     durable_law(&durable);
@@ -75,10 +75,10 @@ fn deal_one<D: Disk, G: Recall>(
     number: u16,
 ) -> Pass<D, G>
     requires table { (seat.old.table_id ≡ top.now.table_id) × IsWide top.now.table_id }
-    requires left { IsStock seat.old.me × (seat.old.me.0.first ≡ number) × (0 < seat.old.me.0.count) }
+    requires left { IsInitial seat.old.me × (seat.old.me.0.first ≡ number) × (0 < seat.old.me.0.count) }
     ensures table { seat.new.table_id ≡ seat.old.table_id }
     ensures left { seat.new.me
-        ≡ (stock seat.old.me.0.opening (seat.old.me.0.first + 1) (seat.old.me.0.count - 1), []) }
+        ≡ (initial_view seat.old.me.0.opening (seat.old.me.0.first + 1) (seat.old.me.0.count - 1), []) }
     ensures pass { result ≡ new_pass D.moment (lock_of seat.old) number }
 {
     let seat = top.split_seat::<Deal>(seat);
@@ -93,7 +93,7 @@ pub(crate) fn deal<D: Disk, G: Recall>(
     passes: u16,
 )
     requires table { (seat.old.table_id ≡ top.now.table_id) × IsWide top.now.table_id }
-    requires left { IsStock seat.old.me × (seat.old.me.0.first ≡ 1) × (seat.old.me.0.count ≡ passes) }
+    requires left { IsInitial seat.old.me × (seat.old.me.0.first ≡ 1) × (seat.old.me.0.count ≡ passes) }
     requires room { (dealt.old.items ≡ []) × (passes ≤ dealt.old.spare) }
     ensures { dealt.new.items ≡ new_passes D.moment (lock_of seat.old) 1 passes }
 {

@@ -57,8 +57,8 @@ impl<D: Disk, G: Recall> SharedCell<D, G> {
         let Ok(mut dealt) = Shelf::with_room(alloc, u64::from(passes)) else {
             return Err((durable, NoMemory));
         };
-        let (table, mut stock) = lay(alloc, durable, shift, passes)?;
-        deal(&table.shared, &mut stock, &mut dealt, passes);
+        let (table, mut seat) = lay(alloc, durable, shift, passes)?;
+        deal(&table.shared, &mut seat, &mut dealt, passes);
         Ok((SharedCell { table, shift }, dealt.into_list()))
     }
 

@@ -3,7 +3,7 @@ ghost use Rattle.std.specs.Prelude.{◌≡◌, ◌↔◌, None, ◌∷◌, [], l
 ghost use Rattle.cell_lock.specs.Clauses.{Answers, HasSince, KeepsDisk, MovesSafely, RequestFits, after, entries_of, grants, plan_step};
 ghost use Rattle.cell_lock.specs.Openings.{Fits, first_parts};
 ghost use Rattle.cell_lock.specs.Views.{IsResting, IsActing, IsHolding, IsSafe, MayFind, held_of, seen_of, moment_of, earlier_of, mine_of};
-ghost use Rattle.cell_lock.specs.Steps.{IsWide, IsSame, GrewBy};
+ghost use Rattle.cell_lock.specs.Steps.{IsWide, IsSame, GrewBy, adds_entry};
 
 use crate::board::{Place, SharedTable};
 use crate::plays::{Give, Grow, Take};
@@ -87,7 +87,15 @@ fn grow<D: Disk, G: Recall>(top: &SharedTable<D, G>, seat: &mut Place<D, G>, len
     top.store::<Grow>(seat, 1, len);
 }
 
+// Whether an answer adds an entry to the history.
+fn adds_entry(answer: &Result<Reply, AskFault>) -> bool
+    ensures { result ≡ adds_entry answer.now }
+{
+    matches!(answer, Ok(_) | Err(AskFault::Device { .. }))
+}
+
 /// Asks, and tells the table of the entry.
+#[tactic(auto, using(crate::proofs::Answering::grew, crate::proofs::Answering::unchanged))]
 pub(crate) fn ask_held<D: Disk, G: Recall>(
     top: &SharedTable<D, G>,
     seat: &mut Place<D, G>,
@@ -110,18 +118,10 @@ pub(crate) fn ask_held<D: Disk, G: Recall>(
     ensures keeps { KeepsDisk D.reads_as D.may_leave D.moment D.left_since D.faults (held_of top.now.key.durable.value seat.new.me) }
 {
     let (answer, len) = decide(top, seat, shift, session, request);
-    match answer {
-        Ok(reply) => {
-            grow(top, seat, len);
-            Ok(reply)
-        }
-        Err(AskFault::Device { at }) => {
-            grow(top, seat, len);
-            Err(AskFault::Device { at })
-        }
-        Err(AskFault::Halted { at }) => Err(AskFault::Halted { at }),
-        Err(AskFault::Full { len }) => Err(AskFault::Full { len }),
+    if adds_entry(&answer) {
+        grow(top, seat, len);
     }
+    answer
 }
 
 /// The plan's step from the state of the durable cell in hand.

@@ -1,8 +1,7 @@
 -- A command answers with status 0 or 1, those that add to a journal also with 7, and `follow` also with 10; so each other status has its
 -- cause before the answer.
-use Rattle.std.specs.Prelude.{IfSome}
-use Rattle.std.specs.Prelude.{⊤}
-use Rattle.std.proofs.Common.{◌≡◌, ◌⊎◌, inl, inr, ◌∙◌, ap, ℕ, List, subst, sym}
+use Rattle.std.specs.Prelude.{IfSome, ⊤}
+use Rattle.std.proofs.Common.{arith, ◌≡◌, ◌⊎◌, inl, inr, ◌∙◌, ap, ℕ, List, subst, sym}
 use Rattle.outside_io.specs.Causes.{Rose}
 use Rattle.outside_io.specs.Puts.{SinkTold}
 use Rattle.cell_base.specs.declared.shifts.Grant.{Grant}
@@ -33,8 +32,8 @@ use Rattle.cell_commands.proofs.DrainTold.{drain_told}
 use Rattle.run_command.proofs.RunTold.{run_told}
 use Rattle.cell_base.specs.declared.cells.Cell.{Cell as OfCell}
 use Rattle.cell_program.specs.Causes.{Causes, IsFollow, IsRefusedFor}
-use Rattle.cell_program.specs.Words.{Task, Solo, Run, Plan, Drain, Why, Check, Show, Make, Carry, Begin}
-use Rattle.cell_program.specs.Words.{Hybrid, Queue, Advise, Arrange, Grants, Parts, Feed, Follow, walk_of}
+use Rattle.command_words.specs.Words.{Task, Run, Drain, Check, Begin, Follow}
+use Rattle.cell_program.specs.Walks.{walk_of}
 
 -- the commands that add to their journal
 abbrev Adds : Task → Type 0
@@ -84,37 +83,11 @@ follow_so task may adds cell opening frames outcome (RefusedAt is) = subst (IsAn
 follow_so task may adds cell opening frames outcome (HaltedAt is) = subst (IsAnswers task) (sym is.status) adds
 
 answers_of : (task : Task) → AnswersSo task (walk_of task)
-answers_of (Solo cell shift) = λ held s input outcome is. so (Solo cell shift) outcome _ is.2 tt
-answers_of (Run cell shift journal) = λ held s grants started input outcome is.
-    elim is [
-      | inl whole ↦ so (Run cell shift journal) outcome _ whole.is tt
-      | inr halted ↦ so
-          (Run cell shift journal) outcome _ halted.is tt
-    ]
-answers_of (Plan cell journal) = λ held grants input outcome is. so (Plan cell journal) outcome _ is.is tt
-answers_of (Drain cell journal) = λ held grants input outcome is.
-    elim is [ inl whole ↦ so (Drain cell journal) outcome _ whole.is tt | inr halted ↦ so (Drain cell journal) outcome _ halted.is tt ]
-answers_of (Why cell journal step) = λ held request grants input outcome is. so (Why cell journal step) outcome _ is tt
 answers_of (Check cell record_file) =
     λ held blocks input outcome is. so (Check cell record_file) outcome _ is (verdict_so (Check cell record_file) (judge held.cell blocks))
-answers_of (Show cell) = λ held input outcome is. so (Show cell) outcome _ is tt
-answers_of (Make number) = λ drawn input outcome is. so (Make number) outcome _ is.2 tt
-answers_of (Carry cell journal other) = λ held new grants requests input outcome is. so (Carry cell journal other) outcome _ is.is tt
-answers_of (Begin cell start journal) = λ held requests granted grants first input outcome is.
-    elim is [
-      | inl whole ↦ so (Begin cell start journal) outcome _ whole.is tt
-      | inr halted ↦ so
-          (Begin cell start journal) outcome _ halted.is tt
-    ]
-answers_of (Hybrid cell shift) = λ held s input outcome is. so (Hybrid cell shift) outcome _ is.2 tt
-answers_of (Queue cell shift) = λ held s input outcome is. so (Queue cell shift) outcome _ is.printed tt
-answers_of (Advise cell) = λ held few input outcome is. so (Advise cell) outcome _ is.is tt
-answers_of (Arrange cell) = λ held few input outcome is. so (Arrange cell) outcome _ is.is tt
-answers_of (Grants cell journal) = λ held grants input outcome is. so (Grants cell journal) outcome _ is.is tt
-answers_of (Parts cell journal) = λ held grants input outcome is. so (Parts cell journal) outcome _ is tt
-answers_of (Feed cell journal from) = λ first held grants enough input outcome is. so (Feed cell journal from) outcome _ is tt
 answers_of (Follow cell frames journal) = λ held list grants had input outcome is.
     follow_so (Follow cell frames journal) tt tt held.cell grants list outcome is
+answers_of task = grind (arith, so)
 
 -- the writing of a grant failed only where the disk did
 by_follow : (disk : DiskTold) (cell : OfCell) (text : List ℕ) (frames : List (List ℕ)) (opening : List Grant) (outcome : Outcome)

@@ -8,7 +8,8 @@ use Rattle.cell_walks.specs.Walks.{Walk}
 use Rattle.cell_walks.specs.declared.early_end.Refusal.{Refusal}
 use Rattle.cell_walks.specs.declared.early_end.Subject.{Subject}
 use Rattle.cell_walks.specs.declared.early_end.Subject.TheVariants.{Words, Cell, Input, Journal, Command}
-use Rattle.cell_program.specs.Words.{Task, Follow, walk_of}
+use Rattle.command_words.specs.Words.{Task, Follow}
+use Rattle.cell_program.specs.Walks.{walk_of}
 
 -- what is read is refused so, at the first test of the walk that it doesn't pass, and the line of the fault was taken
 abbrev pub IsRefusedFor : Observed → SinkTold → Walk → Subject → Type 0

@@ -1,5 +1,4 @@
 pub mod Causes
-pub mod Deciding
 pub mod Headline
 pub mod Promised
-pub mod Words
+pub mod Walks

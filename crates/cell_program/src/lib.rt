@@ -1,9 +1,9 @@
 //! The program: what the words of a command line ask for is done over given files, sink and disk.
 //!
 //! `cell_main` is the top call. It answers a status and hands back the disk. What it promises stands in `cell_walks`, once for every
-//! command: of the walk of the command that the words are (`specs/Words`, one line each). What that says of the commands that add to a
-//! journal is told fact by fact in `specs/Headline`, and why a command ends with each status in `specs/Causes`. `serve_main` is the top call
-//! of `serve`, which alone has an input.
+//! command: of the walk of the command that the words are. Which that is says `command_words`, and its walk `specs/Walks`, one line each. What
+//! that says of the commands that add to a journal is told fact by fact in `specs/Headline`, and why a command ends with each status in
+//! `specs/Causes`. `serve_main` is the top call of `serve`, which alone has an input.
 //!
 //! ```rust
 //! let mut files = files_of(rt, words)?;
@@ -15,8 +15,7 @@
 
 mod serving;
 mod top;
-mod words;
 
+pub use command_words::{Command, Journal, Served, command_of, journal_in, served_in, usage};
 pub use serving::serve_main;
-pub use top::{Ended, cell_main, usage};
-pub use words::{Command, Journal, Served, command_of, journal_in, served_in};
+pub use top::{Ended, cell_main};

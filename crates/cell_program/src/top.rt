@@ -1,20 +1,21 @@
 //! The top call: the words of a command line, files, a sink and a disk go in, and a status and the disk come out.
 ghost use Rattle.std.specs.Prelude.{◌≡◌, ℕ, List, map, None};
 ghost use Rattle.cell_walks.specs.Clauses.{Ends, disk_seen, files_seen, observed, sink_seen};
-ghost use Rattle.cell_program.specs.Words.{Begin as BeginTask, Drain as DrainTask, Follow as FollowTask, Run as RunTask};
-ghost use Rattle.cell_program.specs.Words.{Task, journal_of, no_command, serve_words, usage_text, walk_for, walk_of, words_of};
-ghost use Rattle.cell_program.specs.Deciding.{option_and_then, string_bytes, task_of};
+ghost use Rattle.std.specs.String.{string_bytes};
+ghost use Rattle.command_words.specs.Words.{Begin as BeginTask, Drain as DrainTask, Follow as FollowTask, Run as RunTask};
+ghost use Rattle.command_words.specs.Words.{Task, journal_of, serve_words, task_in, words_of};
+ghost use Rattle.cell_program.specs.Walks.{no_command, walk_of};
 ghost use Rattle.cell_program.specs.Causes.{Causes};
 ghost use Rattle.cell_program.specs.Headline.{Begun, Drained, Headline};
 ghost use Rattle.cell_program.specs.Promised.{FollowsAll, PromisesAt};
 ghost use Rattle.standby_commands.specs.FollowTold.{FollowTells};
 
-use crate::words::{Command, command_of};
 use carry_commands::{Begin, Carry};
 use cell_commands::{Check, Drain, Plan, Show, Why};
 use cell_driver::drive;
 use cell_texts::{CommandEnd, print_usage};
-use cell_walks::{Status, leaves_only_now, reads_an_image};
+use cell_walks::{leaves_only_now, reads_an_image};
+use command_words::{Command, command_of, usage};
 use hybrid_command::HybridShift;
 use look_commands::{Grants, Parts};
 use make_command::run_make;
@@ -101,7 +102,7 @@ pub fn cell_main<R: Threads + Wait + Sync, F: Files, K: Sink, D: Disk + Send, P:
     ensures untouched { ((task : Task) → words_of task ≡ map string_bytes words.now → journal_of task ≡ None) → result.disk ≡ disk }
 {
     reads_an_image(&disk);
-    let CommandEnd { status, disk } = run_command(rt, alloc, words, files, out, disk, pace);
+    let CommandEnd { status, disk } = run_words(rt, alloc, words, files, out, disk, pace);
     Ended {
         status: status.number(),
         disk,
@@ -109,7 +110,7 @@ pub fn cell_main<R: Threads + Wait + Sync, F: Files, K: Sink, D: Disk + Send, P:
 }
 
 // Runs the command that the words are, or prints the commands with their words.
-fn run_command<R: Threads + Wait + Sync, F: Files, K: Sink, D: Disk + Send, P: Pace + Sync>(
+fn run_words<R: Threads + Wait + Sync, F: Files, K: Sink, D: Disk + Send, P: Pace + Sync>(
     rt: &R,
     alloc: Global,
     words: &[String],
@@ -118,69 +119,79 @@ fn run_command<R: Threads + Wait + Sync, F: Files, K: Sink, D: Disk + Send, P: P
     disk: D,
     pace: &P,
 ) -> CommandEnd<D>
-    ensures ends { let files = files_seen F.Files files.old files.new in
+    ensures command { (task : Task) → words_of task ≡ map string_bytes words.now →
+        let files = files_seen F.Files files.old files.new in
         let disk = disk_seen D.Disk disk result.disk in
-        Ends (observed files disk) (sink_seen K.Sink out.old out.new) (walk_for (task_of (map string_bytes words.now)))
-        result.status }
-    ensures same { option_and_then journal_of (task_of (map string_bytes words.now)) ≡ None → result.disk ≡ disk }
+        Ends (observed files disk) (sink_seen K.Sink out.old out.new) (walk_of task) result.status }
+    ensures none { ((task : Task) → words_of task ≡ map string_bytes words.now → ⊥) →
+        let files = files_seen F.Files files.old files.new in
+        let disk = disk_seen D.Disk disk result.disk in
+        Ends (observed files disk) (sink_seen K.Sink out.old out.new) no_command result.status }
+    ensures same { ((task : Task) → words_of task ≡ map string_bytes words.now → journal_of task ≡ None) → result.disk ≡ disk }
 {
     leaves_only_now(&disk);
     match command_of(words) {
+        Some(command) => run_command(rt, alloc, command, files, out, disk, pace),
         None => CommandEnd {
             status: print_usage(out, usage()),
             disk,
         },
-        Some(Command::Solo { cell, shift }) => run_solo(alloc, files, out, cell, shift, disk),
-        Some(Command::Run { cell, shift, .. }) => run_on_journal(
-            rt, alloc, files, out, cell, shift, disk, pace,
-        ),
-        Some(Command::Plan { cell, .. }) => drive(&Plan, alloc, files, out, cell, disk),
-        Some(Command::Drain { cell, .. }) => drive(&Drain, alloc, files, out, cell, disk),
-        Some(Command::Why { cell, step, .. }) => {
-            drive(&Why { step }, alloc, files, out, cell, disk)
-        }
-        Some(Command::Check { cell, record_file }) => {
-            drive(&Check { record_file }, alloc, files, out, cell, disk)
-        }
-        Some(Command::Show { cell }) => drive(&Show, alloc, files, out, cell, disk),
-        Some(Command::Make { number }) => run_make(alloc, files, out, number, usage(), disk),
-        Some(Command::Carry { cell, other, .. }) => {
-            drive(&Carry { other }, alloc, files, out, cell, disk)
-        }
-        Some(Command::Begin { cell, start, .. }) => {
-            drive(&Begin { start }, alloc, files, out, cell, disk)
-        }
-        Some(Command::Hybrid { cell, shift }) => {
-            drive(&HybridShift { shift }, alloc, files, out, cell, disk)
-        }
-        Some(Command::Queue { cell, shift }) => {
-            drive(&Queue { shift }, alloc, files, out, cell, disk)
-        }
-        Some(Command::Advise { cell }) => {
-            let weighing = Weighing::Alike;
-            drive(&BestOrders { weighing }, alloc, files, out, cell, disk)
-        }
-        Some(Command::Arrange { cell }) => {
-            let weighing = Weighing::ByCapacity;
-            drive(&BestOrders { weighing }, alloc, files, out, cell, disk)
-        }
-        Some(Command::Grants { cell, .. }) => drive(&Grants, alloc, files, out, cell, disk),
-        Some(Command::Parts { cell, .. }) => drive(&Parts, alloc, files, out, cell, disk),
-        Some(Command::Feed { cell, from, .. }) => {
-            run_feed(alloc, files, out, cell, from, usage(), disk)
-        }
-        Some(Command::Follow { cell, frames, .. }) => {
-            drive(&Follow { frames }, alloc, files, out, cell, disk)
-        }
     }
 }
 
-/// The commands with their words.
-pub fn usage() -> &'static [u8]
-    ensures { result.now ≡ usage_text }
+// Runs a command.
+fn run_command<R: Threads + Wait + Sync, F: Files, K: Sink, D: Disk + Send, P: Pace + Sync>(
+    rt: &R,
+    alloc: Global,
+    command: Command<'_>,
+    files: &mut F,
+    out: &mut K,
+    disk: D,
+    pace: &P,
+) -> CommandEnd<D>
+    ensures ends { let files = files_seen F.Files files.old files.new in
+        let disk = disk_seen D.Disk disk result.disk in
+        Ends (observed files disk) (sink_seen K.Sink out.old out.new) (walk_of (task_in command.entry)) result.status }
+    ensures same { journal_of (task_in command.entry) ≡ None → result.disk ≡ disk }
 {
-    b"usage: solo CELL SHIFT, run CELL SHIFT JOURNAL, plan CELL JOURNAL, drain CELL JOURNAL, why CELL JOURNAL STEP, check CELL RECORD, \
-      show CELL, make NUMBER, carry CELL1 JOURNAL CELL2, begin CELL START JOURNAL, hybrid CELL SHIFT, queue CELL SHIFT, \
-      advise CELL, feed CELL JOURNAL FROM, follow CELL FRAMES JOURNAL, arrange CELL, grants CELL JOURNAL, parts CELL JOURNAL, \
-      serve CELL JOURNAL\n"
+    match command {
+        Command::Solo { cell, shift } => run_solo(alloc, files, out, cell, shift, disk),
+        Command::Run { cell, shift, .. } => run_on_journal(
+            rt, alloc, files, out, cell, shift, disk, pace,
+        ),
+        Command::Plan { cell, .. } => drive(&Plan, alloc, files, out, cell, disk),
+        Command::Drain { cell, .. } => drive(&Drain, alloc, files, out, cell, disk),
+        Command::Why { cell, step, .. } => { drive(&Why { step }, alloc, files, out, cell, disk) }
+        Command::Check { cell, record_file } => {
+            drive(&Check { record_file }, alloc, files, out, cell, disk)
+        }
+        Command::Show { cell } => drive(&Show, alloc, files, out, cell, disk),
+        Command::Make { number } => run_make(alloc, files, out, number, usage(), disk),
+        Command::Carry { cell, other, .. } => {
+            drive(&Carry { other }, alloc, files, out, cell, disk)
+        }
+        Command::Begin { cell, start, .. } => {
+            drive(&Begin { start }, alloc, files, out, cell, disk)
+        }
+        Command::Hybrid { cell, shift } => {
+            drive(&HybridShift { shift }, alloc, files, out, cell, disk)
+        }
+        Command::Queue { cell, shift } => { drive(&Queue { shift }, alloc, files, out, cell, disk) }
+        Command::Advise { cell } => {
+            let weighing = Weighing::Alike;
+            drive(&BestOrders { weighing }, alloc, files, out, cell, disk)
+        }
+        Command::Arrange { cell } => {
+            let weighing = Weighing::ByCapacity;
+            drive(&BestOrders { weighing }, alloc, files, out, cell, disk)
+        }
+        Command::Grants { cell, .. } => drive(&Grants, alloc, files, out, cell, disk),
+        Command::Parts { cell, .. } => drive(&Parts, alloc, files, out, cell, disk),
+        Command::Feed { cell, from, .. } => {
+            run_feed(alloc, files, out, cell, from, usage(), disk)
+        }
+        Command::Follow { cell, frames, .. } => {
+            drive(&Follow { frames }, alloc, files, out, cell, disk)
+        }
+    }
 }

@@ -10,7 +10,7 @@ use crate::fault::BeginFault;
 use crate::progress::Progress;
 use crate::session_starts::SessionStarts;
 use cell_base::{Grant, List, MAX_STEPS, NoMemory, Request, Shift};
-use shift_recovery::Taker;
+use shift_recovery::GrantVisitor;
 use solo_rounds::Progress as Stand;
 use std::alloc::Global;
 
@@ -61,7 +61,7 @@ fn start_at(script: &List<Request>, next: u32) -> Progress
     }
 }
 
-/// A taker that keeps the grants of one shift's number, which `begin` needs, and of the others none. Once it has more than any shift has
+/// A visitor that keeps the grants of one shift's number, which `begin` needs, and of the others none. Once it has more than any shift has
 /// steps it keeps no more, since one of these is no next step.
 #[derive(Drop)]
 pub struct ShiftGrants {
@@ -83,11 +83,11 @@ impl ShiftGrants {
     }
 }
 
-impl Taker for ShiftGrants {
-    ghost took = { λ start _ grants now. start.grants ≡ []
+impl GrantVisitor for ShiftGrants {
+    ghost visited = { λ start _ grants now. start.grants ≡ []
         → (now.number ≡ start.number) × (now.grants ≡ first_of_shift start.number grants) };
 
-    fn take(&mut self, _at: u64, grant: Grant) -> Result<(), NoMemory> {
+    fn visit(&mut self, _at: u64, grant: Grant) -> Result<(), NoMemory> {
         if grant.shift == self.number && self.grants.len() <= MAX_STEPS {
             self.grants.try_push(grant)?;
         }

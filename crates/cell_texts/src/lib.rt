@@ -1,12 +1,11 @@
-//! What the commands share: every text beside records, the tests of files and words with their readers, and records printed. What
-//! needs a journal stands in `journal_texts`.
+//! What the commands share: every text beside records, and the tests of files and words with their readers. Records are printed by
+//! `record_printer`, and what needs a journal stands in `journal_texts`.
 //!
-//! A reader gives what a file stands for, or the end of the command in its place, with the line that says why. `records` prints over a
-//! `Printer`, each line by itself.
+//! A reader gives what a file stands for, or the end of the command in its place, with the line that says why.
 //!
 //! ```text
 //! match read_cell(alloc, &mut files, "cell.toml") {
-//!     Ok(held) => print_left(&mut Printer::new(&mut out), Core::open(alloc, held.cell)?),
+//!     Ok(held) => print_left(&mut out, Core::open(alloc, held.cell)?),
 //!     Err(end) => finish_early(&mut out, end),
 //! }
 //! ```
@@ -17,12 +16,11 @@ mod lines;
 mod made;
 mod printing;
 mod readers;
-pub mod records;
 mod refusals;
 
 pub use findings::Finding;
 pub use lines::job_line;
 pub use made::{Answered, Made};
-pub use printing::{print_left, print_lines, print_usage};
+pub use printing::{print_lines, print_usage};
 pub use readers::{CellFile, CommandEnd, read_cell, read_named, read_shift};
 pub use refusals::{at_finding, at_record_fault, at_step_fault};

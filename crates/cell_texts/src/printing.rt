@@ -2,10 +2,7 @@
 ghost use Rattle.std.specs.Prelude.{[], ◌∷◌, OnOk, OnErr};
 ghost use Rattle.cell_walks.specs.Clauses.{HasCause, IsDelivered, TookAll, TookSome, printed, sink_told};
 ghost use Rattle.cell_walks.specs.declared.status.Status.TheVariants.{NoCommand};
-ghost use Rattle.cell_texts.specs.Blocks.{left_in_core};
 
-use crate::records;
-use admission_core::Core;
 use cell_walks::Status;
 use outside_io::{Failed, Sink};
 use printer::Printer;
@@ -19,21 +16,6 @@ pub fn print_lines<K: Sink>(out: &mut K, lines: &[Line]) -> Result<(), Failed>
 {
     let mut printer = Printer::new(out);
     printer.lines(lines);
-    if printer.has_failed() {
-        return Err(Failed);
-    }
-    Ok(())
-}
-
-/// Puts how many parts are left in a core, and the plan that empties it, up to the first line that the sink doesn't take. It takes no
-/// memory.
-pub fn print_left<K: Sink>(out: &mut K, core: Core) -> Result<(), Failed>
-    ensures whole { OnOk result (TookAll (sink_told K.taken K.was_put K.faults out.old out.new) (left_in_core core)) }
-    ensures part { OnErr result (TookSome (sink_told K.taken K.was_put K.faults out.old out.new) (left_in_core core)) }
-    ensures cause { HasCause (K.faults out.old) (K.faults out.new) result }
-{
-    let mut printer = Printer::new(out);
-    records::print_left(&mut printer, core);
     if printer.has_failed() {
         return Err(Failed);
     }

@@ -3,9 +3,9 @@ use Rattle.std.specs.Prelude.{IfSome, IsSomeAnd}
 use Rattle.std.proofs.Common.{◌≡◌, ◌⊎◌, inl, inr, ℕ, List, ◌++◌, Ok, Err, ap, subst, ◌∙◌, refl}
 use Rattle.cell_base.specs.declared.cells.Cell.{Cell}
 use Rattle.cell_base.specs.declared.shifts.Grant.{Grant}
-use Rattle.shift_recovery.specs.Replayed.{opened_as}
-use Rattle.move_journal.specs.Blanks.{IsBlank}
-use Rattle.shift_recovery.specs.declared.faults.JournalFault.{JournalFault}
+use Rattle.journal_format.specs.Replayed.{opened_as}
+use Rattle.journal_format.specs.Blanks.{IsBlank}
+use Rattle.journal_format.specs.declared.fault.JournalFault.{JournalFault}
 use Rattle.cell_walks.specs.Allowed.{AllowsFrom, IsAllowed, IsLeft, IsOpenedAs, IsUnopened, Reached, reached_by, Stopped}
 use Rattle.cell_walks.specs.Allowed.{Passed, NotOpened, OpeningFailed, OpeningRefused, OpeningStarved, JournalOpened}
 use Rattle.cell_walks.specs.DiskTold.{IsOnlyRead, StoodFor}

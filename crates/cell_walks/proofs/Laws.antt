@@ -2,8 +2,8 @@
 use Rattle.std.specs.Prelude.{IfSome, IsSomeAnd}
 use Rattle.std.proofs.Common.{Some, ◌≡◌, ◌⊎◌, inl, inr, ℕ, List, Result, Ok, Err, sym, ap, subst, ◌∙◌, refl}
 use Rattle.cell_base.specs.declared.shifts.Grant.{Grant}
-use Rattle.shift_recovery.specs.Replayed.{opened_as}
-use Rattle.shift_recovery.specs.declared.faults.JournalFault.{JournalFault}
+use Rattle.journal_format.specs.Replayed.{opened_as}
+use Rattle.journal_format.specs.declared.fault.JournalFault.{JournalFault}
 use Rattle.cell_walks.specs.Allowed.{AllowsFrom, IsOpenedAs, Reached, reached_by, IsUnread, ByFault, ByMemory, ByRefusal, Stopped}
 use Rattle.cell_walks.specs.Allowed.{Passed, NotOpened, OpeningFailed, OpeningRefused, OpeningStarved, JournalOpened}
 use Rattle.cell_walks.specs.Observed.{Observed, HoldsOfBytes, Tells, certain}

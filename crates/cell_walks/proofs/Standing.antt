@@ -5,13 +5,13 @@ use Rattle.std.proofs.lemmas.List.Elements.{All-nil}
 use Rattle.cell_base.specs.Fits.{RequestFits}
 use Rattle.cell_base.specs.declared.cells.Cell.{Cell}
 use Rattle.cell_base.specs.declared.shifts.Grant.{Grant}
-use Rattle.shift_recovery.specs.Replayed.{AreDue, opened_as, replayed_reading}
-use Rattle.shift_recovery.proofs.Replaying.{due_replayed}
-use Rattle.move_journal.specs.Blanks.{IsBlank}
-use Rattle.move_journal.specs.Journals.{StandsFor}
-use Rattle.move_journal.proofs.Uniqueness.{journal_of, one_journal}
-use Rattle.shift_recovery.specs.declared.faults.JournalFault.{JournalFault}
-use Rattle.shift_recovery.proofs.Standing.{stands_found}
+use Rattle.journal_format.specs.Replayed.{AreDue, opened_as, replayed_reading}
+use Rattle.journal_format.proofs.Replaying.{due_replayed}
+use Rattle.journal_format.specs.Blanks.{IsBlank}
+use Rattle.journal_format.specs.Journals.{StandsFor}
+use Rattle.journal_format.proofs.Uniqueness.{journal_of, one_journal}
+use Rattle.journal_format.specs.declared.fault.JournalFault.{JournalFault}
+use Rattle.journal_format.proofs.Standing.{stands_found}
 use Rattle.cell_walks.specs.DiskTold.{DiskTold, IsOnlyRead, StaysEmpty, StillStandsFor, StoodFor, AddsNothing}
 use Rattle.cell_walks.proofs.OpenedOnce.{opened_once}
 

@@ -6,7 +6,7 @@ use Rattle.std.proofs.Math.Seq.{take-append_seam}
 use Rattle.std.proofs.lemmas.List.{take_all}
 use Rattle.outside_io.specs.Causes.{Rose}
 use Rattle.cell_base.specs.declared.shifts.Grant.{Grant}
-use Rattle.move_journal.specs.Journals.{StandsForPrefix, StandsFor}
+use Rattle.journal_format.specs.Journals.{StandsForPrefix, StandsFor}
 use Rattle.cell_walks.specs.Allowed.{IsUnread, StandsForAdded}
 use Rattle.cell_walks.specs.DiskTold.{DiskTold, IsAlways, IsNow, IsOnlyRead, IsUntouched, SinceEntry, StillStandsFor, StoodFor}
 use Rattle.cell_walks.specs.Observed.{FilesTold, Source, Word, File, Known, IsThereAt, HoldsOfBytes, Tells}

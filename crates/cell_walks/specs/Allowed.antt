@@ -3,9 +3,9 @@ use Rattle.std.specs.Prelude.{◌≡◌, ◌⊎◌, ℕ, List, ◌++◌, Some, I
 use Rattle.std.specs.List.{All}
 use Rattle.outside_io.specs.Causes.{Rose}
 use Rattle.cell_base.specs.declared.shifts.Grant.{Grant}
-use Rattle.move_journal.specs.Journals.{StandsForPrefix, StandsFor}
-use Rattle.shift_recovery.specs.Replayed.{AreDue, opened_as}
-use Rattle.shift_recovery.specs.declared.faults.JournalFault.{JournalFault}
+use Rattle.journal_format.specs.Journals.{StandsForPrefix, StandsFor}
+use Rattle.journal_format.specs.Replayed.{AreDue, opened_as}
+use Rattle.journal_format.specs.declared.fault.JournalFault.{JournalFault}
 use Rattle.cell_walks.specs.DiskTold.{DiskTold, IsNow, IsOnlyRead, IsUntouched, AddsNothing, SinceEntry}
 use Rattle.outside_io.specs.Files.{IsThere}
 use Rattle.cell_walks.specs.Observed.{FilesTold, Observed, Source, Word, File, Known, HoldsOfBytes}

@@ -3,9 +3,9 @@ use Rattle.std.specs.Prelude.{◌≡◌, ◌⊎◌, ℕ, ◌≤◌, List, [], Op
 use Rattle.outside_io.specs.Disk.{SameOutcomes}
 use Rattle.outside_io.specs.Meanings.{DiskMeaning}
 use Rattle.cell_base.specs.declared.shifts.Grant.{Grant}
-use Rattle.move_journal.specs.Blanks.{IsBlank}
-use Rattle.move_journal.specs.Journals.{StandsFor}
-use Rattle.shift_recovery.specs.Reads.{OnlyReads}
+use Rattle.journal_format.specs.Blanks.{IsBlank}
+use Rattle.journal_format.specs.Journals.{StandsFor}
+use Rattle.journal_format.specs.Reads.{OnlyReads}
 
 -- What the disk reads as, which files a crash may leave, and how many calls have failed, at entry and at the return; which files a crash
 -- at any moment since entry might have left, and which one since a later moment; and until which moments it was only read.

@@ -5,9 +5,9 @@ use Rattle.outside_io.specs.Causes.{Rose}
 use Rattle.outside_io.specs.Puts.{SinkTold, TookAll}
 use Rattle.outside_io.specs.Sink.{AppendsPrefix}
 use Rattle.cell_base.specs.declared.shifts.Grant.{Grant}
-use Rattle.move_journal.specs.Journals.{StandsForPrefix}
-use Rattle.shift_recovery.specs.Replayed.{AreDue, opened_as}
-use Rattle.shift_recovery.specs.declared.faults.JournalFault.{JournalFault}
+use Rattle.journal_format.specs.Journals.{StandsForPrefix}
+use Rattle.journal_format.specs.Replayed.{AreDue, opened_as}
+use Rattle.journal_format.specs.declared.fault.JournalFault.{JournalFault}
 use Rattle.cell_walks.specs.Allowed.{StandsForAdded, IsAllowed, IsLeft, IsOpenedAs, Reached, Unasked, reached_by}
 use Rattle.cell_walks.specs.DiskTold.{AddsNothing, DiskTold, IsAlways, IsNow, IsOnlyRead, IsUntouched, StoodFor}
 use Rattle.cell_walks.specs.Observed.{Observed, Evidence, IsThereAt, HoldsOfBytes, Tells, certain, shown}

@@ -2,7 +2,7 @@
 use Rattle.std.specs.Prelude.{◌≡◌, ℕ, List, Option, Some, None, Result}
 use Rattle.cell_base.specs.declared.cells.Cell.{Cell}
 use Rattle.cell_base.specs.declared.shifts.Grant.{Grant}
-use Rattle.shift_recovery.specs.declared.faults.JournalFault.{JournalFault}
+use Rattle.journal_format.specs.declared.fault.JournalFault.{JournalFault}
 use Rattle.outside_io.specs.Source.{SourceTold}
 use Rattle.cell_walks.specs.Observed.{Source}
 use Rattle.cell_walks.specs.Outcomes.{Outcome}

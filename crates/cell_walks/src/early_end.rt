@@ -4,8 +4,8 @@ ghost use Rattle.cell_walks.specs.Statuses.{early_status, subject_status};
 
 use crate::status::Status;
 use cell_base::NoMemory;
+use line_text::Line;
 use outside_io::FileFail;
-use record_text::Line;
 
 /// What is refused.
 #[derive(Clone, Copy, Debug, PartialEq, Eq)]

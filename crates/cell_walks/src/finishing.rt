@@ -6,8 +6,8 @@ ghost use Rattle.cell_walks.specs.Statuses.{IsTaken, early_line};
 
 use crate::early_end::EarlyEnd;
 use crate::status::Status;
+use line_text::Line;
 use outside_io::Sink;
-use record_text::Line;
 
 /// Puts a line, and answers its status, or the sink's fault.
 pub fn finish<K: Sink>(out: &mut K, status: Status, line: &Line) -> Status

@@ -3,7 +3,6 @@ use cell_base::List;
 use hints::{Ended, hint};
 use outside_io::MemFiles;
 use real_outside::Failure;
-use record_hints::owed;
 use std::alloc::Global;
 use std::io::{Error, ErrorKind};
 use std::test::Fail;
@@ -121,19 +120,19 @@ f, asks 1048577: the steps of all sessions times the patience are more than 1048
 /// The same for records, where a stroke stands for a newline.
 const RECORDS: &str = r#"shift 1 after 2/left 0/plan 0/
 no 1 after
-f, line 1, "shift 1 after 2": the head has to name the grants before it: 0
+f, line 1, "shift 1 after 2": the head has to name the grants before it
 shift 1 after 0/1 unload 7 granted/left 0/plan 0/
 no 2 reply
-f, line 2, "1 unload 7 granted": the policy answers otherwise: refused no-such-job, no part of this job is in the cell
+f, line 2, "1 unload 7 granted": the policy answers otherwise
 shift 1 after 0/1 load 7 A halted/shift 1 after 1/1 process M1 granted/1 unload 7 granted/left 0/plan 0/
 no 5 reply
-f, line 5, "1 unload 7 granted": the policy answers otherwise: refused not-last, the part is not at a last place yet
+f, line 5, "1 unload 7 granted": the policy answers otherwise
 shift 1 after 0/1 load 7 A granted/left 2/plan 0/
 no 3 left
-f, line 3, "left 2": another number of parts is left: 1
+f, line 3, "left 2": another number of parts is left
 shift 1 after 0/1 load 7 A granted/left 1/plan 2/process M1/process M1/
 no 6 step
-f, line 6, "process M1": this step of the plan is not granted in its turn: refused idle, no part waits for work there
+f, line 6, "process M1": this step of the plan is not granted in its turn
 shift 1 after 0/1 load 7 A granted/left 1/plan 1/process M1/
 no 4 parts
 f, line 4, "plan 1": parts remain when all steps of this plan are taken
@@ -313,16 +312,9 @@ fn told(
         line: line.as_bytes(),
         failure,
     };
-    let Some(hint) = hint(alloc, &mut held, &ended) else {
-        return Ok(String::from_str(alloc, "nothing")?);
-    };
-    let hint = hint.as_str();
-    match owed(alloc, &mut held, &given, ended.line) {
-        Some(owed) if status == 1 => {
-            let owed = owed.as_str();
-            Ok(format!(in alloc; "{hint}: {owed}")?)
-        }
-        _ => Ok(String::from_str(alloc, hint)?),
+    match hint(alloc, &mut held, &ended) {
+        Some(hint) => Ok(hint),
+        None => Ok(String::from_str(alloc, "nothing")?),
     }
 }
 

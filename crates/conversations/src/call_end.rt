@@ -1,24 +1,44 @@
 //! How a call ended, and how it is compared.
 
-use anyhow::Result;
+use anyhow::{Result, bail};
 use cell_program::Ended;
-use outside_io::MemDisk;
+use outside_io::{Files, MemDisk, MemFiles};
 use std::alloc::Global;
 
-/// How a call ended: its status, all that the sink took, and the disk of its journal.
+/// How a call ended: its status, all that the sink took, and the disk of its journal; and the files that it read.
 #[derive(Drop)]
 pub struct CallEnd {
     pub status: u8,
     pub text: Vec<u8>,
     pub disk: MemDisk,
+    files: MemFiles,
 }
 
 impl CallEnd {
     /// The end of a call whose sink took these bytes.
-    pub fn new(alloc: Global, ended: Ended<MemDisk>, taken: &[u8]) -> Result<CallEnd> {
+    pub fn new(
+        alloc: Global,
+        ended: Ended<MemDisk>,
+        taken: &[u8],
+        files: MemFiles,
+    ) -> Result<CallEnd> {
         let Ended { status, disk } = ended;
         let text = taken.to_vec(alloc)?;
-        Ok(CallEnd { status, text, disk })
+        Ok(CallEnd {
+            status,
+            text,
+            disk,
+            files,
+        })
+    }
+
+    /// Whether the next read of a file fails: where one was listed that the call didn't come to.
+    pub fn fails_next_read(&mut self, alloc: Global) -> Result<bool> {
+        if self.files.add("", &[]).is_err() {
+            bail!("want of memory");
+        }
+        let read = self.files.read_file(alloc, "", 0, &mut Vec::new(alloc));
+        Ok(read.is_err())
     }
 
     /// What it left of the journal.

@@ -1,13 +1,13 @@
 //! Calls of the whole controller in memory, in each of which one call of the outside may be made to fail.
 
 use crate::call_end::{CallEnd, written};
-use crate::command::journal_of;
+use crate::command::disk_name;
 use crate::folder::Folder;
 use crate::late_pace::LatePace;
 use anyhow::{Result, bail};
 use cell_base::List;
 use cell_program::{Ended, cell_main};
-use outside_io::{DiskCall, MemDisk, MemSink, Sink};
+use outside_io::{DiskCall, MemDisk, MemFiles, MemSink, Sink};
 use std::alloc::Global;
 use std::rt::Clock;
 use std::sync::Wait;
@@ -51,8 +51,7 @@ impl<'a, R: Print + Clock + Threads + Wait + Sync> Caller<'a, R> {
 
     /// What the disk of a call holds; where there is no such file it has no bytes.
     pub fn journal(&self, words: &[String]) -> &[u8] {
-        let name = journal_of(words);
-        match self.folder.bytes_of(name) {
+        match self.folder.bytes_of(disk_name(words)) {
             Some(bytes) => bytes,
             None => &[],
         }
@@ -85,18 +84,19 @@ impl<'a, R: Print + Clock + Threads + Wait + Sync> Caller<'a, R> {
         let mut puts = List::new(self.alloc);
         let mut reads = List::new(self.alloc);
         match failing {
-            Failing::Nothing | Failing::Device(_) => {}
             Failing::Put(put) => push(&mut puts, put)?,
             Failing::Read(read) => push(&mut reads, read)?,
-            Failing::TornPut(put) => {
-                let mut out = TornSink::new(self.alloc, put.saturating_sub(1));
-                let ended = self.end_over(words, disk, reads, &mut out)?;
-                return CallEnd::new(self.alloc, ended, out.bytes());
-            }
+            Failing::Nothing | Failing::TornPut(_) | Failing::Device(_) => {}
+        }
+        let mut files = self.folder.in_memory(reads)?;
+        if let Failing::TornPut(put) = failing {
+            let mut out = TornSink::new(self.alloc, put.saturating_sub(1));
+            let ended = self.end_over(words, disk, &mut files, &mut out);
+            return CallEnd::new(self.alloc, ended, out.bytes(), files);
         }
         let mut out = MemSink::new(self.alloc, puts);
-        let ended = self.end_over(words, disk, reads, &mut out)?;
-        CallEnd::new(self.alloc, ended, out.bytes())
+        let ended = self.end_over(words, disk, &mut files, &mut out);
+        CallEnd::new(self.alloc, ended, out.bytes(), files)
     }
 
     /// Prints both and ends where a call ended otherwise than with this status, text and journal.
@@ -115,17 +115,16 @@ impl<'a, R: Print + Clock + Threads + Wait + Sync> Caller<'a, R> {
         bail!("a call ended otherwise")
     }
 
-    // Calls it over this sink. Of the files the listed reads fail.
+    // Calls it over these files and this sink.
     fn end_over<K: Sink>(
         &self,
         words: &[String],
         disk: MemDisk,
-        reads: List<u64>,
+        files: &mut MemFiles,
         out: &mut K,
-    ) -> Result<Ended<MemDisk>> {
-        let mut files = self.folder.in_memory(reads)?;
+    ) -> Ended<MemDisk> {
         let pace = LatePace::new(self.rt);
-        Ok(cell_main(self.rt, self.alloc, words, &mut files, out, disk, &pace))
+        cell_main(self.rt, self.alloc, words, files, out, disk, &pace)
     }
 }
 

@@ -1,38 +1,27 @@
 //! What the words of a call name of the outside.
 
-/// The name of the journal's file: the word after the cell, and for `run`, `begin` and `follow` the one after their other file.
-pub fn journal_of(words: &[String]) -> &str {
-    match words {
-        [_, _, _, journal, ..] if is_one_of(words, &["run", "begin", "follow"]) => journal.as_str(),
-        [_, _, journal, ..] => journal.as_str(),
-        _ => "",
-    }
-}
+use cell_program::{Journal, journal_in};
 
-/// How many files a command reads beside a journal.
-pub fn files_of(words: &[String]) -> u64 {
-    if is_one_of(words, &["make"]) {
-        0
-    } else if is_one_of(
-        words,
-        &[
-            "solo", "run", "check", "carry", "begin", "hybrid", "queue", "follow",
-        ],
-    ) {
-        2
-    } else {
-        1
+/// The name of the file that the disk of a call holds: its journal. Where the words name none it is the file of the third word, which stays
+/// as it is.
+pub fn disk_name(words: &[String]) -> &str {
+    match journal_in(words) {
+        Some(Journal::Read(name) | Journal::Added(name)) => name,
+        None => match words {
+            [_, _, name, ..] => name.as_str(),
+            _ => "",
+        },
     }
 }
 
 /// Whether a command has a journal.
 pub fn has_journal(words: &[String]) -> bool {
-    may_write(words) || is_one_of(words, &["plan", "why", "carry", "grants", "parts", "feed"])
+    journal_in(words).is_some()
 }
 
 /// Whether a command may write to its journal.
 pub fn may_write(words: &[String]) -> bool {
-    is_one_of(words, &["drain", "run", "begin", "follow"])
+    matches!(journal_in(words), Some(Journal::Added(_)))
 }
 
 /// Whether the sessions of a shift ask at the same time, so that their entries may stand otherwise each time.

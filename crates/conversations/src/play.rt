@@ -4,7 +4,7 @@
 
 use crate::call_end::CallEnd;
 use crate::caller::{Caller, Failing};
-use crate::command::{files_of, has_journal, may_write, piece_bytes};
+use crate::command::{has_journal, may_write, piece_bytes};
 use crate::conversation::Conversation;
 use crate::cut::Cut;
 use crate::device::play_device;
@@ -140,17 +140,16 @@ fn play_torn_put<R: Print + Clock + Threads + Wait + Sync>(
         .context(format_args!("where put {put} is torn"))
 }
 
-// Plays it with either read failing: that is told, but where the call had ended before this read or has no such file.
+// Plays it with each read failing in its turn: that is told, up to the first read to which the call doesn't come.
 fn play_reads<R: Print + Clock + Threads + Wait + Sync>(
     caller: &Caller<'_, R>,
     words: &[String],
     whole: &CallEnd,
 ) -> Result<()> {
-    for read in 1..3u64 {
-        let told = caller.call(words, Failing::Read(read))?;
-        let may_end_before = whole.status > 1 || read > files_of(words);
-        if may_end_before && told.is(whole.status, whole.text.as_slice(), whole.left()) {
-            continue;
+    for read in 1..=u64::MAX {
+        let mut told = caller.call(words, Failing::Read(read))?;
+        if told.fails_next_read(caller.alloc())? {
+            return caller.check(&told, whole.status, whole.text.as_slice(), whole.left());
         }
         caller
             .check(&told, 3, b"read fault\n", caller.journal(words))

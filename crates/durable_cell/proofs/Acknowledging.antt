@@ -10,7 +10,7 @@ use Rattle.cell_base.specs.declared.shifts.Grant.{Grant}
 use Rattle.outside_io.specs.Disk.{LeavesOnly}
 use Rattle.outside_io.specs.Moments.{started, widened}
 use Rattle.outside_io.specs.Telling.{where_told, told}
-use Rattle.move_journal.specs.Journals.{StandsFor, IsBeforeOrAfter}
+use Rattle.journal_format.specs.Journals.{StandsFor, IsBeforeOrAfter}
 use Rattle.durable_cell.specs.Acknowledged.{HasFirst, LeftOnly, HasSince, HasStill, MovesSafely}
 use Rattle.durable_cell.specs.DurableState.{DurableState}
 use Rattle.durable_cell.specs.Kept.{KeepsDisk, StandsNow, StandsThen, grants_since}

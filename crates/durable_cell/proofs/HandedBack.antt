@@ -3,11 +3,11 @@ use Rattle.std.specs.Prelude.{Option, Some, Result, Ok, Err}
 use Rattle.std.proofs.Common.{◌≡◌, ℕ, List, inl, sym, ◌∙◌}
 use Rattle.cell_base.specs.declared.shifts.Grant.{Grant}
 use Rattle.outside_io.specs.Telling.{told}
-use Rattle.shift_recovery.specs.declared.faults.JournalFault.{JournalFault}
+use Rattle.journal_format.specs.declared.fault.JournalFault.{JournalFault}
 use Rattle.shift_recovery.specs.declared.open_error.OpenFault.{OpenFault}
 use Rattle.shift_recovery.specs.declared.open_error.OpenFault.TheVariants.{Refused, Device, Memory}
 use Rattle.shift_recovery.specs.Opening.{IsOutside, IsRefusalOf}
-use Rattle.shift_recovery.specs.Reads.{OnlyReads}
+use Rattle.journal_format.specs.Reads.{OnlyReads}
 use Rattle.durable_cell.specs.Openings.{IsHandedBack}
 
 -- a disk that was only read is handed back as it may be

@@ -6,9 +6,9 @@ use Rattle.outside_io.specs.Causes.{Rose}
 use Rattle.outside_io.specs.Disk.{Turns, LeavesOnly}
 use Rattle.outside_io.specs.Moments.{widened, followed}
 use Rattle.outside_io.specs.Telling.{where_told, told, turned}
-use Rattle.move_journal.specs.Blanks.{IsBlank}
+use Rattle.journal_format.specs.Blanks.{IsBlank}
 use Rattle.move_journal.specs.Disks.{Shows}
-use Rattle.move_journal.specs.Journals.{StandsFor, IsJournal}
+use Rattle.journal_format.specs.Journals.{StandsFor, IsJournal}
 use Rattle.move_journal.specs.Kept.{JournalState, disk_made}
 use Rattle.durable_cell.specs.Made.{IsMade}
 use Rattle.durable_cell.proofs.Moving.{turns_on}

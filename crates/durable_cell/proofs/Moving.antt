@@ -12,7 +12,7 @@ use Rattle.outside_io.specs.Disk.{Turns, LeavesOnly}
 use Rattle.outside_io.specs.Moments.{widened, followed}
 use Rattle.outside_io.specs.Telling.{where_told, told, turned_back}
 use Rattle.move_journal.specs.Disks.{Shows}
-use Rattle.move_journal.specs.Journals.{StandsFor, IsBeforeOrAfter, StandsForPrefix}
+use Rattle.journal_format.specs.Journals.{StandsFor, IsBeforeOrAfter, StandsForPrefix}
 use Rattle.durable_cell.specs.DurableState.{DurableState}
 use Rattle.durable_cell.specs.Kept.{KeepsDisk, StandsNow, grants_since}
 

@@ -8,13 +8,13 @@ use Rattle.cell_base.specs.declared.shifts.Grant.{Grant}
 use Rattle.cell_base.specs.Histories.{after_requests, requests_of}
 use Rattle.cell_base.specs.Outcomes.{state_after}
 use Rattle.entry_codec.specs.declared.encoder.TheConstants.{ENTRY_SIZE}
-use Rattle.move_journal.specs.declared.head_write.TheConstants.{TEXT_AT}
+use Rattle.journal_format.specs.declared.head.TheConstants.{TEXT_AT}
 use Rattle.admission_core.specs.CoreState.{CoreState}
 use Rattle.durable_cell.specs.Replays.{HasReplayed}
-use Rattle.shift_recovery.specs.declared.faults.JournalFault.{JournalFault}
-use Rattle.shift_recovery.specs.declared.faults.JournalFault.TheVariants.{Damaged}
-use Rattle.shift_recovery.specs.Readings.{read_as}
-use Rattle.shift_recovery.specs.Replayed.{first_stray, is_due, opened_as, replayed_reading}
+use Rattle.journal_format.specs.declared.fault.JournalFault.{JournalFault}
+use Rattle.journal_format.specs.declared.fault.JournalFault.TheVariants.{Damaged}
+use Rattle.journal_format.specs.Readings.{read_as}
+use Rattle.journal_format.specs.Replayed.{first_stray, is_due, opened_as, replayed_reading}
 
 -- the state after one grant more
 pub after_more : (cell : Cell) (parts : List Part) (grants : List Grant) (grant : Grant)

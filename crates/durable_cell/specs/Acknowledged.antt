@@ -2,7 +2,7 @@
 use Rattle.std.specs.Prelude.{ℕ, ◌≤◌, Option, IfSome, List, ◌++◌, length, take}
 use Rattle.outside_io.specs.Disk.{LeavesOnly}
 use Rattle.move_journal.specs.Disks.{Shows}
-use Rattle.move_journal.specs.Journals.{StandsFor}
+use Rattle.journal_format.specs.Journals.{StandsFor}
 use Rattle.durable_cell.specs.DurableState.{DurableState}
 use Rattle.durable_cell.specs.Kept.{StandsNow, StandsThen, grants_since}
 

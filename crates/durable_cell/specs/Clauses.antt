@@ -5,7 +5,7 @@ pub use Rattle.cell_base.specs.Fits.{CellFits, RequestFits}
 pub use Rattle.cell_base.specs.Histories.{IsLegal}
 pub use Rattle.cell_base.specs.Outcomes.{reply_to}
 pub use Rattle.cell_base.specs.Policy.{IsAdmitted}
-pub use Rattle.move_journal.specs.Journals.{StandsFor}
+pub use Rattle.journal_format.specs.Journals.{StandsFor}
 pub use Rattle.durable_cell.specs.DurableState.{first_parts, parts}
-pub use Rattle.shift_recovery.specs.Replayed.{AreDue, opened_as}
+pub use Rattle.journal_format.specs.Replayed.{AreDue, opened_as}
 pub use Rattle.durable_cell.specs.Reserved.{IsReserved}

@@ -12,13 +12,13 @@ use Rattle.admission_core.specs.CoreState.{CoreState}
 use Rattle.outside_io.specs.Causes.{Rose}
 use Rattle.outside_io.specs.Disk.{Turns, LeavesOnly}
 use Rattle.move_journal.specs.Disks.{Shows}
-use Rattle.move_journal.specs.Journals.{StandsFor, StandsForPrefix}
+use Rattle.journal_format.specs.Journals.{StandsFor, StandsForPrefix}
 use Rattle.move_journal.specs.Kept.{JournalState}
-use Rattle.shift_recovery.specs.Reads.{OnlyReads}
+use Rattle.journal_format.specs.Reads.{OnlyReads}
 use Rattle.durable_cell.specs.declared.replays.TheConstants.{MAX_ROOM}
 use Rattle.durable_cell.specs.Asked.{halted_in}
 use Rattle.durable_cell.specs.DurableState.{DurableState, first_parts, parts}
-use Rattle.shift_recovery.specs.Replayed.{AreDue}
+use Rattle.journal_format.specs.Replayed.{AreDue}
 
 -- who asked for what
 abbrev pub asked_by : Grant → ℕ × Request

@@ -3,9 +3,9 @@ use Rattle.std.specs.Prelude.{◌≡◌, ◌⊎◌, ℕ, false, Option, IfSome, 
 use Rattle.cell_base.specs.declared.shifts.Grant.{Grant}
 use Rattle.outside_io.specs.Causes.{Rose}
 use Rattle.outside_io.specs.Disk.{Turns, LeavesOnly}
-use Rattle.move_journal.specs.Blanks.{IsBlank}
+use Rattle.journal_format.specs.Blanks.{IsBlank}
 use Rattle.move_journal.specs.Disks.{Shows}
-use Rattle.move_journal.specs.Journals.{StandsFor}
+use Rattle.journal_format.specs.Journals.{StandsFor}
 use Rattle.move_journal.specs.Kept.{JournalState}
 
 -- a journal of these grants, for which each image stood since then

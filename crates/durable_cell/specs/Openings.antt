@@ -2,12 +2,12 @@
 use Rattle.std.specs.Prelude.{◌≡◌, ◌⊎◌, ℕ, Option, None, IfSome, Result, Ok, Err, List, [], ⊤}
 use Rattle.cell_base.specs.declared.cells.Cell.{Cell}
 use Rattle.cell_base.specs.declared.shifts.Grant.{Grant}
-use Rattle.shift_recovery.specs.declared.faults.JournalFault.{JournalFault}
+use Rattle.journal_format.specs.declared.fault.JournalFault.{JournalFault}
 use Rattle.shift_recovery.specs.declared.open_error.OpenError.{OpenError}
 use Rattle.shift_recovery.specs.declared.open_error.OpenFault.{OpenFault}
 use Rattle.shift_recovery.specs.declared.open_error.OpenFault.TheVariants as fault
 use Rattle.shift_recovery.specs.Opening.{HasOpenCause, IsOutside, IsRefusalOf, disk_of}
-use Rattle.shift_recovery.specs.Reads.{OnlyReads}
+use Rattle.journal_format.specs.Reads.{OnlyReads}
 use Rattle.durable_cell.specs.declared.opening.Heard.{Heard}
 use Rattle.durable_cell.specs.declared.opening.Opening.{Opening}
 use Rattle.durable_cell.specs.declared.opening.Opening.TheVariants.{Open, Refused, Device, Memory}
@@ -37,7 +37,7 @@ opened_of (Refused disk why) = Err (record { disk = disk; why = fault.Refused wh
 opened_of (Device disk) = Err (record { disk = disk; why = fault.Device })
 opened_of (Memory disk) = Err (record { disk = disk; why = fault.Memory })
 
--- the durable cell without the taker
+-- the durable cell without the visitor
 abbrev pub durable_heard : {D G K : Type 0} → Result (Heard D G K) (OpenError D) → Result (DurableState D) (OpenError D)
 durable_heard (Ok heard) = Ok heard.durable
 durable_heard (Err error) = Err error
@@ -61,10 +61,10 @@ abbrev pub IsFound : {D : Type 0} → List Grant → Result (DurableState D) (Op
 IsFound grants (Ok durable) = durable.opening ≡ grants
 IsFound grants (Err error) = IsOutside error.why
 
--- where a cell is opened, what is kept of its opening took its grants
+-- where a cell is opened, what is kept of its opening has seen its grants
 abbrev pub HasTaken : {D G K : Type 0} → (K → ℕ → List Grant → K → Type 0) → K → Result (Heard D G K) (OpenError D) → Type 0
-HasTaken took old (Ok heard) = (first : ℕ) × took old first heard.durable.opening heard.kept
-HasTaken took old (Err error) = ⊤
+HasTaken visited old (Ok heard) = (first : ℕ) × visited old first heard.durable.opening heard.kept
+HasTaken visited old (Err error) = ⊤
 
 -- the count rises where the answer is that the device failed, and stays with every other answer
 abbrev pub HasCause : {D : Type 0} → (D → ℕ) → D → Result (DurableState D) (OpenError D) → Type 0

@@ -3,7 +3,7 @@ use Rattle.std.specs.Prelude.{◌≡◌, ℕ, Option, None, List, []}
 use Rattle.cell_base.specs.declared.shifts.Grant.{Grant}
 use Rattle.cell_base.specs.Histories.{replay}
 use Rattle.admission_core.specs.CoreState.{CoreState}
-use Rattle.shift_recovery.specs.Replayed.{first_stray}
+use Rattle.journal_format.specs.Replayed.{first_stray}
 
 -- a core of the same cell; where the first of the grants strays, whose gates stand from an offset on; and where none strays, the core
 -- stands after them

@@ -4,12 +4,12 @@ use Rattle.cell_base.specs.declared.cells.Cell.{Cell}
 use Rattle.cell_base.specs.declared.shifts.Grant.{Grant}
 use Rattle.cell_base.specs.Histories.{replay}
 use Rattle.admission_core.specs.CoreState.{CoreState}
-use Rattle.move_journal.specs.Blanks.{IsBlank}
+use Rattle.journal_format.specs.Blanks.{IsBlank}
 use Rattle.move_journal.specs.Disks.{Rests}
-use Rattle.move_journal.specs.Journals.{IsJournal}
+use Rattle.journal_format.specs.Journals.{IsJournal}
 use Rattle.durable_cell.specs.declared.stored.Stored.{Stored}
 use Rattle.durable_cell.specs.declared.stored.Stored.TheVariants as stored
-use Rattle.shift_recovery.specs.Replayed.{AreDue}
+use Rattle.journal_format.specs.Replayed.{AreDue}
 
 -- the disk, with a journal or without
 abbrev pub disk_stored : {D : Type 0} → Stored D → D

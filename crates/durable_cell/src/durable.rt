@@ -19,7 +19,7 @@ use cell_base::{Cell, Entry, Grant, List, NoMemory, Reply, Request, Shelf, Told}
 use move_journal::{Journal, MAX_CELL_TEXT};
 use outside_io::Disk;
 use policy_laws::refusal_law;
-use shift_recovery::{OpenError, OpenFault, Taker, Unkept};
+use shift_recovery::{Discard, GrantVisitor, OpenError, OpenFault};
 use std::alloc::Global;
 use std::marker::Model;
 
@@ -128,7 +128,7 @@ impl<D: Disk> Durable<D> {
             room,
             limit,
             List::new(alloc),
-            Unkept,
+            Discard,
         ) {
             Ok(Heard { durable, kept: _ }) => Opening::Open(durable),
             Err(error) => unopened(error),
@@ -145,7 +145,7 @@ impl<D: Disk> Durable<D> {
 
 impl<D: Disk> Durable<D, Recalled> {
     /// Opens a disk as `open` does, without a list of the grants: each is handed on as it is read.
-    pub fn open_with<K: Taker + Drop>(
+    pub fn open_with<K: GrantVisitor + Drop>(
         alloc: Global,
         cell: Cell,
         cell_text: &[u8],
@@ -158,10 +158,10 @@ impl<D: Disk> Durable<D, Recalled> {
         requires text { length cell_text.now ≤ MAX_CELL_TEXT }
         requires room { room ≤ MAX_ROOM }
         requires limit { limit ≤ MAX_ROOM }
-        requires none { (first : ℕ) → K.took kept first [] kept }
+        requires none { (first : ℕ) → K.visited kept first [] kept }
         ensures new { IsNew cell cell_text.now disk limit (heard_of result) }
         ensures exact { IsAnswer (D.reads_as disk) (λ file. opened_as cell file cell_text.now room) (heard_of result) }
-        ensures taken { HasTaken K.took kept (opened_of result) }
+        ensures taken { HasTaken K.visited kept (opened_of result) }
         ensures cause { HasCause D.faults disk (heard_of result) }
         ensures leaves { Leaves D.reads_as D.may_leave D.moment D.left_since D.faults disk cell_text.now (heard_of result) }
 
@@ -186,7 +186,7 @@ impl<D: Disk> Durable<D, Recalled> {
 }
 
 // The cell after the grants of a disk, each of which is kept in one way and handed on in another.
-fn open_over<D: Disk, G: Recall, K: Taker + Drop>(
+fn open_over<D: Disk, G: Recall, K: GrantVisitor + Drop>(
     alloc: Global,
     cell: Cell,
     cell_text: &[u8],
@@ -201,10 +201,10 @@ fn open_over<D: Disk, G: Recall, K: Taker + Drop>(
     requires room { room ≤ MAX_ROOM }
     requires limit { limit ≤ MAX_ROOM }
     requires no_grants { G.grants grants ≡ [] }
-    requires none { (first : ℕ) → K.took kept first [] kept }
+    requires none { (first : ℕ) → K.visited kept first [] kept }
     ensures new { IsNew cell cell_text.now disk limit (durable_heard result) }
     ensures exact { IsAnswer (D.reads_as disk) (λ file. opened_as cell file cell_text.now room) (durable_heard result) }
-    ensures taken { HasTaken K.took kept result }
+    ensures taken { HasTaken K.visited kept result }
     ensures cause { HasCause D.faults disk (durable_heard result) }
     ensures leaves { Leaves D.reads_as D.may_leave D.moment D.left_since D.faults disk cell_text.now (durable_heard result) }
 

@@ -20,7 +20,7 @@ pub enum Opening<D: Disk, O = Durable<D>> {
     Memory { disk: D },
 }
 
-/// A durable cell, and the taker to which the grants of its opening were handed on.
+/// A durable cell, and the visitor to which the grants of its opening were handed on.
 #[derive(Drop)]
 pub struct Heard<D: Disk, G: Recall, K> {
     pub durable: Durable<D, G>,

@@ -1,9 +1,9 @@
-//! A taker that keeps of the grants of an opening what a durable cell has of them, and hands each of them on.
+//! A visitor that keeps of the grants of an opening what a durable cell has of them, and hands each of them on.
 ghost use Rattle.std.specs.Prelude.{◌≡◌, []};
 
 use crate::recalled::Recall;
 use cell_base::{Grant, NoMemory};
-use shift_recovery::Taker;
+use shift_recovery::GrantVisitor;
 
 /// Recalls what it hands on.
 #[derive(Drop)]
@@ -12,12 +12,12 @@ pub(crate) struct Recalling<G, K> {
     pub(crate) kept: K,
 }
 
-impl<G: Recall, K: Taker> Taker for Recalling<G, K> {
-    ghost took = { λ start first grants now. (G.grants start.grants ≡ [] → G.grants now.grants ≡ grants)
-        × K.took start.kept first grants now.kept };
+impl<G: Recall, K: GrantVisitor> GrantVisitor for Recalling<G, K> {
+    ghost visited = { λ start first grants now. (G.grants start.grants ≡ [] → G.grants now.grants ≡ grants)
+        × K.visited start.kept first grants now.kept };
 
-    fn take(&mut self, at: u64, grant: Grant) -> Result<(), NoMemory> {
+    fn visit(&mut self, at: u64, grant: Grant) -> Result<(), NoMemory> {
         self.grants.recall(&grant)?;
-        self.kept.take(at, grant)
+        self.kept.visit(at, grant)
     }
 }

@@ -3,13 +3,13 @@ ghost use Rattle.std.specs.Prelude.{◌≡◌, ℕ, ◌+◌, ◌*◌, List as Se
 ghost use Rattle.cell_base.specs.declared.shifts.Grant.{Grant as OneGrant};
 ghost use Rattle.cell_base.specs.Outcomes.{state_after};
 ghost use Rattle.admission_core.specs.CoreState.{CoreState};
-ghost use Rattle.shift_recovery.specs.Replayed.{is_due};
+ghost use Rattle.journal_format.specs.Replayed.{is_due};
 ghost use Rattle.durable_cell.specs.Replays.{HasReplayed};
 
 use admission_core::Core;
 use cell_base::{Grant, NoMemory, Reply, Request, request_fits};
 use entry_codec::ENTRY_SIZE;
-use shift_recovery::Taker;
+use shift_recovery::GrantVisitor;
 
 /// The most grants of a journal for which there may be room, and the most entries of a history.
 pub const MAX_ROOM: u64 = 2_097_152;
@@ -26,13 +26,13 @@ pub(crate) struct Replay<K> {
     pub(crate) kept: K,
 }
 
-impl<K: Taker> Taker for Replay<K> {
-    ghost took = { λ start first grants now. HasReplayed start.core first grants now.core now.stray
-        × K.took start.kept first grants now.kept };
+impl<K: GrantVisitor> GrantVisitor for Replay<K> {
+    ghost visited = { λ start first grants now. HasReplayed start.core first grants now.core now.stray
+        × K.visited start.kept first grants now.kept };
 
-    fn take(&mut self, at: u64, grant: Grant) -> Result<(), NoMemory> {
+    fn visit(&mut self, at: u64, grant: Grant) -> Result<(), NoMemory> {
         self.stray = replay_one(&mut self.core, self.stray, at, &grant);
-        self.kept.take(at, grant)
+        self.kept.visit(at, grant)
     }
 }
 

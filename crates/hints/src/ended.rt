@@ -1,7 +1,11 @@
 //! How a command ended, and the line for a person about it.
+use crate::asked::Asked;
 use crate::failed::add_failure;
-use crate::file_place::add_place;
-use hint_texts::{Asked, HintLine, NO_MEMORY, Place, Refusal, add_words};
+use crate::hint_line::HintLine;
+use crate::no_command::add_words;
+use crate::refusal::Refusal;
+use crate::refused::{add_refused, limit_of, looked_at};
+use crate::texts::NO_MEMORY;
 use outside_io::Files;
 use real_outside::Failure;
 use std::alloc::Global;
@@ -22,59 +26,39 @@ pub struct Ended<'a> {
 /// where nothing was refused, and where it can't be made, for any cause.
 pub fn hint<F: Files>(alloc: Global, files: &mut F, ended: &Ended<'_>) -> Option<String> {
     let mut hint = HintLine::new(alloc);
-    match add_ended(alloc, files, &mut hint, ended) {
-        Some(()) => hint.finish(),
-        None => None,
-    }
-}
-
-// Adds why a command ended so.
-fn add_ended<F: Files>(
-    alloc: Global,
-    files: &mut F,
-    hint: &mut HintLine,
-    ended: &Ended<'_>,
-) -> Option<()> {
-    let usage = str::from_utf8(ended.usage).ok()?;
+    let asked = Asked::new(text_of(ended.usage), ended.words);
     match ended.status {
-        0 => return None,
-        2 => add_words(hint, usage, ended.words),
-        3 | 7 | 8 => add_failure(hint, ended.status, ended.failure)?,
+        0 => {}
+        2 => add_words(&mut hint, &asked),
+        3 | 7 | 8 => add_failure(&mut hint, ended.status, ended.failure),
         9 => hint.add(NO_MEMORY),
-        _ => {
-            let line = str::from_utf8(ended.line).ok()?;
-            let asked = Asked::new(usage, ended.words)?;
-            let refusal = Refusal::of(&asked, line)?;
-            add_refusal(alloc, files, hint, &asked, &refusal)?;
-        }
+        _ => add_printed(alloc, files, &mut hint, &asked, text_of(ended.line)),
     }
-    Some(())
+    hint.finish()
 }
 
-// Adds what is refused, where in it, and why.
-fn add_refusal<F: Files>(
+// Adds what a line tells that was printed.
+fn add_printed<F: Files>(
     alloc: Global,
     files: &mut F,
     hint: &mut HintLine,
     asked: &Asked<'_>,
-    refusal: &Refusal<'_>,
-) -> Option<()> {
-    let name = refusal.given;
-    match refusal.place {
-        Place::Word => hint.quote(name.as_bytes()),
-        _ => hint.show(name.as_bytes()),
-    }
-    match asked.word("CELL2") {
-        Some(second) if asked.word("CELL") == Some(name) => add_second(hint, second),
-        _ => add_place(alloc, files, hint, asked, refusal)?,
-    }
-    hint.add(":");
-    hint.add(refusal.text);
-    Some(())
+    line: &str,
+) {
+    let refusal = Refusal::of(asked, line);
+    let bytes = bytes_of(alloc, files, looked_at(&refusal), limit_of(&refusal));
+    add_refused(alloc, hint, &refusal, &bytes);
 }
 
-// Adds the second of two cell files: the line doesn't say which of them is refused, and so neither is looked at.
-fn add_second(hint: &mut HintLine, name: &str) {
-    hint.add(" or ");
-    hint.show(name.as_bytes());
+// The bytes of a file, cut after one more than the limit; none where it is 0, and where the file can't be read again.
+fn bytes_of<F: Files>(alloc: Global, files: &mut F, name: &str, limit: u32) -> Vec<u8> {
+    let mut bytes = Vec::new(alloc);
+    if limit > 0 {
+        let _ = files.read_file(alloc, name, u64::from(limit), &mut bytes);
+    }
+    bytes
+}
+
+fn text_of(bytes: &[u8]) -> &str {
+    str::from_utf8(bytes).unwrap_or("")
 }

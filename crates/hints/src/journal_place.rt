@@ -1,5 +1,5 @@
 //! A place of a journal, and what stands there.
-use hint_texts::HintLine;
+use crate::hint_line::HintLine;
 
 /// The bytes of a journal's mark, after the gate of its head.
 pub const MARK_BYTES: u32 = 8;

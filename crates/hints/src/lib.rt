@@ -7,18 +7,26 @@
 //! shift.toml, session 2, step 0, "process M9": the cell has no resource or type of this name
 //! ```
 //!
-//! It is made after the command has ended, of the line that was printed last: that line says what the readers found, and nothing is judged
-//! once more. Of the file only what stands at the place is looked at. `hint_texts` has a text for each fault. Where a line can't be made
-//! there is none.
+//! It is made after the command has ended, of the line that was printed last: a table has a place and a text for each such line. That line
+//! says what the readers found, and nothing is judged once more: of the file only what stands at the place is looked at. Where a line can't
+//! be made there is none. The crate stands on none that reads or decides, and promises nothing but that it returns.
 #![tactic(auto)]
 
+mod asked;
 mod ended;
 mod failed;
-mod file_place;
+mod found;
+mod hint_line;
 mod journal_place;
 mod line_place;
-mod spot;
+mod no_command;
+mod place;
+mod refusal;
+mod refused;
+mod texts;
 mod toml_place;
-mod values;
+mod unseen;
 
 pub use ended::{Ended, hint};
+pub use hint_line::HintLine;
+pub use unseen::{BEGINS_WITH_MARK, BYTE_ORDER_MARK, ENDS_IN_RETURN};

@@ -1,5 +1,6 @@
 //! A line of a record or of a start file, and what stands there.
-use hint_texts::{BEGINS_WITH_MARK, BYTE_ORDER_MARK, ENDS_IN_RETURN, HintLine};
+use crate::hint_line::HintLine;
+use crate::unseen::{BEGINS_WITH_MARK, BYTE_ORDER_MARK, ENDS_IN_RETURN};
 
 /// The most bytes that are read of a record.
 const MAX_RECORD: u32 = 160_000_000;

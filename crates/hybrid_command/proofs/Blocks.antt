@@ -2,7 +2,7 @@
 use Rattle.std.proofs.Common.{◌≡◌, ℕ, List, ◌++◌, refl}
 use Rattle.cell_base.specs.declared.cells.Cell.{Cell}
 use Rattle.cell_base.specs.declared.requests.Request.{Request}
-use Rattle.cell_texts.specs.Blocks.{left_lines}
+use Rattle.record_printer.specs.Blocks.{left_lines}
 use Rattle.hybrid_rounds.specs.declared.entries.HybridEntry.{HybridEntry}
 use Rattle.hybrid_command.specs.Lines.{history_lines, hybrid_block}
 

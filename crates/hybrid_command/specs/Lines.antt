@@ -15,7 +15,7 @@ use Rattle.banker_check.specs.HybridPlans.{plan_h_of}
 use Rattle.banker_check.specs.HybridState.{HybridState}
 use Rattle.hybrid_rounds.specs.declared.entries.HybridEntry.{HybridEntry}
 use Rattle.hybrid_rounds.specs.Histories.{taken}
-use Rattle.cell_texts.specs.Blocks.{Lines, left_lines}
+use Rattle.record_printer.specs.Blocks.{Lines, left_lines}
 
 -- the resource that a block names, the count that it would have, its capacity, and how many parts would be stuck
 abbrev pub blocked_words : Cell → ResId → ℕ → ℕ → ℕ → List (List ℕ)

@@ -89,6 +89,7 @@ impl InputLines {
     pub fn next_line(&mut self) -> bool
         ensures whole { result ≡ true → (text : List ℕ) (given : List (List ℕ)) → AreLinesSoFar text given self.old
             → (line : List ℕ) × (self.new.line ≡ take LINE_KEPT line) × AreLinesSoFar text (given ++ line ∷ []) self.new }
+        ensures shorter { result ≡ true → length self.new.ahead < length self.old.ahead }
         ensures none { result ≡ false → (self.new.ahead ≡ [])
             × ((text : List ℕ) (given : List (List ℕ)) → AreLinesSoFar text given self.old → AreLinesSoFar text given self.new) }
     {

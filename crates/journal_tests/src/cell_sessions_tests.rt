@@ -5,7 +5,7 @@ use cell_base::{
     cell_fits, shift_fits,
 };
 use cell_sessions::{BeginFault, Progress, ShiftGrants, begin, solo};
-use shift_recovery::Taker;
+use shift_recovery::GrantVisitor;
 use std::alloc::Global;
 use std::test::Fail;
 use test_fixtures::cell_of_one;
@@ -90,7 +90,7 @@ fn begins_after_its_own_grants(rt: HostRuntime) -> Result<(), Fail> {
 
     let mut own = ShiftGrants::of(alloc, 1);
     for grant in &opening {
-        own.take(0, *grant)?;
+        own.visit(0, *grant)?;
     }
     assert_eq!(rt; own.grants.as_slice(), [opening[0], opening[2]].as_slice());
 

@@ -1,6 +1,7 @@
 //! What no clause says: what the calls do to real files, in the folder that a test runs in. `checks/real-outside` tests the rest.
+use journal_disk::{FileDisk, Purpose};
 use outside_io::{Disk, Failed, FileFail, Files, Pace, Sink, Source};
-use real_outside::{DirFiles, FileDisk, InSource, OutSink, Purpose, RestPace};
+use real_outside::{DirFiles, InSource, OutSink, RestPace};
 use std::fs;
 use std::io::{self, Error, ErrorKind, Read, Write};
 use std::os::unix::fs::FileExt;

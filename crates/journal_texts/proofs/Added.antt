@@ -9,7 +9,7 @@ use Rattle.outside_io.specs.Disk.{LeavesOnly, Turns}
 use Rattle.outside_io.specs.Telling.{told, turned, where_told}
 use Rattle.durable_cell.specs.DurableState.{DurableState}
 use Rattle.durable_cell.specs.Kept.{KeepsDisk, StandsBetween, StandsNow}
-use Rattle.move_journal.specs.Journals.{StandsFor}
+use Rattle.journal_format.specs.Journals.{StandsFor}
 use Rattle.cell_walks.specs.Allowed.{StandsForAdded}
 use Rattle.cell_walks.specs.DiskTold.{disk_told}
 use Rattle.journal_texts.proofs.Disks.{now_told, since_entry}

@@ -5,8 +5,8 @@ use Rattle.outside_io.specs.Disk.{LeavesOnly, Turns}
 use Rattle.outside_io.specs.Moments.{followed, widened}
 use Rattle.outside_io.specs.Telling.{told, where_told}
 use Rattle.durable_cell.specs.Made.{IsUnmade}
-use Rattle.move_journal.specs.Journals.{StandsFor}
-use Rattle.shift_recovery.specs.Reads.{OnlyReads}
+use Rattle.journal_format.specs.Journals.{StandsFor}
+use Rattle.journal_format.specs.Reads.{OnlyReads}
 use Rattle.cell_walks.specs.DiskTold.{AddsNothing, IsOnlyRead, IsReadUntil, SinceEntry, disk_told}
 
 module _ (before now : Option (List ℕ)) where

@@ -2,10 +2,14 @@
 use Rattle.std.specs.Prelude.{IfErr, IfOk, IfSome, Result, Ok, Err}
 use Rattle.std.proofs.Common.{◌≡◌, ℕ, List, Option, refl, sym, subst}
 use Rattle.cell_base.specs.declared.shifts.Grant.{Grant}
-use Rattle.shift_recovery.specs.Replayed.{opened_as}
+use Rattle.journal_format.specs.Replayed.{opened_as}
+use Rattle.shift_recovery.specs.Opening.{HasFaultCause, IsRefusalOf}
+use Rattle.journal_format.specs.Reads.{OnlyReads}
 use Rattle.shift_recovery.specs.declared.open_error.OpenError.{OpenError}
+use Rattle.shift_recovery.specs.declared.open_error.OpenFault.{OpenFault}
 use Rattle.shift_recovery.specs.declared.open_error.OpenFault.TheVariants as fault
 use Rattle.durable_cell.specs.DurableState.{DurableState}
+use Rattle.durable_cell.specs.declared.replays.TheConstants.{MAX_ROOM}
 use Rattle.durable_cell.specs.declared.opening.Heard.{Heard}
 use Rattle.durable_cell.specs.declared.opening.Opening.{Opening}
 use Rattle.durable_cell.specs.declared.opening.Opening.TheVariants.{Open, Refused, Device, Memory}
@@ -15,8 +19,8 @@ use Rattle.cell_walks.specs.DiskTold.{disk_told}
 use Rattle.cell_walks.specs.declared.early_end.EarlyEnd.{EarlyEnd}
 use Rattle.cell_texts.specs.Tests.{KnownCell}
 use Rattle.cell_texts.specs.declared.made.Made.{Made}
-use Rattle.journal_texts.specs.Openings.{opened_or_end}
-use Rattle.journal_texts.specs.Tests.{to_add}
+use Rattle.journal_texts.specs.Openings.{end_unopened, opened_or_end}
+use Rattle.journal_texts.specs.Tests.{to_add, to_read}
 use Rattle.journal_texts.proofs.Disks.{adds_nothing, only_read}
 
 -- what contracts see of an opening, as a result
@@ -93,6 +97,19 @@ module _ {D O : Type 0} (durable : O → DurableState D) (reads_as : D → Optio
     ended is cause leaves = subst (λ (r : Result O (Made EarlyEnd D)). IfErr r Ends) (sym result_is)
         (ends opening (answers is) (subst (λ (o : Shown D). HasCause faults disk o) shown_is cause) (leaves_as leaves))
 
+-- a disk that was only read, and not opened
+pub unopened : {D : Type 0} (reads_as : D → Option (List ℕ)) (may_leave : D → List ℕ → Type 0) (moment : D → ℕ)
+    (left_since : D → ℕ → List ℕ → Type 0) (faults : D → ℕ) (held : KnownCell) (old new : D) (why : OpenFault)
+    → OnlyReads reads_as may_leave moment left_since old new
+    → IsRefusalOf (reads_as old) (λ file. opened_as held.cell file held.text MAX_ROOM) why → HasFaultCause (faults old) (faults new) why
+    → IsNotOpened (disk_told reads_as may_leave moment left_since faults old new) (to_read held) (end_unopened why)
+unopened reads_as may_leave moment left_since faults held old new (fault.Refused why) reads refused cause =
+    OpeningRefused why refused (only_read reads_as may_leave moment left_since faults old new reads) refl
+unopened reads_as may_leave moment left_since faults held old new fault.Device reads refused cause =
+    OpeningFailed refl cause (only_read reads_as may_leave moment left_since faults old new reads)
+unopened reads_as may_leave moment left_since faults held old new fault.Memory reads refused cause =
+    OpeningStarved refl (only_read reads_as may_leave moment left_since faults old new reads)
+
 -- a durable cell is seen as it is
 pub seen-durable : {D : Type 0} (opening : Opening D (DurableState D)) → opened_of opening ≡ seen (λ durable. durable) opening
 seen-durable (Open durable) = refl
@@ -101,23 +118,23 @@ seen-durable (Device disk) = refl
 seen-durable (Memory disk) = refl
 
 module _ {D G K : Type 0} where
-  -- one with a taker without it
+  -- one with a visitor without it
   pub seen-heard : (opening : Opening D (Heard D G K)) → heard_of opening ≡ seen (λ heard. heard.durable) opening
   seen-heard (Open heard) = refl
   seen-heard (Refused disk why) = refl
   seen-heard (Device disk) = refl
   seen-heard (Memory disk) = refl
 
-  taken_of : (took : K → ℕ → List Grant → K → Type 0) (old : K) (opening : Opening D (Heard D G K)) → HasTaken took old (opened_of opening)
-      → IfOk (opened_or_end opening) (λ heard. (first : ℕ) × took old first heard.durable.opening heard.kept)
-  taken_of took old (Open heard) is = is
-  taken_of took old (Refused disk why) is = tt
-  taken_of took old (Device disk) is = tt
-  taken_of took old (Memory disk) is = tt
+  taken_of : (visited : K → ℕ → List Grant → K → Type 0) (old : K) (opening : Opening D (Heard D G K)) → HasTaken visited old (opened_of opening)
+      → IfOk (opened_or_end opening) (λ heard. (first : ℕ) × visited old first heard.durable.opening heard.kept)
+  taken_of visited old (Open heard) is = is
+  taken_of visited old (Refused disk why) is = tt
+  taken_of visited old (Device disk) is = tt
+  taken_of visited old (Memory disk) is = tt
 
-  pub taken : (took : K → ℕ → List Grant → K → Type 0) (old : K) (opening : Opening D (Heard D G K))
-      (result : Result (Heard D G K) (Made EarlyEnd D)) → result ≡ opened_or_end opening → HasTaken took old (opened_of opening)
-      → IfOk result (λ heard. (first : ℕ) × took old first heard.durable.opening heard.kept)
-  taken took old opening result result_is is =
-      subst (λ (r : Result (Heard D G K) (Made EarlyEnd D)). IfOk r (λ heard. (first : ℕ) × took old first heard.durable.opening heard.kept))
-      (sym result_is) (taken_of took old opening is)
+  pub taken : (visited : K → ℕ → List Grant → K → Type 0) (old : K) (opening : Opening D (Heard D G K))
+      (result : Result (Heard D G K) (Made EarlyEnd D)) → result ≡ opened_or_end opening → HasTaken visited old (opened_of opening)
+      → IfOk result (λ heard. (first : ℕ) × visited old first heard.durable.opening heard.kept)
+  taken visited old opening result result_is is =
+      subst (λ (r : Result (Heard D G K) (Made EarlyEnd D)). IfOk r (λ heard. (first : ℕ) × visited old first heard.durable.opening heard.kept))
+      (sym result_is) (taken_of visited old opening is)

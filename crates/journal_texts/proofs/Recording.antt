@@ -18,8 +18,8 @@ use Rattle.durable_cell.specs.Asked.{grant_of, halted_in, unsure_grant}
 use Rattle.durable_cell.specs.DurableState.{DurableState, first_parts, parts}
 use Rattle.durable_cell.specs.Kept.{KeepsHistory}
 use Rattle.record_text.specs.Fitting.{EntryFits}
-use Rattle.cell_texts.specs.Blocks.{block_of, history_lines}
-use Rattle.cell_texts.proofs.BlockTexts.{halted_text, planned_text}
+use Rattle.record_printer.specs.Blocks.{block_of, history_lines}
+use Rattle.record_printer.proofs.BlockTexts.{halted_text, planned_text}
 use Rattle.cell_walks.specs.Allowed.{StandsForAdded}
 use Rattle.cell_walks.specs.DiskTold.{DiskTold}
 use Rattle.cell_walks.specs.Outcomes.{Outcome}
@@ -28,7 +28,7 @@ use Rattle.journal_texts.specs.Recorded.{IsAskedUnder, IsHaltedIn, IsUnhaltedIn,
 use Rattle.journal_texts.specs.Records.{IsAsked, IsHalted, IsRecordedOrHalted}
 use Rattle.journal_texts.specs.declared.recorded.Asked.{Asked}
 use Rattle.journal_texts.specs.declared.recorded.Recorded.TheVariants.{Whole, Halted}
-use Rattle.cell_texts.proofs.Fitting.{admitted_after, entries_fit}
+use Rattle.record_printer.proofs.Fitting.{admitted_after, entries_fit}
 use Rattle.journal_texts.proofs.Replays.{replay_admitted}
 use Rattle.journal_texts.proofs.HaltedHistories.{ends_in_halt, none_halted, unhalted}
 

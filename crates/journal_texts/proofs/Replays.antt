@@ -10,7 +10,7 @@ use Rattle.cell_base.specs.Outcomes.{state_after}
 use Rattle.cell_base.specs.Policy.{IsAdmitted}
 use Rattle.policy_laws.proofs.Admission.{admission_law}
 use Rattle.policy_laws.proofs.States.{IsAdmitted-empty}
-use Rattle.shift_recovery.specs.Replayed.{AreDue}
+use Rattle.journal_format.specs.Replayed.{AreDue}
 
 module _ (cell : Cell) (fits : CellFits cell) where
   admitted_replayed : (parts : List Part) (grants : List Grant) → IsAdmitted cell parts

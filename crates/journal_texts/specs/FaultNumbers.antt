@@ -1,7 +1,7 @@
 -- The faults of journals by number, each with its count, as their lines show them.
 use Rattle.std.specs.Prelude.{ℕ}
-use Rattle.shift_recovery.specs.declared.faults.JournalFault.{JournalFault}
-use Rattle.shift_recovery.specs.declared.faults.JournalFault.TheVariants as journal
+use Rattle.journal_format.specs.declared.fault.JournalFault.{JournalFault}
+use Rattle.journal_format.specs.declared.fault.JournalFault.TheVariants as journal
 use Rattle.cell_texts.specs.FaultNumbers.{with_count, plain}
 use Rattle.cell_texts.specs.declared.findings.Finding.{Finding}
 

@@ -33,12 +33,12 @@ pub record IsFound (disk : DiskTold) (journal : Journal) (found : Found) : Type 
 abbrev pub GrantsFit : Found → Type 0
 GrantsFit found = All (λ (grant : Grant). RequestFits found.core.cell grant.request) found.grants
 
--- the grants of a journal that was opened, which somebody took, and the state after them
-pub record IsReplayed {K : Type 0} (disk : DiskTold) (journal : Journal) (took : K → ℕ → List Grant → K → Type 0) (old : K)
+-- the grants of a journal that was opened, which a visitor has seen, and the state after them
+pub record IsReplayed {K : Type 0} (disk : DiskTold) (journal : Journal) (visited : K → ℕ → List Grant → K → Type 0) (old : K)
     (replayed : Replayed K) : Type 0 where
   pub first : ℕ
   pub grants : List Grant
-  pub taken : took old first grants replayed.kept
+  pub taken : visited old first grants replayed.kept
   pub opened : IsOpenedAs disk journal grants
   pub core : replayed.core ≡ record { cell = journal.cell; parts = replay journal.cell grants }
   pub count : replayed.count ≡ length grants

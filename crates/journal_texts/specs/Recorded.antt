@@ -11,7 +11,7 @@ use Rattle.durable_cell.specs.DurableState.{DurableState}
 use Rattle.record_text.specs.Fitting.{EntryFits}
 use Rattle.cell_walks.specs.Outcomes.{Outcome}
 use Rattle.cell_walks.specs.declared.status.Status.TheVariants.{Done, DeviceFault}
-use Rattle.cell_texts.specs.Blocks.{block_of, history_lines}
+use Rattle.record_printer.specs.Blocks.{block_of, history_lines}
 use Rattle.journal_texts.specs.declared.recorded.Recorded.{Recorded}
 use Rattle.journal_texts.specs.declared.recorded.Recorded.TheVariants.{Whole, Halted}
 

@@ -14,7 +14,7 @@ use Rattle.durable_cell.specs.Asked.{grant_of}
 use Rattle.record_text.specs.Records.{text_of_record}
 use Rattle.cell_walks.specs.Outcomes.{Outcome}
 use Rattle.cell_walks.specs.declared.status.Status.TheVariants.{Done, DeviceFault}
-use Rattle.cell_texts.specs.Blocks.{history_lines, planned_block}
+use Rattle.record_printer.specs.Blocks.{history_lines, planned_block}
 
 -- The history that was asked under this number: it is legal after the grants, as if a single thread had asked; the policy decided each
 -- request by the state before it, which it admits; no neighborhood of the state after it holds more parts than its resource has units;

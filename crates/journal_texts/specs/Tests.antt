@@ -1,7 +1,7 @@
 -- The journal of a command: what it is opened for, its room, and the line of each of its faults.
 use Rattle.std.specs.Prelude.{codes, ℕ, List}
 use Rattle.durable_cell.specs.declared.replays.TheConstants.{MAX_ROOM}
-use Rattle.shift_recovery.specs.declared.faults.JournalFault.{JournalFault}
+use Rattle.journal_format.specs.declared.fault.JournalFault.{JournalFault}
 use Rattle.cell_walks.specs.Walks.{Journal, ToAdd, ToRead}
 use Rattle.cell_texts.specs.Tests.{KnownCell}
 use Rattle.cell_texts.specs.Texts.{refusal_text}

@@ -1,7 +1,7 @@
 //! A journal that is opened to be added to.
 ghost use Rattle.std.specs.Prelude.{◌≡◌, ◌≤◌, ℕ, [], length, Ok, IfOk, IfErr, IfSome};
 ghost use Rattle.durable_cell.specs.Openings.{fresh};
-ghost use Rattle.shift_recovery.specs.Replayed.{opened_as};
+ghost use Rattle.journal_format.specs.Replayed.{opened_as};
 ghost use Rattle.durable_cell.specs.declared.replays.TheConstants.{MAX_ROOM};
 ghost use Rattle.cell_walks.specs.Clauses.{IsNotOpened, disk_told};
 ghost use Rattle.cell_texts.specs.Clauses.{CellFits, MAX_CELL_BYTES, known};
@@ -13,7 +13,7 @@ use cell_texts::{CellFile, Made};
 use cell_walks::EarlyEnd;
 use durable_cell::{Durable, Heard, Opening, Recalled};
 use outside_io::Disk;
-use shift_recovery::Taker;
+use shift_recovery::GrantVisitor;
 use std::alloc::Global;
 
 /// The durable cell after the grants of a journal that has at most `room` of them, with a list of these, or the early end in its place. At
@@ -42,7 +42,7 @@ pub fn open_journal<D: Disk>(
 }
 
 /// The same without a list of the grants: each is handed on as it is read.
-pub fn open_journal_with<D: Disk, K: Taker + Drop>(
+pub fn open_journal_with<D: Disk, K: GrantVisitor + Drop>(
     alloc: Global,
     held: CellFile,
     disk: D,
@@ -54,12 +54,12 @@ pub fn open_journal_with<D: Disk, K: Taker + Drop>(
     requires short { length held.text.items ≤ MAX_CELL_BYTES }
     requires room { room ≤ MAX_ROOM }
     requires limit { limit ≤ MAX_ROOM }
-    requires none { (first : ℕ) → K.took kept first [] kept }
+    requires none { (first : ℕ) → K.visited kept first [] kept }
     ensures new { IfOk result (λ heard. let durable = heard.durable in
         durable ≡ fresh held.cell held.text.items disk durable.found durable.disk durable.opening limit) }
     ensures opening { IfOk result (λ heard.
         IfSome (D.reads_as disk) (λ file. opened_as held.cell file held.text.items room ≡ Ok heard.durable.opening)) }
-    ensures taken { IfOk result (λ heard. (first : ℕ) × K.took kept first heard.durable.opening heard.kept) }
+    ensures taken { IfOk result (λ heard. (first : ℕ) × K.visited kept first heard.durable.opening heard.kept) }
     ensures ended { IfErr result (λ ended.
         IsNotOpened (disk_told D.reads_as D.may_leave D.moment D.left_since D.faults disk ended.disk) (to_add (known held) room)
         ended.made) }

@@ -4,14 +4,14 @@ ghost use Rattle.cell_walks.specs.Clauses.{IsNotOpened, IsOnlyRead, disk_told};
 ghost use Rattle.cell_texts.specs.Clauses.{CellFits, MAX_CELL_BYTES, known};
 ghost use Rattle.journal_texts.specs.Clauses.{GrantsFit, IsAfterGrants, IsFound, IsReplayed, IsStable, to_read};
 
-use crate::refusals::at_journal_fault;
+use crate::refusals::at_open_fault;
 use admission_core::Core;
 use cell_base::{Grant, List};
 use cell_texts::{Answered, CellFile, Made};
 use cell_walks::EarlyEnd;
 use durable_cell::{MAX_ROOM, Resumed, resume};
 use outside_io::Disk;
-use shift_recovery::{OpenError, OpenFault, Taker, Unkept};
+use shift_recovery::{Discard, GrantVisitor, OpenError};
 use std::alloc::Global;
 
 /// A core in the state after grants, and how many these are.
@@ -41,7 +41,7 @@ pub fn read_journal<D: Disk>(alloc: Global, held: CellFile, disk: D) -> Answered
     ensures stable { IfOk result.made (λ _. IsStable
         (disk_told D.reads_as D.may_leave D.moment D.left_since D.faults disk result.disk)) }
 {
-    let Made { made, disk } = replay_journal(alloc, held, disk, Unkept);
+    let Made { made, disk } = replay_journal(alloc, held, disk, Discard);
     let made = match made {
         Ok(replayed) => Ok(AfterGrants {
             core: replayed.core,
@@ -88,16 +88,16 @@ pub(crate) struct Replayed<K> {
 }
 
 // The state after the grants of the cell that stand on a disk, which somebody takes, or the end in its place.
-fn replay_journal<D: Disk, K: Taker + Drop>(
+fn replay_journal<D: Disk, K: GrantVisitor + Drop>(
     alloc: Global,
     held: CellFile,
     disk: D,
     kept: K,
 ) -> Answered<Replayed<K>, D>
     requires fits { CellFits held.cell }
-    requires none { (first : ℕ) → K.took kept first [] kept }
+    requires none { (first : ℕ) → K.visited kept first [] kept }
     ensures replayed { IfOk result.made (IsReplayed
-        (disk_told D.reads_as D.may_leave D.moment D.left_since D.faults disk result.disk) (to_read (known held)) K.took kept) }
+        (disk_told D.reads_as D.may_leave D.moment D.left_since D.faults disk result.disk) (to_read (known held)) K.visited kept) }
     ensures ended { IfErr result.made (IsNotOpened
         (disk_told D.reads_as D.may_leave D.moment D.left_since D.faults disk result.disk) (to_read (known held))) }
     ensures only_read { IsOnlyRead (disk_told D.reads_as D.may_leave D.moment D.left_since D.faults disk result.disk) }
@@ -118,10 +118,6 @@ fn replay_journal<D: Disk, K: Taker + Drop>(
                 disk,
             }
         }
-        Err(OpenError { disk, why }) => match why {
-            OpenFault::Refused(why) => Made::ended(at_journal_fault(why), disk),
-            OpenFault::Device => Made::ended(EarlyEnd::DeviceFailed, disk),
-            OpenFault::Memory => Made::ended(EarlyEnd::WantOfMemory, disk),
-        },
+        Err(OpenError { disk, why }) => Made::ended(at_open_fault(why), disk),
     }
 }

@@ -1,7 +1,7 @@
 //! What was asked of a durable cell since it was opened, and its record: a drain and a run end alike.
 ghost use Rattle.std.specs.Prelude.{◌≡◌, [], Err, IfOk};
 ghost use Rattle.cell_base.specs.Scripts.{holds_halt};
-ghost use Rattle.shift_recovery.specs.Replayed.{AreDue};
+ghost use Rattle.journal_format.specs.Replayed.{AreDue};
 ghost use Rattle.cell_walks.specs.Allowed.{StandsForAdded};
 ghost use Rattle.cell_walks.specs.Clauses.{IsDelivered, IsTaken, disk_told, or_early, sink_seen};
 ghost use Rattle.printer.specs.Printing.{Prints};
@@ -10,12 +10,12 @@ ghost use Rattle.journal_texts.specs.Clauses.{IsUnhaltedIn, recorded_outcome};
 
 use admission_core::Core;
 use cell_base::{Entry, List, Told};
-use cell_texts::records::{print_block, print_history};
 use cell_texts::{Answered, Made};
 use cell_walks::{EarlyEnd, Status, finish_early};
 use durable_cell::{Durable, Finished, Recall};
 use outside_io::{Disk, Sink};
 use printer::Printer;
+use record_printer::records::{print_block, print_history};
 
 /// What was asked: the core after it, the number that it was asked under, how many grants there were before it, and what was decided.
 #[derive(Drop)]

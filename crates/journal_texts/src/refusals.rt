@@ -3,12 +3,13 @@ ghost use Rattle.std.specs.Prelude.{◌≡◌, Some};
 ghost use Rattle.cell_walks.specs.Walks.{end_with};
 ghost use Rattle.cell_walks.specs.declared.early_end.Subject.TheVariants.{Journal};
 ghost use Rattle.journal_texts.specs.FaultNumbers.{journal_finding};
+ghost use Rattle.journal_texts.specs.Openings.{end_unopened};
 ghost use Rattle.journal_texts.specs.Starting.{other_shift};
 ghost use Rattle.journal_texts.specs.Tests.{journal_line};
 
 use cell_texts::{Finding, at_finding};
 use cell_walks::{EarlyEnd, Subject};
-use shift_recovery::JournalFault;
+use shift_recovery::{JournalFault, OpenFault};
 
 // The fault of a journal, as its line shows it.
 fn finding_of(fault: JournalFault) -> Finding
@@ -27,6 +28,17 @@ pub fn at_journal_fault(why: JournalFault) -> EarlyEnd
     ensures { result ≡ end_with Journal (Some (journal_line why)) }
 {
     at_finding(Subject::Journal, b"journal", Some(finding_of(why)))
+}
+
+/// The end at a disk that was not opened.
+pub(crate) fn at_open_fault(why: OpenFault) -> EarlyEnd
+    ensures { result ≡ end_unopened why }
+{
+    match why {
+        OpenFault::Refused(why) => at_journal_fault(why),
+        OpenFault::Device => EarlyEnd::DeviceFailed,
+        OpenFault::Memory => EarlyEnd::WantOfMemory,
+    }
 }
 
 /// The end at a grant of another shift in a journal, of this session.

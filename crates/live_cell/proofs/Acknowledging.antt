@@ -6,7 +6,7 @@ use Rattle.cell_base.specs.declared.shifts.Grant.{Grant}
 use Rattle.outside_io.specs.Disk.{LeavesOnly}
 use Rattle.outside_io.specs.Telling.{where_told, told}
 use Rattle.move_journal.specs.Disks.{Shows}
-use Rattle.move_journal.specs.Journals.{StandsFor, IsBeforeOrAfterAll}
+use Rattle.journal_format.specs.Journals.{StandsFor, IsBeforeOrAfterAll}
 use Rattle.live_cell.specs.Acknowledged.{HasThese, HasSince}
 
 -- without the pending grants or with all of them, a file has those before

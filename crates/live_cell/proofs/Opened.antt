@@ -5,9 +5,9 @@ use Rattle.cell_base.specs.declared.cells.Cell.{Cell}
 use Rattle.cell_base.specs.declared.shifts.Grant.{Grant}
 use Rattle.outside_io.specs.Disk.{Turns, LeavesOnly}
 use Rattle.move_journal.specs.Groups.{GroupState}
-use Rattle.move_journal.specs.Journals.{StandsFor}
+use Rattle.journal_format.specs.Journals.{StandsFor}
 use Rattle.move_journal.specs.Kept.{JournalState}
-use Rattle.shift_recovery.specs.Reads.{OnlyReads}
+use Rattle.journal_format.specs.Reads.{OnlyReads}
 use Rattle.durable_cell.specs.Made.{IsJournalOf}
 use Rattle.durable_cell.specs.Resumed.{IsOpenedAfter, disk_resumed}
 use Rattle.durable_cell.specs.declared.resumed.Resumed.{Resumed}
@@ -31,15 +31,15 @@ module _ {D : Type 0} (reads_as : D → Option (List ℕ)) (may_leave : D → Li
   }
 
   -- with an empty group it is a live cell after these grants
-  pub live_after : {K : Type 0} (cell : Cell) (text : List ℕ) (room most : ℕ) (took : K → ℕ → List Grant → K → Type 0) (disk : D) (old : K)
+  pub live_after : {K : Type 0} (cell : Cell) (text : List ℕ) (room most : ℕ) (visited : K → ℕ → List Grant → K → Type 0) (disk : D) (old : K)
       (from : Resumed D K) (journal : JournalState D) (group : GroupState)
-      (resumed : IsOpenedAfter reads_as may_leave disk cell text room took old from)
+      (resumed : IsOpenedAfter reads_as may_leave disk cell text room visited old from)
       → OnlyReads reads_as may_leave moment left_since disk (disk_resumed from)
       → IsJournalOf reads_as may_leave moment left_since faults (disk_resumed from) text resumed.grants journal
       → group ≡ record { grants = []; spare = most }
-      → IsLiveAfter reads_as may_leave moment left_since cell text room most took disk old resumed.grants
+      → IsLiveAfter reads_as may_leave moment left_since cell text room most visited disk old resumed.grants
       (seen from.core journal group room) from.kept
-  live_after cell text room most took disk old from journal group resumed read made none = record {
+  live_after cell text room most visited disk old from journal group resumed read made none = record {
     state = λ i. record {
       cell = (resumed.core.state i).cell;
       parts = (resumed.core.state i).parts;

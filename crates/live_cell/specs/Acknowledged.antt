@@ -1,7 +1,7 @@
 -- Grants that no crash takes back.
 use Rattle.std.specs.Prelude.{ℕ, List, ◌++◌}
 use Rattle.cell_base.specs.declared.shifts.Grant.{Grant}
-use Rattle.move_journal.specs.Journals.{StandsFor}
+use Rattle.journal_format.specs.Journals.{StandsFor}
 use Rattle.durable_cell.specs.Acknowledged.{LeftOnly}
 
 -- the file stands for these grants, and maybe for more after them

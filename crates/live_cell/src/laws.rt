@@ -3,7 +3,7 @@ ghost use Rattle.std.specs.Prelude.{ℕ, ◌+◌, ◌≤◌, List, ◌++◌, len
 ghost use Rattle.cell_base.specs.declared.shifts.Grant.{Grant};
 ghost use Rattle.outside_io.specs.Disk.{LeavesOnly};
 ghost use Rattle.move_journal.specs.Disks.{Shows};
-ghost use Rattle.move_journal.specs.Journals.{StandsFor, IsBeforeOrAfterAll};
+ghost use Rattle.journal_format.specs.Journals.{StandsFor, IsBeforeOrAfterAll};
 ghost use Rattle.durable_cell.specs.Clauses.{CellFits, IsAdmitted};
 ghost use Rattle.live_cell.specs.Acknowledged.{HasSince};
 

@@ -1,7 +1,7 @@
 //! A cell whose grants are on a disk, without a history: requests are decided one by one, and made stable in groups.
 //!
 //! ```text
-//! let mut live = match LiveCell::open(alloc, cell, cell_text, disk, room, 512, Unkept) {
+//! let mut live = match LiveCell::open(alloc, cell, cell_text, disk, room, 512, Discard) {
 //!     Ok(OpenedLive { live, .. }) => live,         // after the grants that stand on the disk
 //!     Err(OpenError { disk, why }) => ..,          // the file is refused, the device failed, or there was no memory
 //! };

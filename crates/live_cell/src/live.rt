@@ -4,7 +4,7 @@ ghost use Rattle.std.specs.Prelude.{◌≡◌, ◌+◌, ◌<◌, ◌≤◌, ℕ,
 ghost use Rattle.std.specs.Prelude.{Some, true, false, OnOk, OnErr, IfOk, IfErr, IfSome, ⊤};
 ghost use Rattle.durable_cell.specs.Clauses.{CellFits, Grant, IsAdmitted, RequestFits, StandsFor, reply_to};
 ghost use Rattle.move_journal.specs.Disks.{Shows};
-ghost use Rattle.move_journal.specs.Journals.{IsBeforeOrAfterAll};
+ghost use Rattle.journal_format.specs.Journals.{IsBeforeOrAfterAll};
 ghost use Rattle.live_cell.specs.LiveState.{asked, committed};
 
 use crate::{JournalFull, LiveParts, OpenedLive};
@@ -14,7 +14,7 @@ use cell_base::{Cell, Grant, Reply, Request};
 use durable_cell::{MAX_ROOM, Resumed, resume};
 use move_journal::{Group, Journal, MAX_CELL_TEXT, MAX_GROUP};
 use outside_io::{Disk, Failed};
-use shift_recovery::{OpenError, OpenFault, Taker};
+use shift_recovery::{GrantVisitor, OpenError, OpenFault};
 use std::alloc::Global;
 use std::marker::Model;
 
@@ -62,7 +62,7 @@ impl<D: Disk> LiveCell<D> {
     /// The cell after the grants that stand on a disk with this cell text, if there are at most `room` of them, each of which is
     /// handed on as it is read; so many the journal may have in all. At most `most` grants may be pending. A disk that holds no
     /// journal gets one of no grants, as the last step.
-    pub fn open<K: Taker + Drop>(
+    pub fn open<K: GrantVisitor + Drop>(
         alloc: Global,
         cell: Cell,
         cell_text: &[u8],
@@ -75,8 +75,8 @@ impl<D: Disk> LiveCell<D> {
         requires text { length cell_text.now ≤ MAX_CELL_TEXT }
         requires room { room ≤ MAX_ROOM }
         requires group { most ≤ MAX_GROUP }
-        requires none { (first : ℕ) → K.took kept first [] kept }
-        ensures opened { IsOpenedAs D.reads_as D.may_leave D.moment D.left_since cell cell_text.now room most K.took disk kept result }
+        requires none { (first : ℕ) → K.visited kept first [] kept }
+        ensures opened { IsOpenedAs D.reads_as D.may_leave D.moment D.left_since cell cell_text.now room most K.visited disk kept result }
         ensures cause { HasOpenCause (D.faults disk) (D.faults (disk_of disk_live result)) result }
         ensures leaves { IfErr result (λ error.
             IsHandedBack D.reads_as D.may_leave D.moment D.left_since disk cell_text.now error.disk error.why) }
@@ -84,7 +84,7 @@ impl<D: Disk> LiveCell<D> {
         // What a live or durable cell may leave is opened.
         ensures stands { (file : Sequence ℕ) (grants : Sequence Grant) → D.reads_as disk ≡ Some file
             → StandsFor file cell_text.now grants → AreDue cell grants → length grants ≤ room
-            → IsFound D.reads_as D.may_leave D.moment D.left_since cell cell_text.now room most K.took disk kept grants result }
+            → IsFound D.reads_as D.may_leave D.moment D.left_since cell cell_text.now room most K.visited disk kept grants result }
     {
         let Resumed { core, stored, kept } = resume(alloc, cell, cell_text, disk, room, kept)?;
         let Ok(group) = Group::with_room(alloc, most) else {

@@ -2,7 +2,7 @@
 use crate::LiveCell;
 use outside_io::Disk;
 
-/// A live cell, and the taker to which the grants of its opening were handed on.
+/// A live cell, and the visitor to which the grants of its opening were handed on.
 #[derive(Drop)]
 pub struct OpenedLive<D: Disk, K> {
     pub live: LiveCell<D>,

@@ -14,12 +14,12 @@ use Rattle.cell_walks.specs.DiskTold.{DiskTold, IsOnlyRead}
 use Rattle.cell_walks.specs.Observed.{FilesTold}
 use Rattle.cell_walks.specs.Outcomes.{Outcome, done}
 use Rattle.cell_walks.specs.declared.early_end.EarlyEnd.{EarlyEnd}
-use Rattle.cell_texts.specs.Blocks.{block_of as lines_of_block, planned_block}
+use Rattle.record_printer.specs.Blocks.{block_of as lines_of_block, planned_block}
 use Rattle.journal_texts.specs.JournalReads.{IsFound}
 use Rattle.journal_texts.specs.declared.readers.Found.{Found}
 use Rattle.cell_texts.specs.Tests.{KnownCell}
 use Rattle.journal_texts.specs.Tests.{to_read}
-use Rattle.cell_texts.proofs.BlockTexts.{planned_text}
+use Rattle.record_printer.proofs.BlockTexts.{planned_text}
 use Rattle.cell_driver.specs.Driving.{Allowed, IsMade}
 use Rattle.journal_texts.proofs.Replays.{replay_admitted}
 use Rattle.look_commands.specs.Grants.{IsListed, found_lines, history_of, list_grants}

@@ -12,10 +12,10 @@ use Rattle.cell_base.specs.Outcomes.{reply_to, state_after}
 use Rattle.cell_base.specs.Plans.{plan_of}
 use Rattle.cell_base.specs.Scripts.{holds_halt}
 use Rattle.policy_laws.proofs.Granting.{granted_alone}
-use Rattle.shift_recovery.specs.Replayed.{AreDue}
+use Rattle.journal_format.specs.Replayed.{AreDue}
 use Rattle.record_text.specs.Lines.{head_words, line_of}
 use Rattle.record_text.specs.Records.{block_of}
-use Rattle.cell_texts.specs.Blocks.{entry_line, history_lines}
+use Rattle.record_printer.specs.Blocks.{entry_line, history_lines}
 use Rattle.shift_checker.specs.Judging.{judge}
 use Rattle.shift_checker.specs.declared.verdict.Verdict.TheVariants.{Yes}
 use Rattle.shift_checker.proofs.Legal.{record_right}

@@ -12,7 +12,7 @@ use Rattle.cell_base.specs.Outcomes.{state_after}
 use Rattle.cell_base.specs.Plans.{plan_of, work_of}
 use Rattle.cell_base.specs.Policy.{IsAdmitted}
 use Rattle.cell_base.specs.Stages.{IsStage, stage_of}
-use Rattle.shift_recovery.specs.Replayed.{AreDue}
+use Rattle.journal_format.specs.Replayed.{AreDue}
 use Rattle.policy_laws.proofs.Plans.{length-plan_of}
 use Rattle.policy_laws.proofs.Units.{units_law}
 use Rattle.admission_core.proofs.Tallying.{work_of-le}

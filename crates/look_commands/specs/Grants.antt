@@ -15,7 +15,7 @@ use Rattle.shift_checker.specs.Judging.{judge}
 use Rattle.shift_checker.specs.declared.verdict.Verdict.TheVariants.{Yes}
 use Rattle.cell_walks.specs.Outcomes.{Outcome, done}
 use Rattle.cell_walks.specs.Walks.{Walk, Tests, Opens, Answers}
-use Rattle.cell_texts.specs.Blocks.{Lines, block_of as lines_of_block, entry_line, planned_block}
+use Rattle.record_printer.specs.Blocks.{Lines, block_of as lines_of_block, entry_line, planned_block}
 use Rattle.cell_texts.specs.Tests.{KnownCell, cell_file}
 use Rattle.journal_texts.specs.Tests.{to_read}
 use Rattle.journal_texts.specs.declared.readers.Found.{Found}

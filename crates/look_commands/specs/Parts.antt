@@ -14,7 +14,7 @@ use Rattle.step_text.specs.Steps.{done_word}
 use Rattle.record_text.specs.Lines.{line_of}
 use Rattle.cell_walks.specs.Outcomes.{done}
 use Rattle.cell_walks.specs.Walks.{Walk, Tests, Opens, Answers}
-use Rattle.cell_texts.specs.Blocks.{Lines}
+use Rattle.record_printer.specs.Blocks.{Lines}
 use Rattle.cell_texts.specs.Tests.{KnownCell, cell_file}
 use Rattle.journal_texts.specs.Tests.{to_read}
 

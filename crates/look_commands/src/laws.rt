@@ -1,6 +1,6 @@
 //! Facts about what `grants` prints, each the contract of a function that does nothing.
 ghost use Rattle.std.specs.Prelude.{◌≡◌, ◌∷◌, ℕ, [], List as Items, All, Ok};
-ghost use Rattle.shift_recovery.specs.Replayed.{AreDue};
+ghost use Rattle.journal_format.specs.Replayed.{AreDue};
 ghost use Rattle.cell_texts.specs.Clauses.{CellFits, record_reads};
 ghost use Rattle.look_commands.specs.Clauses.{AreBlocks, Block, Yes, judge, text_of_block};
 ghost use Rattle.look_commands.specs.Grants.{GrantInRange, block_of_grants};

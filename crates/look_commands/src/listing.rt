@@ -3,15 +3,15 @@ ghost use Rattle.std.specs.Prelude.{◌≡◌, map};
 ghost use Rattle.std.specs.List.{All};
 ghost use Rattle.journal_texts.specs.Clauses.{GrantsFit};
 ghost use Rattle.cell_texts.specs.Clauses.{RequestFits};
-ghost use Rattle.cell_texts.specs.Blocks.{history_lines};
+ghost use Rattle.record_printer.specs.Blocks.{history_lines};
 ghost use Rattle.printer.specs.Printing.{Prints};
 ghost use Rattle.look_commands.specs.Grants.{found_lines, grant_line, history_of};
 
 use cell_base::{Cell, Entry, Grant, Reply, Told};
-use cell_texts::records::print_left;
 use journal_texts::Found;
 use outside_io::Sink;
 use printer::Printer;
+use record_printer::records::print_left;
 use record_text::{Line, head_line, write_entry};
 
 /// Prints the record of what was found.

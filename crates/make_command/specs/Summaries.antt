@@ -11,7 +11,7 @@ use Rattle.cell_base.specs.Fits.{steps_of}
 use Rattle.cell_base.specs.Histories.{is_granted, was_granted}
 use Rattle.cell_base.specs.Plans.{plan_of}
 use Rattle.record_text.specs.Lines.{line_of}
-use Rattle.cell_texts.specs.Blocks.{Lines}
+use Rattle.record_printer.specs.Blocks.{Lines}
 use Rattle.make_command.specs.declared.summary.Summary.{Summary}
 
 -- the request was refused; a halted one was not

@@ -6,8 +6,8 @@ use Rattle.cell_base.specs.declared.shifts.Grant.{Grant}
 use Rattle.outside_io.specs.Disk.{overwritten, Torn, Only}
 use Rattle.move_journal.specs.Disks.{ComesOf}
 use Rattle.std.specs.List.{AllByRecursion}
-use Rattle.move_journal.specs.Journals.{entries, front, gate_of, group_bytes, IsReadAgain, IsJournal, HoldsRecords, Staged, WithOrWithout}
-use Rattle.move_journal.proofs.Fronts.{length-front, front-append, each-append}
+use Rattle.journal_format.specs.Journals.{entries, front, gate_of, group_bytes, IsReadAgain, IsJournal, HoldsRecords, Staged, WithOrWithout}
+use Rattle.journal_format.proofs.Fronts.{length-front, front-append, each-append}
 use Rattle.move_journal.proofs.Splits.{torn_after, torn_byte, written_after, written_byte, regroup}
 use Rattle.move_journal.proofs.Turning.{of_only}
 

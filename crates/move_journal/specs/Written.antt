@@ -1,7 +1,7 @@
 -- What each call makes of the bytes that a disk reads as.
 use Rattle.std.specs.Prelude.{ℕ, ◌+◌, List, [], ◌∷◌, ◌++◌, length, nat_le, if◌then◌else◌}
 use Rattle.outside_io.specs.Disk.{overwritten}
-use Rattle.move_journal.specs.Journals.{head}
+use Rattle.journal_format.specs.Journals.{head}
 
 -- of a file of at most one byte that byte is written as 0; a longer one stays
 abbrev pub after_clear : List ℕ → List ℕ

@@ -16,7 +16,7 @@ ghost use Rattle.std.specs.Option.{ForSome};
 ghost use Rattle.outside_io.specs.Causes.{HasCause};
 ghost use Rattle.outside_io.specs.Disk.{overwritten, Turns, Only, LeavesOnly};
 ghost use Rattle.move_journal.specs.Disks.{Rests};
-ghost use Rattle.move_journal.specs.Journals.{IsJournal, HoldsRecords, Staged, WithOrWithout, gate_of};
+ghost use Rattle.journal_format.specs.Journals.{IsJournal, HoldsRecords, Staged, WithOrWithout, gate_of};
 ghost use Rattle.move_journal.specs.Written.{after_append};
 
 use crate::stable_write::write_through;

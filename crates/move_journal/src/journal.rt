@@ -6,7 +6,7 @@ ghost use Rattle.entry_codec.specs.Records.{HasRecord, record_of};
 ghost use Rattle.outside_io.specs.Causes.{Rose};
 ghost use Rattle.outside_io.specs.Disk.{Turns, LeavesOnly};
 ghost use Rattle.move_journal.specs.Disks.{Rests, Shows};
-ghost use Rattle.move_journal.specs.Journals.{StandsFor, IsBeforeOrAfter, IsBeforeOrAfterAll, gate_of, group_bytes};
+ghost use Rattle.journal_format.specs.Journals.{StandsFor, IsBeforeOrAfter, IsBeforeOrAfterAll, gate_of, group_bytes};
 ghost use Rattle.move_journal.specs.Kept.{IsOpen};
 ghost use Rattle.move_journal.specs.Written.{after_append};
 
@@ -67,7 +67,7 @@ impl<D: Disk> Journal<D> {
         requires has_record { HasRecord grant.now }
         ensures grown { OnOk result (self.new.len ≡ self.old.len + 1) }
         ensures runs { OnOk result (self.new.is_halted ≡ false) }
-        ensures fed { OnOk result (D.faults self.new.disk ≡ D.faults self.old.disk) }
+        ensures no_fault { OnOk result (D.faults self.new.disk ≡ D.faults self.old.disk) }
 
         ensures halted { self.old.is_halted ≡ true → result ≡ Err (AppendFault.Halted self.old.len) }
         ensures halted_only { (after : ℕ) → result ≡ Err (AppendFault.Halted after) → self.old.is_halted ≡ true }
@@ -115,7 +115,7 @@ impl<D: Disk> Journal<D> {
         requires room { self.old.len + length group.now.grants ≤ 4294967295 }
         ensures grown { OnOk result (self.new.len ≡ self.old.len + length group.now.grants) }
         ensures runs { OnOk result (self.new.is_halted ≡ false) }
-        ensures fed { OnOk result (D.faults self.new.disk ≡ D.faults self.old.disk) }
+        ensures no_fault { OnOk result (D.faults self.new.disk ≡ D.faults self.old.disk) }
 
         ensures halted { self.old.is_halted ≡ true → result ≡ Err (AppendFault.Halted self.old.len) }
         ensures halted_only { (after : ℕ) → result ≡ Err (AppendFault.Halted after) → self.old.is_halted ≡ true }

@@ -34,8 +34,8 @@ mod head_write;
 mod journal;
 mod stable_write;
 
-pub use blank::{Blank, BlankForm, NAME};
+pub use blank::Blank;
 pub use cleared::{Cleared, MAX_CELL_TEXT};
 pub use group::{Group, MAX_GROUP};
-pub use head_write::TEXT_AT;
 pub use journal::{AppendFault, Journal};
+pub use journal_format::{BlankForm, NAME, TEXT_AT};

@@ -6,7 +6,7 @@ use Rattle.cell_base.specs.Named.{resource_name}
 use Rattle.cell_base.specs.Stages.{resource_numbers}
 use Rattle.order_advisor.specs.declared.advice.Advice.{Advice}
 use Rattle.record_text.specs.Lines.{line_of}
-use Rattle.cell_texts.specs.Blocks.{Lines}
+use Rattle.record_printer.specs.Blocks.{Lines}
 use Rattle.cell_texts.specs.FaultNumbers.{with_count}
 use Rattle.cell_texts.specs.Texts.{refusal_text}
 

@@ -1,4 +1,5 @@
 pub mod Firsts
+pub mod Following
 pub mod Links
 pub mod Chains
 pub mod Seeking

@@ -1,7 +1,8 @@
 //! The parts in the order of their arrival, each with the resource that was told of it.
-ghost use Rattle.std.specs.Prelude.{◌≡◌, ◌+◌, ◌<◌, ◌≤◌, true, false, [], ◌∷◌, ◌++◌, length, Some, slice_get, MatchOption, IfOk};
+ghost use Rattle.std.specs.Prelude.{◌≡◌, ℕ, ◌+◌, ◌<◌, ◌≤◌, true, false, [], ◌∷◌, ◌++◌, length, Some, slice_get, MatchOption, IfOk};
 ghost use Rattle.std.specs.List.{find};
 ghost use Rattle.std.specs.Option.{option_map};
+ghost use Rattle.cell_base.specs.declared.requests.Part.{Part};
 ghost use Rattle.cell_base.specs.Policy.{is_loaded, HaveDistinctJobs};
 ghost use Rattle.cell_base.specs.Outcomes.{is_waiting_on, part_of};
 ghost use Rattle.cell_base.specs.declared.limits.TheConstants.{MAX_RESOURCES};
@@ -138,6 +139,18 @@ impl Arrivals {
         match self.log.nth(i) {
             Some(item) => item.part,
             None => unreachable!(),
+        }
+    }
+
+    /// The part that comes next after the one of a job.
+    pub fn after(&self, job: JobId) -> Option<Part>
+        ensures { (i : ℕ) (part : Part) → slice_get (parts_of self.now.items) i ≡ Some part → part.job ≡ job
+            → result ≡ slice_get (parts_of self.now.items) (i + 1) }
+    {
+        let at = self.log.place_of(job)?;
+        match self.log.after(at) {
+            Some(item) => Some(item.part),
+            None => None,
         }
     }
 

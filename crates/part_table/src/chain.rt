@@ -3,7 +3,7 @@
 //! The entries that were told a resource are linked in their order, also those that are gone, so that the next one that stays is found
 //! by one step for each of them that is gone. One chain serves both: the next that stays, and the next that stays and is not done.
 ghost use Rattle.std.specs.Prelude.{◌≡◌, ◌≢◌, ℕ, ◌+◌, ◌<◌, ◌≤◌, ◌∷◌, ◌++◌, [], true, not, ◌&&◌, if◌then◌else◌, nat_le, min};
-ghost use Rattle.std.specs.Prelude.{map, filter, find, length, All, Some, None, slice_get, slice_set, slice_index, MatchOption, IfOk, vec_capacity};
+ghost use Rattle.std.specs.Prelude.{drop, map, filter, find, length, All, Some, None, slice_get, slice_set, slice_index, MatchOption, IfOk, vec_capacity};
 ghost use Rattle.std.specs.Option.{option_map};
 ghost use Rattle.cell_base.specs.Outcomes.{is_waiting_on};
 ghost use Rattle.part_table.specs.Chains.{OFF, link_entries, nexts_of, told_key, key_of, standing_key, waiting_key};
@@ -314,6 +314,14 @@ impl Chain {
         ensures { result ≡ slice_get (staying self.now.entries) i }
     {
         nth(&self.links, i)
+    }
+
+    /// The first part behind a place, among those that stay.
+    pub fn after(&self, at: u32) -> Option<Standing>
+        requires { at < length self.now.entries }
+        ensures { result ≡ slice_get (staying (drop (at + 1) self.now.entries)) 0 }
+    {
+        nth(&self.links[at as usize + 1..], 0)
     }
 
     /// The job of the first part on a resource that is not done, by a table, which is asked for each part.

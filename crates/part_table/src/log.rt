@@ -1,6 +1,6 @@
 //! A log of parts as they came, which is found by job and by resource.
-ghost use Rattle.std.specs.Prelude.{◌≡◌, ◌≢◌, ◌<◌, ◌≤◌, ◌∷◌, ◌++◌, [], true, false, length, Some};
-ghost use Rattle.std.specs.Prelude.{slice_get, slice_set, MatchOption, IfOk, nat_le, map, filter, find, All, None};
+ghost use Rattle.std.specs.Prelude.{◌≡◌, ◌≢◌, ◌+◌, ◌<◌, ◌≤◌, ◌∷◌, ◌++◌, [], true, false, length, Some};
+ghost use Rattle.std.specs.Prelude.{slice_get, slice_set, MatchOption, IfOk, nat_le, drop, map, filter, find, All, None};
 ghost use Rattle.std.specs.Option.{option_map};
 ghost use Rattle.cell_base.specs.Outcomes.{is_waiting_on};
 ghost use Rattle.part_table.specs.declared.standing.Entry.{Entry};
@@ -236,6 +236,14 @@ impl Log {
         ensures { result ≡ slice_get (staying self.now.entries) i }
     {
         self.chain.nth(i)
+    }
+
+    /// The first part behind a place, among those that stay.
+    pub fn after(&self, at: u32) -> Option<Standing>
+        requires { at < length self.now.entries }
+        ensures { result ≡ slice_get (staying (drop (at + 1) self.now.entries)) 0 }
+    {
+        self.chain.after(at)
     }
 
     /// The job of the first part on a resource that is not done, by a table, which is asked for each part.

@@ -1,7 +1,8 @@
 //! The table of parts: an order of arrival for all, and where a cell was told, one more for each of its resources.
-ghost use Rattle.std.specs.Prelude.{◌≡◌, ◌+◌, ◌<◌, ◌≤◌, ◌==◌, true, false, [], ◌∷◌, ◌++◌, length, Some, None};
+ghost use Rattle.std.specs.Prelude.{◌≡◌, ℕ, ◌+◌, ◌<◌, ◌≤◌, ◌==◌, true, false, [], ◌∷◌, ◌++◌, length, Some, None};
 ghost use Rattle.std.specs.Prelude.{slice_get, find, IfOk, IfSome, IsSome};
 ghost use Rattle.std.specs.Option.{option_map, ForSome};
+ghost use Rattle.cell_base.specs.declared.requests.Part.{Part};
 ghost use Rattle.cell_base.specs.Policy.{is_of_job, is_loaded, HaveDistinctJobs};
 ghost use Rattle.cell_base.specs.Outcomes.{part_of, without, is_waiting_on, finish_first};
 ghost use Rattle.cell_base.specs.Plans.{resource_of_part};
@@ -96,6 +97,13 @@ impl Parts {
         ensures { slice_get self.now.parts i ≡ Some result }
     {
         self.arrivals.nth(i)
+    }
+
+    /// The part that comes next after the one of a job, found in a step or two.
+    pub fn after(&self, job: JobId) -> Option<Part>
+        ensures { (i : ℕ) (part : Part) → slice_get self.now.parts i ≡ Some part → part.job ≡ job → result ≡ slice_get self.now.parts (i + 1) }
+    {
+        self.arrivals.after(job)
     }
 
     /// All parts, by one walk. It takes memory for the list.

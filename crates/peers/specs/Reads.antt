@@ -9,7 +9,7 @@ use Rattle.peers.specs.Runs.{HasMoment}
 -- forgotten. Of the puts the read belongs to the one before it.
 pub record IsRead {D T : Type 0} (disk : DiskMeaning D) (peer : PeerMeaning T D) (rests : D) (old new : T) : Type 0 where
   pub same : peer.taken new ≡ peer.taken old
-  pub still : peer.handed_on new ≡ peer.handed_on old
+  pub none_handed : peer.handed_on new ≡ peer.handed_on old
   pub of_put : (first : T) (piece : List ℕ) → peer.was_put first piece old → peer.was_put first piece new
   pub no_put : peer.faults new ≡ peer.faults old
   pub clock : peer.since old ≤ disk.moment rests → peer.since new ≤ disk.moment rests

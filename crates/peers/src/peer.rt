@@ -86,7 +86,7 @@ pub trait Peer<D: Disk> {
         ensures cause { HasCause (read_faults self.old) (read_faults self.new) result }
 
         ensures same { taken self.new ≡ taken self.old }
-        ensures still { handed_on self.new ≡ handed_on self.old }
+        ensures none_handed { handed_on self.new ≡ handed_on self.old }
         ensures of_put { (first : Self) (piece : List ℕ) → was_put first piece self.old → was_put first piece self.new }
         ensures no_put { faults self.new ≡ faults self.old }
 

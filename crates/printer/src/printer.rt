@@ -2,8 +2,8 @@
 ghost use Rattle.std.specs.Prelude.{◌≡◌, [], ◌∷◌, false};
 
 use cell_walks::Status;
+use line_text::Line;
 use outside_io::Sink;
-use record_text::Line;
 
 /// A sink to which lines are printed, each by one `put`. Once a put has failed, no more are made.
 #[derive(Drop)]

@@ -21,7 +21,7 @@ use Rattle.policy_laws.proofs.Admission.{state_after_admitted}
 use Rattle.policy_laws.proofs.Lists.{All-found, All-slice_get}
 use Rattle.policy_laws.proofs.Plans.{plan_law}
 use Rattle.policy_laws.proofs.States.{IsAdmitted-empty}
-use Rattle.cell_texts.proofs.Fitting.{refusal_fits}
+use Rattle.record_printer.proofs.Fitting.{refusal_fits}
 use Rattle.wait_board.specs.declared.entries.BoardEntry.{BoardEntry}
 use Rattle.wait_board.specs.declared.entries.BoardTold.TheVariants as told
 use Rattle.wait_queue.specs.declared.waiter.Waiter.{Waiter}

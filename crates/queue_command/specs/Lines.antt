@@ -16,7 +16,7 @@ use Rattle.wait_board.specs.declared.entries.BoardTold.{BoardTold}
 use Rattle.wait_board.specs.declared.entries.BoardTold.TheVariants as told
 use Rattle.wait_queue.specs.declared.waiter.Waiter.{Waiter}
 use Rattle.wait_board.specs.Boards.{OnBoard}
-use Rattle.cell_texts.specs.Blocks.{Lines, left_lines}
+use Rattle.record_printer.specs.Blocks.{Lines, left_lines}
 
 -- the line of a session and a request, with words of what came of it
 abbrev pub asked_line : Cell → ℕ → Request → List (List ℕ) → List ℕ

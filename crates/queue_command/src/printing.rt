@@ -6,9 +6,9 @@ ghost use Rattle.queue_command.specs.Clauses.{BoardFits, BoardEntryFits, WaiterF
 
 use crate::lines::{write_entry, write_still};
 use cell_base::Cell;
-use cell_texts::records::print_left;
 use outside_io::Sink;
 use printer::Printer;
+use record_printer::records::print_left;
 use record_text::Line;
 use wait_board::{Board, BoardEntry, Waiter};
 

@@ -1,5 +1,5 @@
-//! The real outside: files of the system, a journal's file, standard input and output and the clock, as the traits of `outside_io`
-//! want them; and the words of the command line.
+//! The real outside: files of the system, standard input and output and the clock, as the traits of `outside_io` want them; and the
+//! words of the command line. The file of a journal is that of `journal_disk`.
 //!
 //! The programs `wishkabe` and `solo_program` hand these to their top calls, and nothing else uses them. Proved of each is that its calls
 //! are safe and return, and that a call answers a failure only where its count of faults rose. None tells what it holds, since no proof
@@ -8,19 +8,14 @@
 //! ```text
 //! let mut files = DirFiles::new(&rt, false);
 //! let mut out = OutSink::new(io::writer(&rt));
-//! let disk = FileDisk::new(&rt, rt.alloc(), "journal", Purpose::ToAdd, false);
 //! let pace = RestPace::new(&rt);
-//! let ended = cell_main(&rt, rt.alloc(), &words, &mut files, &mut out, disk, &pace);
+//! let ended = cell_main(&rt, rt.alloc(), &words, &mut files, &mut out, NullDisk, &pace);
 //! ```
 #![tactic(auto)]
 
 mod dir_files;
 mod failure;
-mod file_disk;
-mod grant_count;
 mod in_source;
-mod journal_file;
-mod look;
 mod out_sink;
 mod progress;
 mod regular_files;
@@ -30,10 +25,9 @@ mod words;
 
 pub use dir_files::DirFiles;
 pub use failure::Failure;
-pub use file_disk::FileDisk;
 pub use in_source::InSource;
-pub use journal_file::Purpose;
 pub use out_sink::{OUT_BUFFER, OutSink};
+pub use progress::Progress;
 pub use regular_files::RegularFiles;
 pub use rest_pace::RestPace;
 pub use seen_sink::{Seen, SeenSink};

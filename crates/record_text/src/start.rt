@@ -13,11 +13,11 @@ ghost use Rattle.record_text.specs.StartLines.{GivesStart, next_request, read_fr
 ghost use Rattle.record_text.specs.declared.start.TheConstants.{MAX_START_LINES};
 ghost use Rattle.record_text.specs.StartFiles.{IsPlacing, IsStartOf, StartRefusedAt, place_line};
 
-use crate::line::Line;
 use crate::lines::{add_type, done_word};
 use crate::lines_at::placing_of;
 use crate::record::{RecordFault, cut_line};
 use cell_base::{Cell, JobId, List, Request, TypeId};
+use line_text::Line;
 use std::alloc::Global;
 use step_text::IndexedCell;
 

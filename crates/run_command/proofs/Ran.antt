@@ -9,7 +9,7 @@ use Rattle.cell_base.specs.Scripts.{begin_at, holds_halt, first_step}
 use Rattle.cell_base.specs.Starts.{AreFirstSteps}
 use Rattle.durable_cell.specs.DurableState.{DurableState}
 use Rattle.durable_cell.specs.Openings.{fresh}
-use Rattle.shift_recovery.specs.Replayed.{AreDue, opened_as}
+use Rattle.journal_format.specs.Replayed.{AreDue, opened_as}
 use Rattle.shift_file.specs.Walk.{shift_of}
 use Rattle.cell_walks.specs.Allowed.{ByMemory, ByRefusal, IsAllowed, IsEndedAt, JournalOpened}
 use Rattle.cell_walks.specs.Allowed.{NotOpened, Opened, Passed, Stopped, Unasked, AllowsFrom}
@@ -28,7 +28,7 @@ use Rattle.journal_texts.specs.Starting.{other_shift, start_test}
 use Rattle.journal_texts.specs.declared.recorded.Recorded.{Recorded}
 use Rattle.journal_texts.proofs.Recording.{recorded_so}
 use Rattle.run_command.specs.JournalRuns.{EndsAtStart, HasStarted, IsAfterSessions, IsRunOnJournal, StartRefused, StartStarved}
-use Rattle.cell_texts.proofs.Fitted.{requests_fit}
+use Rattle.record_printer.proofs.Fitted.{requests_fit}
 use Rattle.run_command.proofs.RunHistories.{traces, whole_traces}
 
 -- ---- the record

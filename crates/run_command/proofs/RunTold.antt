@@ -9,7 +9,7 @@ use Rattle.cell_base.specs.declared.shifts.Grant.{Grant}
 use Rattle.cell_base.specs.declared.shifts.Shift.{Shift}
 use Rattle.cell_base.specs.Histories.{grants}
 use Rattle.durable_cell.specs.Asked.{grant_of}
-use Rattle.move_journal.specs.Journals.{StandsForPrefix, StandsFor}
+use Rattle.journal_format.specs.Journals.{StandsForPrefix, StandsFor}
 use Rattle.cell_walks.specs.Allowed.{StandsForAdded}
 use Rattle.cell_walks.specs.DiskTold.{DiskTold, SinceEntry}
 use Rattle.cell_walks.specs.Observed.{Observed}

@@ -1,7 +1,7 @@
 -- What the clauses of `run` name.
 pub use Rattle.cell_base.specs.Fits.{ShiftFits, steps_of}
 pub use Rattle.cell_base.specs.Starts.{AreFirstSteps}
-pub use Rattle.shift_recovery.specs.Replayed.{AreDue}
+pub use Rattle.journal_format.specs.Replayed.{AreDue}
 pub use Rattle.cell_lock.specs.Openings.{opening_of}
 pub use Rattle.cell_lock.specs.Passes.{new_passes}
 pub use Rattle.cell_sessions.specs.Starting.{AreBegun, first_of_shift}

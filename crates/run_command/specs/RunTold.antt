@@ -15,7 +15,7 @@ use Rattle.cell_base.specs.Scripts.{IsTrace, IsWholeTrace}
 use Rattle.cell_base.specs.Starts.{AreFirstSteps}
 use Rattle.admission_core.specs.DecidedHistories.{AreDecided}
 use Rattle.durable_cell.specs.Asked.{grant_of}
-use Rattle.move_journal.specs.Journals.{StandsForPrefix, StandsFor}
+use Rattle.journal_format.specs.Journals.{StandsForPrefix, StandsFor}
 use Rattle.record_text.specs.Records.{text_of_record}
 use Rattle.shift_file.specs.Walk.{shift_of}
 use Rattle.cell_walks.specs.Allowed.{IsOpenedAs}

@@ -18,7 +18,7 @@ use Rattle.cell_base.specs.Fits.{CellFits, RequestFits}
 use Rattle.cell_base.specs.Histories.{grants, granted_entries, is_granted, replay, was_granted}
 use Rattle.cell_base.specs.Outcomes.{reply_to, state_after}
 use Rattle.cell_base.specs.Policy.{IsAdmitted}
-use Rattle.cell_texts.proofs.Fitting.{entries_fit}
+use Rattle.record_printer.proofs.Fitting.{entries_fit}
 use Rattle.live_cell.specs.LiveState.{LiveState, asked}
 use Rattle.record_text.specs.Fitting.{EntryFits}
 use Rattle.record_text.specs.Lines.{line_of}

@@ -13,10 +13,11 @@ use Rattle.step_text.specs.declared.faults.StepFault.{StepFault}
 use Rattle.step_text.specs.Steps.{step_of, step_of_words}
 use Rattle.step_text.specs.Words.{words}
 use Rattle.step_text.proofs.Cuts.{words_some}
-use Rattle.serve_command.specs.Asks.{ask_of, ask_of_several, ask_of_words, is_word, job_asked, request_asked, request_of, step_asked}
+use Rattle.serve_command.specs.Asks.{ask_of, ask_of_session, ask_of_several, ask_of_words, job_asked, request_of, step_asked}
 use Rattle.serve_command.specs.Asks.{wait_asked}
 use Rattle.std.specs.Str.{bytes_eq}
-use Rattle.serve_command.specs.declared.asks.Ask.TheVariants.{Nothing}
+use Rattle.serve_command.specs.declared.asks.Ask.{Ask}
+use Rattle.serve_command.specs.declared.asks.Ask.TheVariants.{Cancel, Count, Last, Nothing}
 
 too_long : (cell : Cell) (text : List ℕ) → 66 < length text → ask_of cell text ≡ Nothing
 unfolding ask_of
@@ -35,12 +36,17 @@ pub step_is : (cell : Cell) (text : List ℕ) → step_of cell text ≡ step_of_
 unfolding step_of
 step_is cell text = refl
 
--- a text of several words is none of one
-pub several_words : {A : Type 0} (text_of : A → List ℕ) (word : List ℕ) (all : List (List ℕ)) (first : List ℕ) (rest : Option A)
-    → all ≡ first ∷ option_map_or (λ r. words (text_of r)) rest [] → is_none rest ≡ false → is_word word all ≡ false
-several_words text_of word all first None parted some = absurd (cc)
-several_words text_of word all first (Some rest) parted some =
-    let more = words_some (text_of rest) in ap (is_word word) (parted ∙ ap (λ (ws : List (List ℕ)). first ∷ ws) more.2)
+-- a word alone that is none of the three is a step that none is
+pub asked_alone : {A : Type 0} (text_of : A → List ℕ) (all : List (List ℕ)) (word : List ℕ) (rest : Option A)
+    → all ≡ word ∷ option_map_or (λ r. words (text_of r)) rest [] → rest ≡ None → (cell : Cell) (session : ℕ)
+    → bytes_eq word (codes "grants") ≡ false → bytes_eq word (codes "last") ≡ false → bytes_eq word (codes "cancel") ≡ false
+    → step_asked cell session all ≡ ask_of_session cell session all
+asked_alone {A} text_of all word rest parted none cell session grants last cancel =
+    let alone : all ≡ word ∷ [] = parted ∙ ap (λ (o : Option A). word ∷ option_map_or (λ r. words (text_of r)) o []) none in
+    ap (step_asked cell session) alone
+    ∙ sym (ap (ask_of_session cell session) alone
+    ∙ (λ i. if grants i then Count session else (if last i then Last session else (if cancel i then Cancel session
+    else step_asked cell session (word ∷ [])))))
 
 -- a text after the first word
 module _ {A : Type 0} (text_of : A → List ℕ) (all : List (List ℕ)) (word : List ℕ) (rest : Option A)
@@ -54,13 +60,28 @@ module _ {A : Type 0} (text_of : A → List ℕ) (all : List (List ℕ)) (word :
   pub several_asked : (cell : Cell) → ask_of_words cell all ≡ ask_of_several cell word (words (text_of some))
   several_asked cell = ap (ask_of_words cell) all_words ∙ ap (ask_of_several cell word) (sym (words_some (text_of some)).2)
 
-  pub wait_asked_first : (cell : Cell) (session : ℕ) → bytes_eq word (codes "wait") ≡ true
-      → wait_asked cell session (words (text_of some)) ≡ request_asked cell session all
-  wait_asked_first cell session is =
+  -- what a session asks, by the first word
+  session_asked : (cell : Cell) (session : ℕ) → ask_of_session cell session all
+      ≡ (if bytes_eq word (codes "wait") then wait_asked cell session (words (text_of some)) else step_asked cell session all)
+  session_asked cell session =
       let more = words_some (text_of some) in
-      ap (wait_asked cell session) more.2
-      ∙ sym (ap (request_asked cell session) all_words
-      ∙ ap (λ (first : Bool). if first then wait_asked cell session (more.0 ∷ more.1) else step_asked cell session (word ∷ more.0 ∷ more.1)) is)
+      ap (ask_of_session cell session) all_words
+      ∙ ap (λ (waits : Ask). if bytes_eq word (codes "wait") then waits else step_asked cell session (word ∷ more.0 ∷ more.1))
+      (ap (wait_asked cell session) (sym more.2))
+      ∙ ap (λ (ws : List (List ℕ)). if bytes_eq word (codes "wait") then wait_asked cell session (words (text_of some)) else step_asked cell session ws)
+      (sym all_words)
+
+  -- the word asks to wait
+  pub wait_asked_first : (cell : Cell) (session : ℕ) → bytes_eq word (codes "wait") ≡ true
+      → wait_asked cell session (words (text_of some)) ≡ ask_of_session cell session all
+  wait_asked_first cell session is = sym (session_asked cell session ∙ ap (λ (waits : Bool).
+      if waits then wait_asked cell session (words (text_of some)) else step_asked cell session all) is)
+
+  -- the word doesn't
+  pub step_asked_first : (cell : Cell) (session : ℕ) → bytes_eq word (codes "wait") ≡ false
+      → step_asked cell session all ≡ ask_of_session cell session all
+  step_asked_first cell session is = sym (session_asked cell session ∙ ap (λ (waits : Bool).
+      if waits then wait_asked cell session (words (text_of some)) else step_asked cell session all) is)
 
   pub no_job_asked : job_asked all ≡ Nothing
   no_job_asked = ap job_asked all_words

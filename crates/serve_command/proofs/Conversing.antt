@@ -18,11 +18,11 @@ use Rattle.cell_base.specs.Histories.{replay}
 use Rattle.cell_base.specs.Plans.{Drains, plan_of}
 use Rattle.cell_base.specs.Policy.{IsAdmitted}
 use Rattle.policy_laws.proofs.Plans.{plan_law}
-use Rattle.cell_texts.specs.Blocks.{left_in_core}
+use Rattle.record_printer.specs.Blocks.{left_in_core}
 use Rattle.input_lines.specs.Lines.{lines_after}
 use Rattle.input_lines.specs.Reading.{GivesPiece, AreLinesSoFar, LinesState}
 use Rattle.move_journal.specs.Disks.{Shows}
-use Rattle.move_journal.specs.Journals.{IsBeforeOrAfterAll, StandsFor}
+use Rattle.journal_format.specs.Journals.{IsBeforeOrAfterAll, StandsFor}
 use Rattle.record_text.specs.Lines.{head_words, line_of}
 use Rattle.cell_walks.specs.Outcomes.{Cut, IsDelivered, Outcome, early, printed}
 use Rattle.cell_walks.specs.Statuses.{early_line}

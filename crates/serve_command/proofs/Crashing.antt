@@ -3,9 +3,9 @@ use Rattle.std.specs.List.{concat}
 use Rattle.std.proofs.Common.{◌≡◌, ◌⊎◌, ⊎_elim, inl, inr, ℕ, zero, suc, ◌+◌, ◌≤◌, List, [], ◌∷◌, ◌++◌, take, drop, length, map, refl, sym, ap, ◌∙◌, subst, arith, append_assoc, append-nil}
 use Rattle.std.proofs.lemmas.List.{length-append, take-append-drop}
 use Rattle.cell_base.specs.declared.shifts.Grant.{Grant}
-use Rattle.cell_texts.specs.Blocks.{Lines}
-use Rattle.move_journal.specs.Journals.{StandsFor}
-use Rattle.move_journal.proofs.Uniqueness.{journal_of, one_journal}
+use Rattle.record_printer.specs.Blocks.{Lines}
+use Rattle.journal_format.specs.Journals.{StandsFor}
+use Rattle.journal_format.proofs.Uniqueness.{journal_of, one_journal}
 use Rattle.peers.specs.Moments.{Moment, IsAmong}
 use Rattle.step_text.specs.Words.{joined}
 use Rattle.serve_command.specs.Answers.{count_of, line_number, telling_line, telling_words}

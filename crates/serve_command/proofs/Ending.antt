@@ -5,7 +5,7 @@ use Rattle.outside_io.specs.Puts.{SinkTold}
 use Rattle.outside_io.specs.Source.{SourceTold}
 use Rattle.cell_base.specs.declared.cells.Cell.{Cell}
 use Rattle.cell_base.specs.declared.shifts.Grant.{Grant}
-use Rattle.shift_recovery.specs.Replayed.{AreDue, opened_as}
+use Rattle.journal_format.specs.Replayed.{AreDue, opened_as}
 use Rattle.live_cell.specs.LiveState.{LiveState, fresh}
 use Rattle.live_cell.specs.Openings.{IsOpened}
 use Rattle.cell_walks.specs.Allowed.{IsEndedAt, JournalOpened, NotOpened, Passed, Unasked}

@@ -15,7 +15,7 @@ use Rattle.cell_base.specs.declared.shifts.Grant.{Grant}
 use Rattle.cell_base.specs.Histories.{granted_entries, grants, replay, was_granted}
 use Rattle.cell_base.specs.Outcomes.{reply_to}
 use Rattle.record_text.specs.Lines.{head_words, line_of}
-use Rattle.cell_texts.specs.Blocks.{entry_line}
+use Rattle.record_printer.specs.Blocks.{entry_line}
 use Rattle.wait_queue.specs.Waiting.{waiting}
 use Rattle.serve_command.specs.Answers.{answers, count_of, line_number, reply_after, telling_line}
 use Rattle.serve_command.specs.Laws.{EachOnce, IsAskedStep, IsBlock, IsServedHistory, history_of, is_told_granted, told_times}

@@ -12,7 +12,7 @@ use Rattle.outside_io.specs.Puts.{TookAll}
 use Rattle.cell_base.specs.declared.shifts.Grant.{Grant}
 use Rattle.input_lines.specs.Lines.{lines_after}
 use Rattle.input_lines.specs.Reading.{AreLinesSoFar, LinesState}
-use Rattle.move_journal.specs.Journals.{StandsFor, IsBeforeOrAfterAll}
+use Rattle.journal_format.specs.Journals.{StandsFor, IsBeforeOrAfterAll}
 use Rattle.record_text.specs.Lines.{head_words, line_of}
 use Rattle.lent_peers.specs.Beside.{IsBeside}
 use Rattle.peers.specs.Meanings.{PeerMeaning, peer_took}

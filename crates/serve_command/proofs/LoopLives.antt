@@ -12,7 +12,7 @@ use Rattle.outside_io.specs.Telling.{where_told, told, turned}
 use Rattle.cell_base.specs.declared.cells.Cell.{Cell}
 use Rattle.cell_base.specs.declared.shifts.Grant.{Grant}
 use Rattle.cell_base.specs.Histories.{replay}
-use Rattle.cell_texts.specs.Blocks.{left_in_core}
+use Rattle.record_printer.specs.Blocks.{left_in_core}
 use Rattle.input_lines.specs.Reading.{LinesState}
 use Rattle.record_text.specs.Lines.{head_words, line_of}
 use Rattle.lent_peers.specs.Beside.{IsBeside}

@@ -8,9 +8,9 @@ use Rattle.outside_io.specs.Telling.{where_told, told, turned}
 use Rattle.cell_base.specs.declared.shifts.Grant.{Grant}
 use Rattle.durable_cell.specs.Made.{IsUnmade}
 use Rattle.live_cell.specs.Openings.{IsOpened}
-use Rattle.move_journal.specs.Blanks.{IsBlank}
-use Rattle.move_journal.specs.Journals.{StandsFor}
-use Rattle.shift_recovery.specs.Reads.{OnlyReads}
+use Rattle.journal_format.specs.Blanks.{IsBlank}
+use Rattle.journal_format.specs.Journals.{StandsFor}
+use Rattle.journal_format.specs.Reads.{OnlyReads}
 use Rattle.lent_peers.specs.Beside.{IsBeside}
 use Rattle.peers.specs.Meanings.{PeerMeaning}
 use Rattle.peers.specs.Moments.{IsAmong, IsAt, IsPutting}

@@ -16,7 +16,7 @@ use Rattle.cell_base.specs.declared.shifts.Grant.{Grant}
 use Rattle.input_lines.specs.Reading.{LinesState}
 use Rattle.live_cell.specs.LiveState.{LiveState}
 use Rattle.move_journal.specs.Disks.{Shows}
-use Rattle.move_journal.specs.Journals.{StandsFor, IsBeforeOrAfterAll}
+use Rattle.journal_format.specs.Journals.{StandsFor, IsBeforeOrAfterAll}
 use Rattle.lent_peers.specs.Beside.{IsBeside}
 use Rattle.peers.specs.Meanings.{PeerMeaning, peer_took}
 use Rattle.peers.specs.Moments.{Moment}

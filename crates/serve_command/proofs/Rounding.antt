@@ -17,7 +17,7 @@ use Rattle.cell_base.specs.Histories.{replay}
 use Rattle.input_lines.specs.Reading.{AreLinesSoFar, LinesState}
 use Rattle.live_cell.specs.LiveState.{LiveState, committed}
 use Rattle.move_journal.specs.Disks.{Shows}
-use Rattle.move_journal.specs.Journals.{IsBeforeOrAfterAll, StandsFor}
+use Rattle.journal_format.specs.Journals.{IsBeforeOrAfterAll, StandsFor}
 use Rattle.cell_walks.specs.Outcomes.{Cut, IsDelivered, Outcome, printed}
 use Rattle.cell_walks.specs.declared.status.Status.{Status}
 use Rattle.cell_walks.specs.declared.status.Status.TheVariants.{DeviceFault, JournalRefused, SinkFault}

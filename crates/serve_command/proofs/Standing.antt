@@ -11,7 +11,7 @@ use Rattle.outside_io.specs.Disk.{LeavesOnly, Turns}
 use Rattle.outside_io.specs.Moments.{followed, started, widened}
 use Rattle.outside_io.specs.Telling.{told, turned, where_told}
 use Rattle.cell_base.specs.declared.shifts.Grant.{Grant}
-use Rattle.move_journal.specs.Journals.{StandsForPrefix, IsBeforeOrAfterAll, StandsFor}
+use Rattle.journal_format.specs.Journals.{StandsForPrefix, IsBeforeOrAfterAll, StandsFor}
 use Rattle.live_cell.specs.Openings.{IsOpened}
 use Rattle.move_journal.specs.Disks.{Shows}
 use Rattle.cell_walks.specs.Allowed.{StandsForAdded}

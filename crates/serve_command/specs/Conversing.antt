@@ -8,14 +8,14 @@ use Rattle.outside_io.specs.Puts.{SinkTold, TookAll}
 use Rattle.outside_io.specs.Source.{SourceTold}
 use Rattle.cell_base.specs.declared.cells.Cell.{Cell}
 use Rattle.cell_base.specs.declared.shifts.Grant.{Grant}
-use Rattle.move_journal.specs.Journals.{StandsForPrefix, IsBeforeOrAfterAll}
+use Rattle.journal_format.specs.Journals.{StandsForPrefix, IsBeforeOrAfterAll}
 use Rattle.input_lines.specs.Reading.{AreLinesSoFar, LinesState}
 use Rattle.move_journal.specs.Disks.{Shows}
 use Rattle.cell_walks.specs.Allowed.{AtOpening, StandsForAdded}
 use Rattle.cell_walks.specs.DiskTold.{DiskTold}
 use Rattle.cell_walks.specs.Outcomes.{IsDelivered, Outcome, early}
 use Rattle.cell_walks.specs.declared.status.Status.{Status}
-use Rattle.cell_texts.specs.Blocks.{left_in_core}
+use Rattle.record_printer.specs.Blocks.{left_in_core}
 use Rattle.cell_texts.specs.Tests.{KnownCell}
 use Rattle.journal_texts.specs.Tests.{to_add}
 use Rattle.serve_command.specs.Answers.{line_number, still_lines}

@@ -4,7 +4,7 @@ use Rattle.std.specs.Prelude.{◌≡◌, ◌⊎◌, ◌==◌, ℕ, ◌+◌, ◌�
 use Rattle.std.specs.Fmt.{decimal}
 use Rattle.cell_base.specs.declared.shifts.Grant.{Grant}
 use Rattle.cell_base.specs.Histories.{grants}
-use Rattle.move_journal.specs.Journals.{StandsFor}
+use Rattle.journal_format.specs.Journals.{StandsFor}
 use Rattle.record_text.specs.Lines.{line_of}
 use Rattle.peers.specs.Moments.{Moment}
 use Rattle.serve_command.specs.Answers.{answer, count_of}

@@ -7,7 +7,7 @@ use Rattle.cell_base.specs.declared.requests.Request.{Request}
 use Rattle.cell_base.specs.declared.shifts.Entry.{Entry}
 use Rattle.cell_base.specs.declared.shifts.Grant.{Grant}
 use Rattle.cell_base.specs.Histories.{IsLegal, grants, replay, was_granted}
-use Rattle.cell_texts.specs.Blocks.{history_lines}
+use Rattle.record_printer.specs.Blocks.{history_lines}
 use Rattle.wait_queue.specs.declared.waiter.Waiter.{Waiter}
 use Rattle.wait_queue.specs.Waiting.{is_of_session}
 use Rattle.serve_command.specs.Answers.{count_of}

@@ -14,3 +14,4 @@ pub mod Serving
 pub mod Sessions
 pub mod Talks
 pub mod Waits
+pub mod Walking

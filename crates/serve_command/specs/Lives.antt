@@ -5,14 +5,14 @@ use Rattle.outside_io.specs.Meanings.{DiskMeaning}
 use Rattle.cell_base.specs.declared.cells.Cell.{Cell}
 use Rattle.cell_base.specs.declared.shifts.Grant.{Grant}
 use Rattle.input_lines.specs.Reading.{AreLinesSoFar, LinesState}
-use Rattle.move_journal.specs.Journals.{StandsFor, IsBeforeOrAfterAll}
+use Rattle.journal_format.specs.Journals.{StandsFor, IsBeforeOrAfterAll}
 use Rattle.record_text.specs.Lines.{head_words, line_of}
 use Rattle.peers.specs.Meanings.{PeerMeaning}
 use Rattle.peers.specs.Moments.{Moment, IsAmong}
 use Rattle.peers.specs.Runs.{RunsTo}
 use Rattle.cell_walks.specs.Statuses.{early_line}
 use Rattle.cell_walks.specs.declared.early_end.EarlyEnd.TheVariants.{NotRead}
-use Rattle.cell_texts.specs.Blocks.{Lines}
+use Rattle.record_printer.specs.Blocks.{Lines}
 use Rattle.serve_command.specs.Answers.{answer, answers, halted_line, line_number}
 use Rattle.serve_command.specs.Asks.{ask_of, asks_in}
 use Rattle.serve_command.specs.Rounds.{StandsAfter}

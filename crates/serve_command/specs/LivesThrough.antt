@@ -2,9 +2,9 @@
 use Rattle.std.specs.Prelude.{◌≡◌, ◌⊎◌, ◌≤◌, ℕ, List, [], ◌∷◌, Some, IfSome, Ok}
 use Rattle.outside_io.specs.Meanings.{DiskMeaning}
 use Rattle.cell_base.specs.declared.shifts.Grant.{Grant}
-use Rattle.move_journal.specs.Blanks.{IsBlank}
-use Rattle.move_journal.specs.Journals.{StandsFor}
-use Rattle.shift_recovery.specs.Replayed.{opened_as}
+use Rattle.journal_format.specs.Blanks.{IsBlank}
+use Rattle.journal_format.specs.Journals.{StandsFor}
+use Rattle.journal_format.specs.Replayed.{opened_as}
 use Rattle.peers.specs.Meanings.{PeerMeaning}
 use Rattle.peers.specs.Moments.{IsAmong, Moment}
 use Rattle.peers.specs.Runs.{RunsTo}

@@ -1,5 +1,5 @@
 -- One round of a conversation.
-use Rattle.std.specs.Prelude.{◌≡◌, ℕ, ◌+◌, ◌≤◌, Bool, true, false, IfSome, List, [], ◌∷◌, ◌++◌, length, map, Option, Result, Ok, Err, ⊤}
+use Rattle.std.specs.Prelude.{◌≡◌, ℕ, ◌+◌, ◌<◌, ◌≤◌, Bool, true, false, IfSome, List, [], ◌∷◌, ◌++◌, length, map, Option, Result, Ok, Err, ⊤}
 use Rattle.std.specs.List.{All}
 use Rattle.outside_io.specs.Disk.{LeavesOnly, Turns}
 use Rattle.outside_io.specs.Causes.{Rose}
@@ -8,7 +8,7 @@ use Rattle.cell_base.specs.declared.cells.Cell.{Cell}
 use Rattle.cell_base.specs.declared.shifts.Grant.{Grant}
 use Rattle.input_lines.specs.Reading.{AreLinesSoFar, LinesState}
 use Rattle.move_journal.specs.Disks.{Shows}
-use Rattle.move_journal.specs.Journals.{IsBeforeOrAfterAll, StandsFor}
+use Rattle.journal_format.specs.Journals.{IsBeforeOrAfterAll, StandsFor}
 use Rattle.cell_walks.specs.Outcomes.{IsDelivered, Outcome}
 use Rattle.cell_walks.specs.declared.status.Status.{Status}
 use Rattle.serve_command.specs.Answers.{answers, line_number}
@@ -27,6 +27,10 @@ AreGroupLines cell talk text given group lines false = AreLinesSoFar text (given
 AreGroupLines cell talk text given group lines true =
     (line : List ℕ) × AreLinesSoFar text (given ++ group ++ line ∷ []) lines
     × IsJournalFull cell (talk_after cell talk (map (ask_of cell) group)) (ask_of cell line)
+
+-- While bytes that were read are ahead, some of them are taken.
+abbrev pub TakesSome : LinesState → LinesState → Type 0
+TakesSome old new = 0 < length old.ahead → length new.ahead < length old.ahead
 
 -- at most so many lines were answered as a group
 abbrev pub IsGroupOfLines : {D : Type 0} → Cell → Talk → ℕ → List ℕ → List (List ℕ) → Server D → LinesState → Bool → Type 0

@@ -7,14 +7,14 @@ use Rattle.cell_base.specs.declared.shifts.Grant.{Grant}
 use Rattle.cell_base.specs.Histories.{replay}
 use Rattle.cell_base.specs.Plans.{Drains, plan_of}
 use Rattle.record_text.specs.Lines.{head_words, line_of}
-use Rattle.shift_recovery.specs.declared.faults.JournalFault.TheVariants.{Long}
+use Rattle.journal_format.specs.declared.fault.JournalFault.TheVariants.{Long}
 use Rattle.outside_io.specs.Source.{SourceTold}
 use Rattle.cell_walks.specs.Outcomes.{Outcome}
 use Rattle.cell_walks.specs.Statuses.{early_line}
 use Rattle.cell_walks.specs.Walks.{Walk, Tests, Opens, Answers}
 use Rattle.cell_walks.specs.declared.early_end.EarlyEnd.TheVariants.{NotRead}
 use Rattle.cell_walks.specs.declared.status.Status.TheVariants.{Done, DeviceFault, JournalRefused, ReadFault, SinkFault}
-use Rattle.cell_texts.specs.Blocks.{Lines, left_lines}
+use Rattle.record_printer.specs.Blocks.{Lines, left_lines}
 use Rattle.cell_texts.specs.Tests.{cell_file}
 use Rattle.journal_texts.specs.Tests.{journal_line, to_add}
 use Rattle.serve_command.specs.Answers.{answers, halted_line, still_lines}

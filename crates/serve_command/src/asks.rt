@@ -3,7 +3,7 @@ ghost use Rattle.std.specs.Prelude.{◌≡◌, ◌∷◌, [], Ok, Err, IfSome};
 ghost use Rattle.cell_base.specs.declared.cells.Cell.{Cell};
 ghost use Rattle.cell_base.specs.Fits.{RequestFits};
 ghost use Rattle.serve_command.specs.Asks.{AskFits, ask_of, ask_of_one, ask_of_several, ask_of_session, ask_of_words};
-ghost use Rattle.serve_command.specs.Asks.{is_word, job_asked, jobs_asked, request_asked, request_of, step_asked, wait_asked, why_asked};
+ghost use Rattle.serve_command.specs.Asks.{job_asked, jobs_asked, request_of, step_asked, wait_asked, why_asked};
 ghost use Rattle.step_text.specs.Words.{words};
 
 use cell_base::{JobId, Request};
@@ -180,26 +180,12 @@ fn ask_of_session(cell: &IndexedCell<'_>, session: u16, text: &[u8]) -> Ask
     ensures ask { result ≡ ask_of_session cell.now session (words text.now) }
     ensures fits { AskFits cell.now result }
 {
-    if is_word(text, GRANTS) {
-        return Ask::Count { session };
-    }
-    if is_word(text, LAST) {
-        return Ask::Last { session };
-    }
-    if is_word(text, CANCEL) {
-        return Ask::Cancel { session };
-    }
-    request_asked(cell, session, text)
-}
-
-// What a session asks in words that are none of these.
-fn request_asked(cell: &IndexedCell<'_>, session: u16, text: &[u8]) -> Ask
-    ensures ask { result ≡ request_asked cell.now session (words text.now) }
-    ensures fits { AskFits cell.now result }
-{
     let (word, rest) = cut(text);
     match rest {
         Some(rest) if word == WAIT => wait_of(cell, session, rest),
+        None if word == GRANTS => Ask::Count { session },
+        None if word == LAST => Ask::Last { session },
+        None if word == CANCEL => Ask::Cancel { session },
         _ => step_of(cell, session, text),
     }
 }
@@ -224,14 +210,6 @@ fn step_of(cell: &IndexedCell<'_>, session: u16, text: &[u8]) -> Ask
         Some(request) => Ask::Step { session, request },
         None => Ask::Nothing,
     }
-}
-
-// A text that is this one word.
-fn is_word(text: &[u8], word: &[u8]) -> bool
-    ensures { result ≡ is_word word.now (words text.now) }
-{
-    let (first, rest) = cut(text);
-    rest.is_none() && first == word
 }
 
 // A step, or the place of a part.

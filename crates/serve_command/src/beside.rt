@@ -7,14 +7,15 @@ ghost use Rattle.lent_peers.specs.Beside.{IsBeside};
 ghost use Rattle.cell_walks.specs.Outcomes.{IsDelivered, early, printed};
 ghost use Rattle.cell_walks.specs.Statuses.{early_line};
 ghost use Rattle.cell_walks.specs.declared.status.Status.TheVariants.{NoCommand};
-ghost use Rattle.cell_texts.specs.Blocks.{left_in_core};
+ghost use Rattle.record_printer.specs.Blocks.{left_in_core};
 
 use admission_core::Core;
-use cell_texts::{print_left, print_lines, print_usage};
+use cell_texts::{print_lines, print_usage};
 use cell_walks::{EarlyEnd, Status, finish_early};
 use lent_peers::Lent;
 use outside_io::{Disk, Failed};
 use peers::Peer;
+use record_printer::print_left;
 use record_text::Line;
 
 /// Puts each of these lines, up to the first that the peer doesn't take, and has the peer hand them on.

@@ -2,7 +2,7 @@
 ghost use Rattle.std.specs.Prelude.{◌≡◌, length, replicate, None, IfOk};
 
 use cell_base::{Grant, NoMemory, Request};
-use shift_recovery::Taker;
+use shift_recovery::GrantVisitor;
 use std::alloc::Global;
 use std::marker::Model;
 
@@ -79,13 +79,13 @@ impl SessionCounts {
 }
 
 /// Counts the grants of a journal as they are read.
-impl Taker for SessionCounts {
+impl GrantVisitor for SessionCounts {
     ghost use Rattle.std.specs.Prelude.{[], ◌<◌};
     ghost use Rattle.serve_command.specs.Serving.{HasCounts};
 
-    ghost took = { λ start first grants now. HasCounts [] start → length grants < 4294967295 → HasCounts grants now };
+    ghost visited = { λ start first grants now. HasCounts [] start → length grants < 4294967295 → HasCounts grants now };
 
-    fn take(&mut self, _at: u64, grant: Grant) -> Result<(), NoMemory> {
+    fn visit(&mut self, _at: u64, grant: Grant) -> Result<(), NoMemory> {
         self.add(&grant);
         Ok(())
     }

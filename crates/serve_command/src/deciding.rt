@@ -12,7 +12,7 @@ use crate::replies::MAX_WAITERS;
 use crate::said_lines::{said_line, turned_line};
 use crate::server::{FirstGrant, Server};
 use cell_base::{Cell, Entry, Grant, Refusal, Reply, Request, ResId, Told};
-use live_cell::JournalFull;
+use live_cell::{JournalFull, live_law};
 use outside_io::Disk;
 use record_text::{Line, line_of};
 use wait_queue::Waiter;
@@ -64,7 +64,7 @@ impl<D: Disk> Server<D> {
             < self.old.live.len + length self.old.live.pending + length self.old.queue.waiters + 1) }
         ensures same { OnErr result (self.new ≡ self.old) }
     {
-        let _core = self.live.core();
+        live_law(&self.live);
         match self.ask(session, request) {
             Ok(Reply::Granted) => {
                 self.note_grant(session, request);

@@ -1,11 +1,13 @@
 //! The questions that are answered by a list: its head, and a line for each part in it, in the order of arrival. They change nothing.
-ghost use Rattle.std.specs.Prelude.{◌≡◌, ◌<◌, ◌≤◌, ◌+◌, ◌++◌, ◌∷◌, [], length, map};
+ghost use Rattle.std.specs.Prelude.{◌≡◌, ◌<◌, ◌≤◌, ◌+◌, ◌++◌, ◌∷◌, [], Some, length, map, slice_get};
 ghost use Rattle.serve_command.specs.Clauses.{IsAskAnswered, IsStep, Jobs, KeepsWaiters, MAX_REPLIES, Parts, StandsAt, TakesOneLine, Talk};
 ghost use Rattle.serve_command.specs.Clauses.{codes, counted, item_line};
+ghost use Rattle.serve_command.specs.Walking.{IsBehind};
 
 use crate::questions::{jobs_line, part_line, parts_line};
 use crate::server::Server;
-use cell_base::{Refusal, Reply, Request, ResId};
+use admission_core::Core;
+use cell_base::{JobId, Part, Refusal, Reply, Request, ResId};
 use outside_io::Disk;
 use refusal_reason::laws::refusal_is_present;
 use refusal_reason::leads;
@@ -32,8 +34,10 @@ impl<D: Disk> Server<D> {
           replies = self.old.replies ++ map (item_line self.old.live.cell (codes "part")) self.old.live.parts;
         } }
     {
+        let mut before = None;
         for i in 0..self.live.core().parts_left() {
-            let part = self.live.core().part(i);
+            let part = part_at(self.live.core(), i, before);
+            before = Some(part.job);
             let line = part_line(self.live.core().cell(), b"part", part.job, part);
             self.replies.push(line);
         }
@@ -87,13 +91,30 @@ impl<D: Disk> Server<D> {
               ++ map (item_line self.old.live.cell (codes "job")) (counted self.old.live.cell self.old.live.parts at.0);
         } }
     {
+        let mut before = None;
         for i in 0..self.live.core().parts_left() {
             let core = self.live.core();
-            let part = core.part(i);
+            let part = part_at(core, i, before);
+            before = Some(part.job);
             if leads(core, part, at) {
                 let line = part_line(core.cell(), b"job", part.job, part);
                 self.replies.push(line);
             }
         }
+    }
+}
+
+// The part at an index, which is found by the job of the one before it.
+fn part_at(core: &Core, i: u32, before: Option<JobId>) -> Part
+    requires inside { i < length core.now.parts }
+    requires behind { IsBehind core.now.parts i before }
+    ensures { slice_get core.now.parts i ≡ Some result }
+{
+    match before {
+        Some(job) => match core.part_after(job) {
+            Some(part) => part,
+            None => unreachable!(),
+        },
+        None => core.part(i),
     }
 }

@@ -1,12 +1,12 @@
 //! One round of a conversation: the lines at hand are answered as a group.
-ghost use Rattle.std.specs.Prelude.{◌≡◌, List, ℕ, Ok, IfSome, OnOk, take, true, length, ◌<◌, ◌≤◌, ◌+◌, ◌++◌, ◌∷◌, []};
+ghost use Rattle.std.specs.Prelude.{◌≡◌, List, ℕ, Ok, IfSome, OnOk, take, true, false, length, ◌<◌, ◌≤◌, ◌+◌, ◌++◌, ◌∷◌, []};
 ghost use Rattle.input_lines.specs.Reading.{AreLinesSoFar};
 ghost use Rattle.peers.specs.Meanings.{peer_took};
 ghost use Rattle.lent_peers.specs.Beside.{IsBeside};
 ghost use Rattle.cell_walks.specs.Clauses.{IsDelivered, printed};
 ghost use Rattle.cell_walks.specs.declared.status.Status.TheVariants.{DeviceFault, JournalRefused};
 ghost use Rattle.serve_command.specs.Lives.{LivesOn};
-ghost use Rattle.serve_command.specs.Rounds.{StandsAfter, HasNoGroup, IsGroupOfLines, KeepsWaiters, MAX_REPLIES, Rounds, StandsAt, Stays, full_line};
+ghost use Rattle.serve_command.specs.Rounds.{StandsAfter, HasNoGroup, IsGroupOfLines, KeepsWaiters, MAX_REPLIES, Rounds, StandsAt, Stays, TakesSome, full_line};
 ghost use Rattle.serve_command.specs.Talks.{Talk};
 
 use crate::asks::read_ask;
@@ -33,9 +33,11 @@ impl<D: Disk> Server<D> {
         ensures taken { (talk : Talk) (text : List ℕ) (given : List (List ℕ)) → StandsAt talk self.old
             → AreLinesSoFar text given lines.old
             → IsGroupOfLines self.old.live.cell talk self.old.asked text given self.new lines.new result }
+        ensures takes { TakesSome lines.old lines.new }
         ensures stays { Stays self.old self.new }
         ensures waiters { KeepsWaiters self.new }
     {
+        live_law(&self.live);
         for _i in 0..GROUP_LINES {
             if !self.has_room() {
                 return false;
@@ -54,7 +56,8 @@ impl<D: Disk> Server<D> {
 
     // Whether there is room for one answer more, whatever it is: its first line, a line at the end of each wait, and one for each part.
     fn has_room(&self) -> bool
-        ensures { result ≡ true → length self.now.replies + length self.now.queue.waiters + length self.now.live.parts < MAX_REPLIES }
+        ensures room { result ≡ true → length self.now.replies + length self.now.queue.waiters + length self.now.live.parts < MAX_REPLIES }
+        ensures none { result ≡ false → MAX_REPLIES ≤ length self.now.replies + length self.now.queue.waiters + length self.now.live.parts }
     {
         let ends = self.queue.waiting().len() as u64;
         let listed = u64::from(self.live.core().parts_left());
@@ -73,9 +76,10 @@ impl<D: Disk> Server<D> {
             → Rounds D.reads_as D.may_leave D.moment D.left_since D.faults self.old.live.cell
             (peer_took T.Peer peer.old peer.new)
             cell_text talk text given self.old self.new lines.new result }
+        ensures takes { OnOk result (TakesSome lines.old lines.new) }
         ensures ready { OnOk result (HasNoGroup self.new) }
-        ensures still { OnOk result (T.faults peer.new ≡ T.faults peer.old) }
-        ensures fed { OnOk result (D.faults self.new.live.disk ≡ D.faults self.old.live.disk) }
+        ensures no_peer_fault { OnOk result (T.faults peer.new ≡ T.faults peer.old) }
+        ensures no_disk_fault { OnOk result (D.faults self.new.live.disk ≡ D.faults self.old.live.disk) }
         ensures lives { LivesOn D.Disk T.Peer self.old lines.old peer.old self.new.live.disk peer.new }
         ensures unread { T.given peer.new ≡ T.given peer.old }
         ensures no_read { T.read_faults peer.new ≡ T.read_faults peer.old }

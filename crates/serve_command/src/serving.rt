@@ -94,15 +94,13 @@ fn converse<R: Wait, D: Disk, T: Peer<D>>(
     ensures ready { OnOk result (HasNoGroup server.new) }
     ensures lives { LivesFrom D.Disk T.Peer server.old peer.old server.new.live.disk peer.new }
 {
-    let _core = server.live.core();
+    live_law(&server.live);
     let head = head_line(0, server.live.len());
     if let Err(_) = print_beside(peer, server.live.disk(), slice::from_ref(&head)) {
         return Err(Status::SinkFault);
     }
     for _round in rt.forever() {
-        if let Err(status) = server.round(lines, peer) {
-            return Err(status);
-        }
+        server.round(lines, peer)?;
         if lines.is_spent() {
             match lines.fill(peer, server.live.disk()) {
                 Ok(0) => return Ok(()),

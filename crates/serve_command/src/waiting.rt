@@ -8,6 +8,7 @@ ghost use Rattle.serve_command.specs.Clauses.{StandsAt, TakesOneLine, Talk, code
 use crate::said_lines::{cancel_line, end_line, still_line};
 use crate::server::Server;
 use cell_base::{Grant, Reply, Request};
+use live_cell::live_law;
 use outside_io::Disk;
 use wait_queue::Waiter;
 
@@ -41,7 +42,7 @@ impl<D: Disk> Server<D> {
         ensures ended { EndsWait self.old waiter.now self.new }
         ensures waiters { KeepsWaiters self.new }
     {
-        let _core = self.live.core();
+        live_law(&self.live);
         let Ok(reply) = self.live.ask(waiter.session, &waiter.request) else {
             return;
         };

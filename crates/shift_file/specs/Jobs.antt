@@ -1,4 +1,4 @@
--- Sessions of a job.
+-- A session of a job: it loads, moves by the branches that its path names, or by the first ones, and unloads.
 use Rattle.std.specs.Prelude.{codes, ℕ, ◌-◌, if◌then◌else◌, List, [], ◌∷◌, length, Option, Some, None, Result, Ok, Err}
 use Rattle.cell_base.specs.Faults.{◌>>=◌}
 use Rattle.cell_base.specs.Named.{type_names}

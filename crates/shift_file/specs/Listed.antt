@@ -1,4 +1,4 @@
--- Sessions that list their steps.
+-- A session that lists its steps, each as its text.
 use Rattle.std.specs.Prelude.{codes, ℕ, List, [], ◌∷◌, length, Result, Ok}
 use Rattle.cell_base.specs.Faults.{◌>>=◌}
 use Rattle.cell_base.specs.declared.cells.Cell.{Cell}

@@ -1,4 +1,4 @@
--- Sessions of a machine.
+-- A session of a machine: so many times it asks to process.
 use Rattle.std.specs.Prelude.{codes, ℕ, [], ◌∷◌, Result, Ok}
 use Rattle.cell_base.specs.Faults.{◌>>=◌}
 use Rattle.cell_base.specs.Named.{resource_names}

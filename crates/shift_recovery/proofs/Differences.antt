@@ -3,10 +3,10 @@ use Rattle.std.specs.Prelude.{Some, None, Bool, false, if◌then◌else◌, ◌=
 use Rattle.std.proofs.Common.{◌≡◌, ◌≢◌, ℕ, zero, suc, ◌+◌, ◌-◌, ◌≤◌, ◌<◌, List, [], ◌∷◌, ◌++◌, length}
 use Rattle.std.proofs.Common.{get_or, take, drop, refl, sym, ◌∙◌, ap, arith, length-take}
 use Rattle.std.proofs.lemmas.List.{drop_more, drop_all, take_rest, take-append-le}
-use Rattle.shift_recovery.proofs.Windowed.{drop-drop_at}
+use Rattle.journal_format.proofs.Windowed.{drop-drop_at}
 use Rattle.std.proofs.lemmas.Bool.Decides.{nat_tests}
-use Rattle.move_journal.specs.declared.head_write.TheConstants.{TEXT_AT}
-use Rattle.shift_recovery.specs.Readings.{first_difference}
+use Rattle.journal_format.specs.declared.head.TheConstants.{TEXT_AT}
+use Rattle.journal_format.specs.Readings.{first_difference}
 
 not_same : (x y : ℕ) → x ≢ y → (x == y) ≡ false
 not_same x y other = grind (arith, nat_tests)

@@ -2,9 +2,9 @@
 use Rattle.std.specs.Prelude.{◌≡◌, ℕ, Option, IfSome, Result, Ok, Err, List, ⊤}
 use Rattle.outside_io.specs.Causes.{Rose}
 use Rattle.move_journal.specs.Disks.{Rests}
-use Rattle.shift_recovery.specs.declared.faults.JournalFault.{JournalFault}
-use Rattle.shift_recovery.specs.declared.faults.Stop.{Stop}
-use Rattle.shift_recovery.specs.declared.faults.Stop.TheVariants as stop
+use Rattle.journal_format.specs.declared.fault.JournalFault.{JournalFault}
+use Rattle.shift_recovery.specs.declared.stop.Stop.{Stop}
+use Rattle.shift_recovery.specs.declared.stop.Stop.TheVariants as stop
 use Rattle.shift_recovery.specs.declared.open_error.OpenError.{OpenError}
 use Rattle.shift_recovery.specs.declared.open_error.OpenFault.{OpenFault}
 use Rattle.shift_recovery.specs.declared.open_error.OpenFault.TheVariants.{Refused, Device, Memory}

@@ -2,10 +2,10 @@
 use Rattle.std.specs.Prelude.{◌≡◌, ℕ, ◌≤◌, false, Option, Some, None, Result, Ok, Err, List, length, ⊤}
 use Rattle.cell_base.specs.declared.shifts.Grant.{Grant}
 use Rattle.outside_io.specs.Causes.{Rose}
-use Rattle.move_journal.specs.Blanks.{IsBlank}
+use Rattle.journal_format.specs.Blanks.{IsBlank}
 use Rattle.move_journal.specs.Disks.{Rests}
-use Rattle.move_journal.specs.Journals.{IsJournal}
-use Rattle.shift_recovery.specs.declared.faults.JournalFault.{JournalFault}
+use Rattle.journal_format.specs.Journals.{IsJournal}
+use Rattle.journal_format.specs.declared.fault.JournalFault.{JournalFault}
 use Rattle.shift_recovery.specs.declared.recoveries.Opened.{Opened}
 use Rattle.shift_recovery.specs.declared.recoveries.Opened.TheVariants.{Fresh, Found, Refused, Device, Memory}
 

@@ -1,9 +1,15 @@
 -- Where the reading of a file stands.
-use Rattle.std.specs.Prelude.{◌≡◌, ℕ, ◌+◌, ◌≤◌, Option, Some, None, IfSome, List, ◌++◌, length, take, drop}
-use Rattle.move_journal.specs.declared.head_write.TheConstants.{TEXT_AT}
+use Rattle.std.specs.Prelude.{◌≡◌, ℕ, ◌+◌, ◌≤◌, min, Option, Some, None, IfSome, List, ◌++◌, length, take, drop}
+use Rattle.journal_format.specs.declared.head.TheConstants.{TEXT_AT}
+use Rattle.shift_recovery.specs.declared.pieces.TheConstants.{PIECE}
 use Rattle.shift_recovery.specs.declared.texts.Compared.{Compared}
 use Rattle.shift_recovery.specs.declared.texts.Compared.TheVariants.{Differs, Same}
-use Rattle.shift_recovery.specs.Readings.{first_difference}
+use Rattle.journal_format.specs.Readings.{first_difference}
+
+-- the first bytes of a file of len bytes, as many as one piece has, where the disk tells it
+pub record IsFirstPiece (told : Option (List ℕ)) (len : ℕ) (bytes : List ℕ) : Type 0 where
+  pub size : length bytes ≡ min PIECE len
+  pub shows : IfSome told (λ file. (length file ≡ len) × (file ≡ bytes ++ drop (length bytes) file))
 
 -- the kept bytes from `used` on begin at an offset of a file of len bytes
 pub record BeginsAt (offset len at used : ℕ) (kept : List ℕ) : Type 0 where

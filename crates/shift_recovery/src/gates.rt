@@ -1,16 +1,16 @@
 //! A gate and the record after it. `move_journal::entry_write` has the table of their bytes.
 ghost use Rattle.std.specs.Prelude.{◌≡◌, ◌<◌, ◌≤◌, ℕ, List, [], ◌++◌, length, false, IsTrue, Some, Ok, IfSome, IfNone};
 ghost use Rattle.cell_base.specs.declared.shifts.Grant.{Grant};
-ghost use Rattle.shift_recovery.specs.Readings as spec;
+ghost use Rattle.journal_format.specs.Readings as spec;
 
-use crate::faults::JournalFault;
 use cell_base::Grant;
 use entry_codec::{ENTRY_SIZE, decode};
+use journal_format::JournalFault;
 
 /// What begins with the gate at an offset, where the bytes from there on begin with the window. None where more bytes
 /// are needed, and `is_last` says that there are no more.
 #[inline(always)]
-#[tactic(auto, unfolding(crate::specs::Readings::gate_at))]
+#[tactic(auto, unfolding(journal_format::specs::Readings::gate_at))]
 pub(crate) fn gate_in(
     window: &[u8],
     at: u64,

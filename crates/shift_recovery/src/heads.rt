@@ -1,22 +1,11 @@
-//! The head of a file: the gate of the file, the name and the length of the cell text. `move_journal::head_write` has the
-//! table of its bytes.
+//! The head of a file: the gate of the file, the name and the length of the cell text.
 ghost use Rattle.std.specs.Prelude.{◌≡◌, ◌<◌, ◌≤◌, ℕ, min, length, slice_index};
-ghost use Rattle.shift_recovery.specs.Readings.{head_of};
+ghost use Rattle.journal_format.specs.Readings.{head_of};
 
-use crate::faults::JournalFault;
-use move_journal::{BlankForm, NAME, TEXT_AT};
-
-/// What the head of a file shows.
-#[derive(Clone, Copy, Debug, PartialEq, Eq)]
-pub(crate) enum Head {
-    Blank(BlankForm),
-    Faulty(JournalFault),
-    /// The file's gate is open, and the stored text has so many bytes.
-    Open(u32),
-}
+use journal_format::{BlankForm, Head, JournalFault, NAME, TEXT_AT};
 
 /// The head of a file of `len` bytes, which begins with these.
-#[tactic(auto, unfolding(crate::specs::Readings::head_of))]
+#[tactic(auto, unfolding(journal_format::specs::Readings::head_of))]
 pub(crate) fn read_head(start: &[u8], len: u64) -> Head
     requires { min TEXT_AT len ≤ length start.now }
     ensures head { result ≡ head_of len start.now }

@@ -11,28 +11,28 @@
 //! ```
 //!
 //! `recover` begins with a sync, so that what it reads is what a later crash leaves. Then it reads the file once, in
-//! pieces, from its start on, and writes nothing. What it finds is `read_as`, a definition over the whole file. On what
+//! pieces, from its start on, and writes nothing. What it finds is `read_as` of `journal_format`, a definition over the whole file. On what
 //! a crash may leave of a journal's calls it never answers one of the four faults of `JournalFault`, where the cell text
 //! is the same and there is room.
 //!
-//! `scan` is the same for grants that need not be kept: it hands each one to a `Taker` as it is read, so that a journal of any
+//! `scan` is the same for grants that need not be kept: it hands each one to a `GrantVisitor` as it is read, so that a journal of any
 //! length takes the memory of a few pieces. Where nothing stands that could be gone on with, it answers an `OpenError`, the disk with
 //! the cause, as each opening above does.
 #![tactic(auto)]
 
-mod faults;
 mod gates;
 mod heads;
 mod open_error;
 mod pieces;
 mod recoveries;
 mod scans;
-mod takers;
+mod stop;
 mod texts;
+mod visitors;
 mod walks;
 
-pub use faults::JournalFault;
+pub use journal_format::JournalFault;
 pub use open_error::{OpenError, OpenFault};
 pub use recoveries::{Opened, recover};
 pub use scans::{Scanned, scan};
-pub use takers::{Taker, Unkept};
+pub use visitors::{Discard, GrantVisitor};

@@ -1,16 +1,15 @@
 //! The recovery of what stands on a disk.
 ghost use Rattle.std.specs.Prelude.{◌≡◌, ℕ, List as Sequence, IfSome};
 ghost use Rattle.cell_base.specs.declared.shifts.Grant.{Grant};
-ghost use Rattle.move_journal.specs.Journals.{StandsFor};
-ghost use Rattle.shift_recovery.specs.Reads.{OnlyReads};
-ghost use Rattle.shift_recovery.specs.Readings.{read_as};
+ghost use Rattle.journal_format.specs.Journals.{StandsFor};
+ghost use Rattle.journal_format.specs.Reads.{OnlyReads};
+ghost use Rattle.journal_format.specs.Readings.{IsFoundBy, read_as};
 ghost use Rattle.shift_recovery.specs.Recovering.{disk_recovered, Answers, HasRoom, IsAnswer, HasOpeningCause};
-ghost use Rattle.shift_recovery.specs.Scanning.{IsFoundBy};
 
-use crate::faults::JournalFault;
 use crate::open_error::{OpenError, OpenFault};
 use crate::scans::{Scanned, scan};
 use cell_base::{Grant, List};
+use journal_format::JournalFault;
 use move_journal::{Blank, Journal};
 use outside_io::Disk;
 use std::alloc::Global;

@@ -1,22 +1,25 @@
 //! The reading of what stands on a disk, whose grants are handed on one after the other.
-ghost use Rattle.std.specs.Prelude.{◌≡◌, ℕ, List as Sequence, [], IfOk, IfErr, IfSome, OnOk, IsErrOf};
+ghost use Rattle.std.specs.Prelude.{◌≡◌, ◌<◌, ℕ, List as Sequence, [], IfOk, IfErr, IfSome, OnOk, IsErrOf, slice_index};
 ghost use Rattle.outside_io.specs.Causes.{Rose};
 ghost use Rattle.outside_io.specs.Disk.{Only};
 ghost use Rattle.cell_base.specs.declared.shifts.Grant.{Grant};
-ghost use Rattle.move_journal.specs.Journals.{StandsFor};
-ghost use Rattle.shift_recovery.specs.Reads.{OnlyReads};
-ghost use Rattle.shift_recovery.specs.Readings.{read_as};
-ghost use Rattle.shift_recovery.specs.Scanning.{disk_scanned, IsScan, IsReading, IsFoundBy};
+ghost use Rattle.journal_format.specs.Journals.{StandsFor};
+ghost use Rattle.journal_format.specs.Reads.{OnlyReads};
+ghost use Rattle.journal_format.specs.declared.head.Head.TheVariants.{Open};
+ghost use Rattle.journal_format.specs.Readings.{IsFoundBy, head_of, read_as};
+ghost use Rattle.shift_recovery.specs.Windows.{IsFirstPiece};
+ghost use Rattle.shift_recovery.specs.Scanning.{disk_scanned, IsScan, IsReading};
 ghost use Rattle.shift_recovery.specs.Opening.{disk_of, HasOpenCause, IsRefusalOf, RestsWhereRefused};
 
-use crate::faults::{JournalFault, Stop};
-use crate::heads::{Head, read_head};
+use crate::heads::read_head;
 use crate::open_error::{OpenError, OpenFault, at_stop};
-use crate::pieces::with_piece;
-use crate::takers::Taker;
+use crate::pieces::{FirstPiece, first_piece};
+use crate::stop::Stop;
 use crate::texts::{Compared, compare};
+use crate::visitors::GrantVisitor;
 use crate::walks::{Walked, walk};
-use move_journal::{Blank, BlankForm, Journal, TEXT_AT};
+use journal_format::{BlankForm, Head, JournalFault, TEXT_AT};
+use move_journal::{Blank, Journal};
 use outside_io::Disk;
 use std::alloc::Global;
 
@@ -31,16 +34,16 @@ pub enum Scanned<D: Disk> {
 
 /// Finds what stands on a disk, with this cell text and with room for so many grants, and hands each grant on as it is read. It
 /// keeps a few pieces of the file, however long that is. Of a file that is refused some grants may have been taken.
-pub fn scan<D: Disk, T: Taker>(
+pub fn scan<D: Disk, T: GrantVisitor>(
     alloc: Global,
     disk: D,
     cell_text: &[u8],
     room: u64,
-    taker: &mut T,
+    visitor: &mut T,
 ) -> Result<Scanned<D>, OpenError<D>>
-    requires none { (first : ℕ) → T.took taker.old first [] taker.old }
+    requires none { (first : ℕ) → T.visited visitor.old first [] visitor.old }
     ensures reads { OnlyReads D.reads_as D.may_leave D.moment D.left_since disk (disk_of disk_scanned result) }
-    ensures scan { IfOk result (IsScan D.reads_as D.may_leave disk cell_text.now room T.took taker.old taker.new) }
+    ensures scan { IfOk result (IsScan D.reads_as D.may_leave disk cell_text.now room T.visited visitor.old visitor.new) }
     ensures refused { IfErr result (λ error. IsRefusalOf (D.reads_as disk) (λ file. read_as file cell_text.now room) error.why) }
     ensures rests { IfErr result (λ error. RestsWhereRefused D.reads_as D.may_leave error.disk error.why) }
     ensures cause { HasOpenCause (D.faults disk) (D.faults (disk_of disk_scanned result)) result }
@@ -50,7 +53,7 @@ pub fn scan<D: Disk, T: Taker>(
         → IsFoundBy (read_as file cell_text.now room) room grants }
 {
     let mut disk = disk;
-    match read_journal(alloc, &mut disk, cell_text, room, taker) {
+    match read_journal(alloc, &mut disk, cell_text, room, visitor) {
         Ok(Reading::Blank(form)) => match Blank::new(alloc, disk, form) {
             Ok(blank) => Ok(Scanned::Fresh(blank)),
             Err(disk) => Err(OpenError {
@@ -81,36 +84,56 @@ pub(crate) enum Reading {
 }
 
 // Makes what the disk reads as stable, and reads it.
-fn read_journal<D: Disk, T: Taker>(
+fn read_journal<D: Disk, T: GrantVisitor>(
     alloc: Global,
     disk: &mut D,
     cell_text: &[u8],
     room: u64,
-    taker: &mut T,
+    visitor: &mut T,
 ) -> Result<Reading, Stop>
-    requires none { (first : ℕ) → T.took taker.old first [] taker.old }
+    requires none { (first : ℕ) → T.visited visitor.old first [] visitor.old }
     ensures reads { OnlyReads D.reads_as D.may_leave D.moment D.left_since disk.old disk.new }
-    ensures exact { IfOk result (IsReading (D.reads_as disk.old) cell_text.now room T.took taker.old taker.new) }
+    ensures exact { IfOk result (IsReading (D.reads_as disk.old) cell_text.now room T.visited visitor.old visitor.new) }
     ensures stable { OnOk result (IfSome (D.reads_as disk.new) (λ file. Only file (D.may_leave disk.new))) }
     ensures ok { OnOk result (D.faults disk.new ≡ D.faults disk.old) }
     ensures device { IsErrOf result Stop.Device → Rose (D.faults disk.old) (D.faults disk.new) }
     ensures memory { IsErrOf result Stop.Memory → D.faults disk.new ≡ D.faults disk.old }
 {
     disk.sync()?;
-    let len = disk.len()?;
-    if len == 0 {
-        return Ok(Reading::Blank(BlankForm::Short));
+    let start = first_piece(alloc, disk)?;
+    match read_head(&start.bytes, start.len) {
+        Head::Blank(form) => Ok(Reading::Blank(form)),
+        Head::Faulty(why) => Ok(Reading::Faulty(why)),
+        Head::Open(size) => read_open(alloc, disk, start, size, cell_text, room, visitor),
     }
-    let kept = with_piece(alloc, disk, 0, len, &[])?;
-    let size = match read_head(&kept, len) {
-        Head::Blank(form) => return Ok(Reading::Blank(form)),
-        Head::Faulty(why) => return Ok(Reading::Faulty(why)),
-        Head::Open(size) => u64::from(size),
-    };
-    match compare(alloc, disk, len, kept, size, cell_text)? {
+}
+
+// Reads what stands after an open head: the text of so many bytes, and the grants.
+fn read_open<D: Disk, T: GrantVisitor>(
+    alloc: Global,
+    disk: &mut D,
+    start: FirstPiece,
+    size: u32,
+    cell_text: &[u8],
+    room: u64,
+    visitor: &mut T,
+) -> Result<Reading, Stop>
+    requires start { IsFirstPiece (D.reads_as disk.old) start.len start.bytes.items }
+    requires bytes { (i : ℕ) → slice_index start.bytes.items i < 256 }
+    requires head { head_of start.len start.bytes.items ≡ Open size }
+    requires none { (first : ℕ) → T.visited visitor.old first [] visitor.old }
+    ensures reads { OnlyReads D.reads_as D.may_leave D.moment D.left_since disk.old disk.new }
+    ensures exact { IfOk result (IsReading (D.reads_as disk.old) cell_text.now room T.visited visitor.old visitor.new) }
+    ensures ok { OnOk result (D.faults disk.new ≡ D.faults disk.old) }
+    ensures device { IsErrOf result Stop.Device → Rose (D.faults disk.old) (D.faults disk.new) }
+    ensures memory { IsErrOf result Stop.Memory → D.faults disk.new ≡ D.faults disk.old }
+{
+    let FirstPiece { len, bytes } = start;
+    let size = u64::from(size);
+    match compare(alloc, disk, len, bytes, size, cell_text)? {
         Compared::Differs(at) => Ok(Reading::Faulty(JournalFault::OtherCell { at })),
         Compared::Same(window) => {
-            match walk(alloc, disk, len, TEXT_AT + size, window, room, taker)? {
+            match walk(alloc, disk, len, TEXT_AT + size, window, room, visitor)? {
                 Walked::Faulty(why) => Ok(Reading::Faulty(why)),
                 Walked::Closed { gate, count } => Ok(Reading::Found { gate, count }),
             }

@@ -2,13 +2,13 @@
 ghost use Rattle.std.specs.Prelude.{◌≡◌, ◌+◌, ◌^◌, ◌<◌, ◌≤◌, ℕ, List, ◌++◌, length, drop, IfSome, IfNone, IfOk, Some, OnOk, IsErrOf};
 ghost use Rattle.std.specs.Option.{ForSome};
 ghost use Rattle.outside_io.specs.Causes.{Rose};
-ghost use Rattle.shift_recovery.specs.Readings.{first_difference};
-ghost use Rattle.shift_recovery.specs.Reads.{OnlyReads};
+ghost use Rattle.journal_format.specs.Readings.{first_difference};
+ghost use Rattle.journal_format.specs.Reads.{OnlyReads};
 ghost use Rattle.shift_recovery.specs.Windows.{IsTextEnd};
 
-use crate::faults::Stop;
 use crate::pieces::{PIECE, with_piece};
-use move_journal::TEXT_AT;
+use crate::stop::Stop;
+use journal_format::TEXT_AT;
 use outside_io::Disk;
 use std::alloc::Global;
 

@@ -11,7 +11,7 @@ use Rattle.cell_walks.specs.Statuses.{IsTaken}
 use Rattle.printer.specs.Printing.{Cut, Printed, Prints, Silent, Whole, status_of}
 use Rattle.printer.specs.declared.printer.Printer.{Printer}
 use Rattle.printer.proofs.Sequences.{prints_as, prints_more}
-use Rattle.cell_texts.specs.Blocks.{entry_line, history_lines}
+use Rattle.record_printer.specs.Blocks.{entry_line, history_lines}
 
 -- the line of one entry more
 pub one_more : {K : Type 0} {sink : SinkMeaning K} {a b c : Printer K} (cell : Cell) (shift grants : ℕ) (history : List Entry) (entry : Entry)

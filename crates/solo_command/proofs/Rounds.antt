@@ -18,11 +18,11 @@ use Rattle.admission_core.proofs.DecidedHistories.{are_decided}
 use Rattle.policy_laws.proofs.Plans.{plan_law}
 use Rattle.policy_laws.proofs.States.{IsAdmitted-empty}
 use Rattle.record_text.specs.Fitting.{EntryFits}
-use Rattle.cell_texts.proofs.Fitting.{admitted_after, entries_fit}
+use Rattle.record_printer.proofs.Fitting.{admitted_after, entries_fit}
 use Rattle.solo_rounds.specs.Asking.{AreAsking}
 use Rattle.solo_rounds.specs.Standing.{Standing}
 use Rattle.solo_rounds.proofs.Ends.{each_trace}
-use Rattle.cell_texts.proofs.Fitted.{Contains-filter, requests_fit}
+use Rattle.record_printer.proofs.Fitted.{Contains-filter, requests_fit}
 
 -- where no entry is halted, this one isn't
 halted_of : (entries : List Entry) (entry : Entry) → holds_halt entries ≡ false → Contains entries entry → was_halted entry.told ≡ false

@@ -8,8 +8,8 @@ use Rattle.cell_base.specs.Fits.{CellFits, ShiftFits}
 use Rattle.cell_base.specs.Histories.{after}
 use Rattle.cell_base.specs.Plans.{plan_of}
 use Rattle.cell_base.specs.Rounds.{IsRoundRobin}
-use Rattle.cell_texts.specs.Blocks.{planned_block}
-use Rattle.cell_texts.proofs.BlockTexts.{planned_text}
+use Rattle.record_printer.specs.Blocks.{planned_block}
+use Rattle.record_printer.proofs.BlockTexts.{planned_text}
 use Rattle.cell_walks.specs.Outcomes.{IsDelivered, done}
 use Rattle.cell_walks.specs.Walks.{Answers, Walk}
 use Rattle.cell_walks.specs.declared.status.Status.{Status}

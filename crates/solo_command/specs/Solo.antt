@@ -11,7 +11,7 @@ use Rattle.admission_core.specs.DecidedHistories.{AreDecided}
 use Rattle.record_text.specs.Records.{text_of_record}
 use Rattle.cell_walks.specs.Outcomes.{Outcome, done}
 use Rattle.cell_walks.specs.Walks.{Walk, Tests, Answers}
-use Rattle.cell_texts.specs.Blocks.{planned_block}
+use Rattle.record_printer.specs.Blocks.{planned_block}
 use Rattle.cell_texts.specs.Tests.{cell_file, shift_file}
 
 -- The record of a shift that runs on the empty cell: the history of its sessions in rounds, in which the policy decided each request by the

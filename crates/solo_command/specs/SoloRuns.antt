@@ -11,7 +11,7 @@ use Rattle.cell_base.specs.Rounds.{IsRoundRobin}
 use Rattle.admission_core.specs.CoreState.{CoreState}
 use Rattle.printer.specs.Printing.{Prints}
 use Rattle.printer.specs.declared.printer.Printer.{Printer}
-use Rattle.cell_texts.specs.Blocks.{history_lines}
+use Rattle.record_printer.specs.Blocks.{history_lines}
 use Rattle.cell_walks.specs.Outcomes.{IsDelivered, done}
 use Rattle.cell_walks.specs.declared.status.Status.{Status}
 use Rattle.solo_command.specs.Solo.{IsSoloRecord}

@@ -4,10 +4,10 @@ ghost use Rattle.solo_command.specs.Clauses.{ArePrinted, IsAtStart, IsSoloDelive
 
 use admission_core::Core;
 use cell_base::Shift;
-use cell_texts::records::print_left;
 use cell_walks::Status;
 use outside_io::Sink;
 use printer::Printer;
+use record_printer::records::print_left;
 use record_text::{Line, head_line, write_entry};
 use solo_rounds::Rounds;
 

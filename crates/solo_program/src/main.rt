@@ -7,8 +7,8 @@
 mod asked;
 mod top;
 
-use outside_io::Disk;
-use real_outside::{DirFiles, FileDisk, OUT_BUFFER, OutSink, Purpose, words_after_name};
+use outside_io::NullDisk;
+use real_outside::{DirFiles, OUT_BUFFER, OutSink, words_after_name};
 use std::io::{self, BufWriter, Write};
 use std::process::ExitCode;
 use std::rt::{Clock, Files};
@@ -17,25 +17,22 @@ use top::solo_main;
 // A buffer makes one write of many lines. Where there is no memory for it, each line is a write.
 fn main(rt: HostRuntime) -> ExitCode {
     let words = words_after_name(&rt);
-    // Without a journal the disk is on the empty name, which no file has.
-    let disk = FileDisk::new(&rt, rt.alloc(), "", Purpose::ToRead, false);
     let status = match BufWriter::with_capacity(rt.alloc(), OUT_BUFFER, io::writer(&rt)) {
-        Ok(writer) => run_over(&rt, &words, writer, disk),
-        Err(_) => run_over(&rt, &words, io::writer(&rt), disk),
+        Ok(writer) => run_over(&rt, &words, writer),
+        Err(_) => run_over(&rt, &words, io::writer(&rt)),
     };
     ExitCode::from(status)
 }
 
 // Plays the shift, and answers the status, or 8 where what was printed could not be written.
-fn run_over<R: AllocGlobal + Files + Clock + Eprint, W: Write + Drop, D: Disk + Drop>(
+fn run_over<R: AllocGlobal + Files + Clock + Eprint, W: Write + Drop>(
     rt: &R,
     words: &[String],
     writer: W,
-    disk: D,
 ) -> u8 {
     let mut files = DirFiles::new(rt, false);
     let mut out = OutSink::new(writer);
-    let ended = solo_main(rt.alloc(), words, &mut files, &mut out, disk);
+    let ended = solo_main(rt.alloc(), words, &mut files, &mut out, NullDisk);
     match out.flush() {
         Ok(()) => ended.status.number(),
         Err(_) => 8,

@@ -5,7 +5,7 @@ use Rattle.cell_base.specs.declared.shifts.Grant.{Grant}
 use Rattle.cell_base.specs.Fits.{CellFits}
 use Rattle.cell_base.specs.Histories.{replay}
 use Rattle.cell_base.specs.Policy.{IsAdmitted}
-use Rattle.cell_texts.proofs.Fitting.{refusal_fits}
+use Rattle.record_printer.proofs.Fitting.{refusal_fits}
 use Rattle.standby_link.specs.declared.take_fault.TakeFault.{TakeFault}
 use Rattle.standby_link.specs.declared.take_fault.TakeFault.TheVariants.{Halted, NotAFrame, Conflict, NoFit, NotGranted, Full, Device}
 use Rattle.standby_link.specs.Followers.{IsFrameRefused}

@@ -12,7 +12,7 @@ use Rattle.cell_base.specs.declared.shifts.Grant.{Grant}
 use Rattle.cell_base.specs.Fits.{RequestFits}
 use Rattle.cell_base.specs.Histories.{replay}
 use Rattle.cell_base.specs.Outcomes.{reply_to}
-use Rattle.move_journal.specs.Journals.{StandsForPrefix, StandsFor}
+use Rattle.journal_format.specs.Journals.{StandsForPrefix, StandsFor}
 use Rattle.durable_cell.specs.declared.replays.TheConstants.{MAX_ROOM}
 use Rattle.cell_walks.specs.Allowed.{StandsForAdded}
 use Rattle.cell_walks.specs.DiskTold.{DiskTold, IsNow, SinceEntry}

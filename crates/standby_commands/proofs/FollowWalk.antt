@@ -4,7 +4,7 @@ use Rattle.std.proofs.Common.{◌≡◌, ℕ, List, [], Result, Ok, Err, refl, a
 use Rattle.cell_base.specs.declared.shifts.Grant.{Grant}
 use Rattle.durable_cell.specs.DurableState.{DurableState}
 use Rattle.durable_cell.specs.Openings.{fresh}
-use Rattle.shift_recovery.specs.Replayed.{AreDue, opened_as}
+use Rattle.journal_format.specs.Replayed.{AreDue, opened_as}
 use Rattle.durable_cell.specs.declared.replays.TheConstants.{MAX_ROOM}
 use Rattle.cell_walks.specs.Allowed.{AllowsFrom, ByMemory, IsEndedAt, JournalOpened, NotOpened}
 use Rattle.cell_walks.specs.Allowed.{OpeningStarved, Opened, Passed, Stopped, Unasked}

@@ -6,9 +6,9 @@ use Rattle.outside_io.specs.Causes.{Rose}
 use Rattle.outside_io.specs.Puts.{SinkTold, TookAll}
 use Rattle.cell_base.specs.declared.cells.Cell.{Cell}
 use Rattle.cell_base.specs.declared.shifts.Grant.{Grant}
-use Rattle.shift_recovery.specs.Replayed.{AreDue}
+use Rattle.journal_format.specs.Replayed.{AreDue}
 use Rattle.durable_cell.specs.declared.replays.TheConstants.{MAX_ROOM}
-use Rattle.move_journal.specs.Journals.{StandsForPrefix, StandsFor}
+use Rattle.journal_format.specs.Journals.{StandsForPrefix, StandsFor}
 use Rattle.cell_walks.specs.Allowed.{IsOpenedAs}
 use Rattle.cell_walks.specs.DiskTold.{DiskTold, IsNow, SinceEntry, StoodFor}
 use Rattle.cell_walks.specs.Observed.{Observed, ShowsFile}

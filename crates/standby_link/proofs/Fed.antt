@@ -15,7 +15,7 @@ use Rattle.cell_base.specs.Fits.{RequestFits}
 use Rattle.cell_base.specs.Histories.{all_granted, is_replay, replay, requests_of}
 use Rattle.cell_base.specs.Outcomes.{reply_to}
 use Rattle.policy_laws.proofs.Granting.{granted_alone}
-use Rattle.shift_recovery.specs.Replayed.{AreDue}
+use Rattle.journal_format.specs.Replayed.{AreDue}
 use Rattle.standby_link.specs.declared.frame.Frame.{Frame}
 use Rattle.standby_link.specs.Deliveries.{AreFramesTaken, IsFrameTaken, delivered, delivered_all}
 use Rattle.standby_link.specs.Fed.{FedLaw, IsFrameOf}

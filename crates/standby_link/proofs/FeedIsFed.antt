@@ -15,7 +15,7 @@ use Rattle.cell_base.specs.declared.shifts.Grant.{Grant}
 use Rattle.cell_base.specs.Fits.{RequestFits}
 use Rattle.entry_codec.specs.Records.{IsInRange, request_has_record}
 use Rattle.entry_codec.proofs.ReadBack.{grant_of-record_of}
-use Rattle.shift_recovery.specs.Replayed.{AreDue}
+use Rattle.journal_format.specs.Replayed.{AreDue}
 use Rattle.standby_link.specs.Fed.{FeedIsFedLaw, IsFrameOf, frames_at}
 use Rattle.standby_link.specs.Frames.{frame_of, framed}
 use Rattle.standby_link.proofs.Bytes.{frame_in-frame_of}

@@ -18,7 +18,7 @@ use Rattle.outside_io.specs.Disk.{LeavesOnly}
 use Rattle.outside_io.specs.Moments.{started, widened}
 use Rattle.outside_io.specs.Telling.{where_told, told as told_of}
 use Rattle.move_journal.specs.Disks.{Shows}
-use Rattle.move_journal.specs.Journals.{StandsFor}
+use Rattle.journal_format.specs.Journals.{StandsFor}
 use Rattle.durable_cell.specs.Acknowledged.{HasSince, MovesSafely}
 use Rattle.durable_cell.specs.Asked.{Answers, HasAskCause, entry, halted_at, with_entry}
 use Rattle.durable_cell.specs.DurableState.{DurableState, parts}

@@ -5,7 +5,7 @@ use Rattle.cell_base.specs.declared.cells.Cell.{Cell}
 use Rattle.cell_base.specs.declared.shifts.Grant.{Grant}
 use Rattle.outside_io.specs.Disk.{LeavesOnly}
 use Rattle.move_journal.specs.Disks.{Shows}
-use Rattle.move_journal.specs.Journals.{StandsFor}
+use Rattle.journal_format.specs.Journals.{StandsFor}
 use Rattle.standby_link.specs.declared.take_fault.TakeFault.{TakeFault}
 use Rattle.standby_link.specs.Followers.{FollowerState, HasNotHalted, IsGrantedNext, IsFrameKnown, kept}
 use Rattle.standby_link.specs.Following.{received}

@@ -5,7 +5,7 @@ use mathlib.Core.List.{IsPrefix}
 use Rattle.cell_base.specs.declared.cells.Cell.{Cell}
 use Rattle.cell_base.specs.declared.shifts.Grant.{Grant}
 use Rattle.entry_codec.specs.Records.{IsInRange}
-use Rattle.shift_recovery.specs.Replayed.{AreDue}
+use Rattle.journal_format.specs.Replayed.{AreDue}
 use Rattle.standby_link.specs.declared.frame.Frame.{Frame}
 use Rattle.standby_link.specs.Deliveries.{AreFramesTaken, delivered_all}
 use Rattle.standby_link.specs.Frames.{frame_at, frame_in, frame_of, framed}

@@ -94,7 +94,7 @@ module _ (key : Waiter → Option ℕ) where
       let here : at < places = mod_below k places some in
       let same : length (slice_set counts at (n + 1)) ≡ places = length-set counts at (n + 1) in
       let inside : q < places = omega (arith, below, same) in
-      set-one (λ (p m : ℕ). m ≡ waiting_at key places p (ws ++ w ∷ [])) counts at (n + 1) 0 q here
+      set-one (λ (p m : ℕ). m ≡ waiting_at key places p (ws ++ w ∷ [])) counts (slice_set counts at (n + 1)) at (n + 1) 0 q refl here
       (λ (away : q ≡ at → ⊥).
       let other : cond (is_at key places q w) 1 0 ≡ 0 =
       ap (λ b. cond {A = ℕ} b 1 0) (is_at-key places q w (Some k) own ∙ ne_eqb at q (λ e. away (sym e))) in
@@ -113,7 +113,7 @@ module _ (key : Waiter → Option ℕ) where
       let here : at < places = mod_below k places some in
       let same : length (slice_set counts at (n - 1)) ≡ places = length-set counts at (n - 1) in
       let inside : q < places = omega (arith, below, same) in
-      set-one (λ (p m : ℕ). m ≡ waiting_at key places p (remove ws i)) counts at (n - 1) 0 q here
+      set-one (λ (p m : ℕ). m ≡ waiting_at key places p (remove ws i)) counts (slice_set counts at (n - 1)) at (n - 1) 0 q refl here
       (λ (away : q ≡ at → ⊥).
       let other : cond (is_at key places q w) 1 0 ≡ 0 =
       ap (λ b. cond {A = ℕ} b 1 0) (is_at-key places q w (Some k) own ∙ ne_eqb at q (λ e. away (sym e))) in

@@ -1,4 +1,5 @@
 -- Lemmas, grouped by subject.
+pub mod Turns
 pub mod Counts
 pub mod Entering
 pub mod Looks

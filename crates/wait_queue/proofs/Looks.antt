@@ -99,12 +99,13 @@ all-removed P (x ∷ xs) zero all = All-tail P x xs all
 all-removed P (x ∷ xs) (suc i) all = All-cons P x (remove xs i) (All-head P x xs all) (all-removed P xs i (All-tail P x xs all))
 
 -- what stands at a place, where one place is set
-pub set-one : {X : Type 0} (P : ℕ → X → Type 0) (xs : List X) (i : ℕ) (x d : X) (k : ℕ) → i < length xs
-    → ((k ≡ i → ⊥) → P k (get_or xs k d)) → P i x → P k (get_or (set xs i x) k d)
-set-one P xs i x d k here old new =
-    ⊎_elim (λ (e : k ≡ i). subst (λ q. P q (get_or (set xs i x) q d)) (sym e) (subst (P i) (sym (get_or-set_same xs i x d here)) new))
+pub set-one : {X : Type 0} (P : ℕ → X → Type 0) (xs ys : List X) (i : ℕ) (x d : X) (k : ℕ) → ys ≡ set xs i x → i < length xs
+    → ((k ≡ i → ⊥) → P k (get_or xs k d)) → P i x → P k (get_or ys k d)
+set-one P xs ys i x d k is here old new =
+    subst (λ zs. P k (get_or zs k d)) (sym is)
+    (⊎_elim (λ (e : k ≡ i). subst (λ q. P q (get_or (set xs i x) q d)) (sym e) (subst (P i) (sym (get_or-set_same xs i x d here)) new))
     (λ (away : k ≡ i → ⊥). subst (P k) (sym (get_or-set_other xs i k x d away)) (old away))
-    (cases_eq k i)
+    (cases_eq k i))
 
 -- a mask with one bit more
 pub covered-more : (mask k : ℕ) (w : Option ResId) → IsCovered mask w → IsCovered (bit_or mask (1 * 2 ^ k % 2 ^ 64)) w

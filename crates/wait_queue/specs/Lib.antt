@@ -1,5 +1,6 @@
 -- What the contracts cite.
 pub mod Waiting
+pub mod Turns
 pub mod Watching
 pub mod Counting
 pub mod Queues

@@ -1,5 +1,5 @@
 -- What contracts see of a queue, and what its calls keep.
-use Rattle.std.specs.Prelude.{◌≡◌, ℕ, ◌<◌, ◌≤◌, Bool, false, Option, List, length}
+use Rattle.std.specs.Prelude.{◌≡◌, ℕ, ◌+◌, ◌<◌, Bool, false, Option, List, length}
 use Rattle.cell_base.specs.declared.cells.Cell.{Cell}
 use Rattle.cell_base.specs.declared.cells.ResId.{ResId}
 use Rattle.cell_base.specs.declared.requests.Part.{Part}
@@ -35,7 +35,7 @@ WatchesAnother waiter at old new =
 
 -- what the type keeps
 pub record IsKept (waiters : List Waiter) (watches : List (Option ResId)) (jobs sessions : List ℕ) (watched : ℕ) (is_stale : Bool)
-    (room waiters_capacity watches_capacity : ℕ) : Type 0 where
+    (room waiters_spare watches_spare : ℕ) : Type 0 where
   pub pairs : length watches ≡ length waiters
   pub job_places : 0 < length jobs
   pub session_places : 0 < length sessions
@@ -43,5 +43,5 @@ pub record IsKept (waiters : List Waiter) (watches : List (Option ResId)) (jobs 
   pub sessions_counted : AreCounted session_key sessions waiters
   pub covered : AreCovered watched watches
   pub fresh : is_stale ≡ false → AreWatched watches
-  pub waiters_room : room ≤ waiters_capacity
-  pub watches_room : room ≤ watches_capacity
+  pub waiters_room : waiters_spare + length waiters ≡ room
+  pub watches_room : watches_spare + length watches ≡ room

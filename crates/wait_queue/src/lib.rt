@@ -20,6 +20,7 @@
 //! loop over its own calls. Only `with_room` takes memory.
 #![tactic(auto)]
 
+mod in_turn;
 mod key_counts;
 pub mod laws;
 mod looking;

@@ -1,10 +1,11 @@
 //! A look at the waiters, at those alone whose watched resource has got room.
-ghost use Rattle.std.specs.Prelude.{◌≡◌, ◌<◌, length, vec_capacity};
+ghost use Rattle.std.specs.Prelude.{◌≡◌, ◌<◌, length};
 ghost use Rattle.cell_base.specs.Fits.{RequestFits};
 ghost use Rattle.cell_base.specs.Masks.{has_bit};
 ghost use Rattle.wait_queue.specs.Watching.{AreCovered, AreFit, AreWatched, AreWatching, IsFound, IsFullMask, IsHeld, IsWatch};
 
 use crate::Waiter;
+use crate::in_turn::InTurn;
 use admission_core::Core;
 use admission_core::laws::core_law;
 use cell_base::{Refusal, Reply, Request, ResId};
@@ -31,7 +32,7 @@ pub fn look(
     core: &Core,
     full: u64,
     waiters: &[Waiter],
-    watches: &mut Vec<Option<ResId>>,
+    watches: &mut InTurn<Option<ResId>>,
     watched: &mut u64,
 ) -> Found
     requires full { IsFullMask core.now.cell core.now.parts full }
@@ -44,14 +45,14 @@ pub fn look(
     ensures watching { AreWatching core.now.cell core.now.parts waiters.now watches.new.items }
     ensures covered { AreCovered watched.new watches.new.items }
     ensures watched { AreWatched watches.old.items → AreWatched watches.new.items }
-    ensures capacity { vec_capacity watches.new ≡ vec_capacity watches.old }
+    ensures spare { watches.new.spare ≡ watches.old.spare }
 {
     core_law(core);
     let mut exactly = 0;
     for i in 0..waiters.len() {
-        match held_by(core, full, &waiters[i].request, watches[i]) {
+        match held_by(core, full, &waiters[i].request, watches.as_slice()[i]) {
             Some(at) => {
-                watches[i] = Some(at);
+                watches.set(i, Some(at));
                 *watched |= 1 << at.0;
                 exactly |= 1 << at.0;
             }

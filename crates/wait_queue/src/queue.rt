@@ -1,5 +1,5 @@
 //! The waiters, and what each of them watches.
-ghost use Rattle.std.specs.Prelude.{◌≡◌, ◌<◌, ◌∷◌, ◌++◌, [], false, true, None, ◌||◌, if◌then◌else◌, length, get_or, map, IfOk, vec_capacity};
+ghost use Rattle.std.specs.Prelude.{◌≡◌, ◌<◌, ◌∷◌, ◌++◌, [], false, true, None, ◌||◌, if◌then◌else◌, length, get_or, map, IfOk};
 ghost use Rattle.std.specs.Prelude.{List as Sequence, position};
 ghost use Rattle.std.specs.List.{find, remove};
 ghost use Rattle.cell_base.specs.declared.cells.Cell.{Cell};
@@ -9,6 +9,7 @@ ghost use Rattle.wait_queue.specs.Queues.{KeepsWatching, WatchesAnother};
 ghost use Rattle.wait_queue.specs.Watching.{AreFit, AreWatching, AreWithout};
 
 use crate::Waiter;
+use crate::in_turn::InTurn;
 use crate::key_counts::{KeyCounts, is_of, job_number, job_of};
 use crate::looking::{Found, look};
 use crate::waiter::{renew_all, waiter_of};
@@ -21,8 +22,8 @@ use std::marker::Model;
 /// Waiters in the order of their arrival. Contracts see who waits, what each watches (None: it is to be looked at), and the room.
 #[derive(Drop)]
 pub struct WaitQueue {
-    waiters: Vec<Waiter>,
-    watches: Vec<Option<ResId>>,
+    waiters: InTurn<Waiter>,
+    watches: InTurn<Option<ResId>>,
     /// How many waiters there are of each job, and of each session.
     jobs: KeyCounts,
     sessions: KeyCounts,
@@ -35,14 +36,13 @@ pub struct WaitQueue {
 
 impl Model for WaitQueue {
     ghost use Rattle.wait_queue.specs.Queues.{QueueState, IsKept};
-    ghost use Rattle.std.specs.Prelude.{vec_capacity};
 
     ghost Value = { QueueState };
 
     ghost view = { λ s. record { waiters = s.waiters.items; watches = s.watches.items; room = s.room } };
 
     ghost invariant = { λ s. IsKept s.waiters.items s.watches.items s.jobs s.sessions s.watched s.is_stale s.room
-        (vec_capacity s.waiters) (vec_capacity s.watches) };
+        s.waiters.spare s.watches.spare };
 }
 
 impl WaitQueue {
@@ -51,8 +51,8 @@ impl WaitQueue {
         ensures { IfOk result (λ queue. queue ≡ record { waiters = []; watches = []; room = room }) }
     {
         Ok(WaitQueue {
-            waiters: Vec::with_capacity(alloc, room as usize)?,
-            watches: Vec::with_capacity(alloc, room as usize)?,
+            waiters: InTurn::with_room(alloc, room)?,
+            watches: InTurn::with_room(alloc, room)?,
             jobs: KeyCounts::for_waiters(alloc, room)?,
             sessions: KeyCounts::for_waiters(alloc, room)?,
             watched: 0,
@@ -71,8 +71,8 @@ impl WaitQueue {
     {
         self.jobs.add(job_number(&waiter.request));
         self.sessions.add(Some(waiter.session as u32));
-        self.waiters.push_reserved(waiter);
-        self.watches.push_reserved(Some(at));
+        self.waiters.push(waiter);
+        self.watches.push(Some(at));
         self.watched |= 1 << at.0;
     }
 
@@ -84,7 +84,7 @@ impl WaitQueue {
     {
         if let Some(job) = job_of(request) {
             if self.jobs.has(job.0) {
-                let any = forget(&self.waiters, &mut self.watches, job);
+                let any = forget(self.waiters.as_slice(), &mut self.watches, job);
                 self.is_stale = either(self.is_stale, any);
             }
         }
@@ -107,7 +107,7 @@ impl WaitQueue {
         match look(
             core,
             full,
-            &self.waiters,
+            self.waiters.as_slice(),
             &mut self.watches,
             &mut self.watched,
         ) {
@@ -131,7 +131,7 @@ impl WaitQueue {
         if !self.sessions.has(session as u32) {
             return None;
         }
-        match place_of(&self.waiters, session) {
+        match place_of(self.waiters.as_slice(), session) {
             Some(at) => Some(self.take(at)),
             None => None,
         }
@@ -146,8 +146,8 @@ impl WaitQueue {
             → AreWatching cell parts self.new.waiters self.new.watches }
         ensures room { self.new.room ≡ self.old.room }
     {
-        self.watches.remove(at);
-        let waiter = self.waiters.remove(at);
+        self.watches.take(at);
+        let waiter = self.waiters.take(at);
         self.jobs.remove(job_number(&waiter.request));
         self.sessions.remove(Some(waiter.session as u32));
         waiter
@@ -169,7 +169,7 @@ impl WaitQueue {
     pub fn waiting(&self) -> &[Waiter]
         ensures { result.now ≡ self.now.waiters }
     {
-        &self.waiters
+        self.waiters.as_slice()
     }
 
     /// The waiter of a session, None exactly where it does not wait.
@@ -179,7 +179,7 @@ impl WaitQueue {
         if !self.sessions.has(session as u32) {
             return None;
         }
-        waiter_of(&self.waiters, session)
+        waiter_of(self.waiters.as_slice(), session)
     }
 }
 
@@ -191,18 +191,19 @@ fn place_of(waiters: &[Waiter], session: u16) -> Option<usize>
 }
 
 // The waiters whose requests are of this job watch nothing any more. Says whether there are any.
-fn forget(waiters: &[Waiter], watches: &mut Vec<Option<ResId>>, job: JobId) -> bool
+fn forget(waiters: &[Waiter], watches: &mut InTurn<Option<ResId>>, job: JobId) -> bool
     requires pairs { length watches.old.items ≡ length waiters.now }
     ensures without { AreWithout job waiters.now watches.old.items watches.new.items }
     ensures pairs { length watches.new.items ≡ length waiters.now }
     ensures none { result ≡ false → watches.new.items ≡ watches.old.items }
-    ensures capacity { vec_capacity watches.new ≡ vec_capacity watches.old }
+    ensures spare { watches.new.spare ≡ watches.old.spare }
 {
     let mut any = false;
     for i in 0..waiters.len() {
         let is_own = is_of(job, &waiters[i].request);
         any = either(any, is_own);
-        watches[i] = unless(is_own, watches[i]);
+        let watch = watches.as_slice()[i];
+        watches.set(i, unless(is_own, watch));
     }
     any
 }

@@ -1,9 +1,10 @@
 //! A session that waits: with one request, and one refusal that it was told, or would be told now.
-ghost use Rattle.std.specs.Prelude.{◌≡◌, map, vec_capacity};
+ghost use Rattle.std.specs.Prelude.{◌≡◌, map};
 ghost use Rattle.cell_base.specs.Fits.{RequestFits};
 ghost use Rattle.wait_queue.specs.Waiting.{renewed, waiter_of};
 ghost use Rattle.wait_queue.specs.Watching.{AreFit};
 
+use crate::in_turn::InTurn;
 use admission_core::Core;
 use cell_base::{Refusal, Reply, Request};
 
@@ -26,14 +27,14 @@ pub fn waiter_of(waiters: &[Waiter], session: u16) -> Option<Waiter>
 }
 
 /// Each waiter keeps the refusal of its request.
-pub fn renew_all(core: &Core, waiters: &mut Vec<Waiter>)
+pub fn renew_all(core: &Core, waiters: &mut InTurn<Waiter>)
     requires fit { AreFit core.now.cell waiters.old.items }
     ensures renewed { waiters.new.items ≡ map (renewed core.now.cell core.now.parts) waiters.old.items }
-    ensures capacity { vec_capacity waiters.new ≡ vec_capacity waiters.old }
+    ensures spare { waiters.new.spare ≡ waiters.old.spare }
 {
-    for i in 0..waiters.len() {
-        let waiter = waiters[i];
-        waiters[i] = renewed(core, &waiter);
+    for i in 0..waiters.as_slice().len() {
+        let waiter = waiters.as_slice()[i];
+        waiters.set(i, renewed(core, &waiter));
     }
 }
 

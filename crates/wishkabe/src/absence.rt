@@ -1,6 +1,6 @@
 //! The line on standard error about a journal that is not there: its name may be mistyped.
-use hint_texts::HintLine;
-use real_outside::Purpose;
+use hints::HintLine;
+use journal_disk::Purpose;
 use std::alloc::Global;
 
 /// What is told of a journal of this name where none is there. Where no line can be made nothing is told.

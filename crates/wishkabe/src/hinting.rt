@@ -1,9 +1,8 @@
 //! The line on standard error after a refusal.
 use cell_program::usage;
 use hints::{Ended, hint};
-use real_outside::{DirFiles, Failure, FileDisk, OutSink, RegularFiles};
-use record_hints::owed;
-use std::alloc::Global;
+use journal_disk::FileDisk;
+use real_outside::{DirFiles, Failure, OutSink, RegularFiles};
 use std::fs::File;
 use std::io::Write;
 use std::rt::{Clock, Files};
@@ -50,38 +49,8 @@ pub fn tell<'a, R: AllocGlobal + Files + Clock + Eprint>(
         failure,
     };
     let mut files = RegularFiles::new(rt);
-    if let Some(told) = line_of(rt.alloc(), &mut files, &ended) {
+    if let Some(told) = hint(rt.alloc(), &mut files, &ended) {
         let told = told.as_str();
         let _ = eprintln!(rt; "{told}");
     }
-}
-
-// The line about a command that ended so, and after it what is right at the line of a record that is wrong.
-fn line_of<F: outside_io::Files>(
-    alloc: Global,
-    files: &mut F,
-    ended: &Ended<'_>,
-) -> Option<String> {
-    let hint = hint(alloc, files, ended)?;
-    match owed_line(alloc, files, ended) {
-        Some(owed) => joined(alloc, hint.as_str(), owed.as_str()),
-        None => Some(hint),
-    }
-}
-
-// What is right at the line of a record that is wrong.
-fn owed_line<F: outside_io::Files>(
-    alloc: Global,
-    files: &mut F,
-    ended: &Ended<'_>,
-) -> Option<String> {
-    match ended.status {
-        1 => owed(alloc, files, ended.words, ended.line),
-        _ => None,
-    }
-}
-
-// Both with a colon between them.
-fn joined(alloc: Global, hint: &str, owed: &str) -> Option<String> {
-    format!(in alloc; "{hint}: {owed}").ok()
 }

@@ -13,12 +13,10 @@ use absence::absence_line;
 use cell_program::{Journal, cell_main, journal_in, serve_main, served_in};
 use gathered::Gathered;
 use hinting::{Fails, failure_of, tell};
+use journal_disk::{FileDisk, Purpose};
 use manner::Manner;
 use outside_io::{Disk, Pace};
-use real_outside::{
-    DirFiles, FileDisk, InSource, OUT_BUFFER, OutSink, Purpose, RestPace, SeenSink,
-    words_after_name,
-};
+use real_outside::{DirFiles, InSource, OUT_BUFFER, OutSink, RestPace, SeenSink, words_after_name};
 use std::fs::File;
 use std::io::{self, BufWriter, IsTerminal, Write};
 use std::process::ExitCode;

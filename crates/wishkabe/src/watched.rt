@@ -1,7 +1,7 @@
 //! The input of a conversation, with a look at what can't be seen of its lines.
 ghost use Rattle.std.specs.Prelude.{◌≡◌};
 
-use hint_texts::{BEGINS_WITH_MARK, BYTE_ORDER_MARK, ENDS_IN_RETURN};
+use hints::{BEGINS_WITH_MARK, BYTE_ORDER_MARK, ENDS_IN_RETURN};
 use memchr::memchr2;
 use memchr::memmem::find;
 use outside_io::{Failed, Source};

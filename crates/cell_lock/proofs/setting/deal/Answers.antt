@@ -1,6 +1,6 @@
 -- One pass more is dealt.
 use Rattle.std.proofs.Common.{◌≡◌, ◌+◌, ◌-◌, ◌∷◌, [], ◌++◌, ℕ, arith, sym, ap, ◌∙◌}
-use Rattle.cell_lock.specs.Views.{AtSeat, stock}
+use Rattle.cell_lock.specs.Views.{AtSeat, initial_view}
 use Rattle.cell_lock.specs.Passes.{new_pass}
 use Rattle.cell_lock.specs.Steps.{lock_of}
 use Rattle.cell_lock.proofs.Gathering.{passes_more}
@@ -21,8 +21,8 @@ loop-k-preserved g c =
     c.deal_one-pass.ensures.pass ∙ (λ j. new_pass g.D.Disk.moment (record { table = i.table j; opening = opening_is j }) (sym number j)) in
     record {
       table = c.deal_one-pass.ensures.table ∙ i.table;
-      left = c.deal_one-pass.ensures.left ∙ (λ j. (stock (opening_is j) (first j + 1) (count j - 1), []))
-          ∙ ap (λ (k : ℕ). (stock o (at.k + 1 + 1) k, [])) fewer;
+      left = c.deal_one-pass.ensures.left ∙ (λ j. (initial_view (opening_is j) (first j + 1) (count j - 1), []))
+          ∙ ap (λ (k : ℕ). (initial_view o (at.k + 1 + 1) k, [])) fewer;
       dealt = c.push.ensures.items ∙ (λ j. i.dealt j ++ same_pass j ∷ []) ∙ sym (passes_more g.D.Disk.moment lock 1 at.k);
       room = omega (arith, i.room, c.push.ensures.spare);
     }

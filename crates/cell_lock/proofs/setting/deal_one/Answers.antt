@@ -1,6 +1,6 @@
 -- A pass is cut off as the rule of the table allows.
 use Rattle.std.proofs.Common.{◌≡◌, ◌-◌, suc, arith, ap, ◌∙◌}
-use Rattle.cell_lock.specs.Views.{AtSeat, stock}
+use Rattle.cell_lock.specs.Views.{AtSeat, initial_view}
 use Rattle.cell_lock.proofs.Dealing.{deals}
 use Rattle.cell_lock.proofs.setting.deal_one.Goals as goal
 
@@ -11,5 +11,5 @@ split_seat-seat-requires g c =
       c.requires.table.0,
       omega arith,
       deals _ g.D.Disk.moment _ v.opening _ v.first (v.count - 1) v
-          (ap (λ (m : AtSeat g.row.D.Denot). m.0) c.requires.left.0 ∙ ap (λ k. stock v.opening v.first k) some_left),
+          (ap (λ (m : AtSeat g.row.D.Denot). m.0) c.requires.left.0 ∙ ap (λ k. initial_view v.opening v.first k) some_left),
     )

@@ -9,8 +9,8 @@ use Rattle.cell_texts.proofs.Disks.{untouched}
 use Rattle.peers.specs.Meanings.{peer_gave, peer_took}
 use Rattle.serve_command.specs.LivesThrough.{LivesThrough, WhereTold}
 use Rattle.serve_command.specs.Serve.{serve}
-use Rattle.cell_program.specs.Words.{usage_text}
-use Rattle.cell_program.proofs.ServeWords.{one_cell}
+use Rattle.command_words.specs.Words.{usage_text}
+use Rattle.command_words.proofs.Written.{one_cell}
 use Rattle.cell_program.proofs.serving.serve_or_say.Goals as goal
 
 pub returns-in-Some-clause-ends : goal.returns-in-Some-clause-ends

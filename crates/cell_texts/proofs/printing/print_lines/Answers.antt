@@ -1,6 +1,6 @@
 -- The sink failed, so its count rose.
 use Rattle.std.proofs.Common.{◌∙◌, rules, sym}
-use Rattle.cell_texts.proofs.Taken.{has_risen}
+use Rattle.printer.proofs.Taken.{has_risen}
 use Rattle.cell_texts.proofs.printing.print_lines.Goals as goal
 
 pub returns-then-has_failed-clause-cause : goal.returns-then-has_failed-clause-cause

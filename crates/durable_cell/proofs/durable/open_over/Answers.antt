@@ -6,13 +6,13 @@ use Rattle.cell_base.specs.declared.shifts.Grant.{Grant}
 use Rattle.admission_core.specs.CoreState.{CoreState}
 use Rattle.outside_io.specs.Causes.{Rose}
 use Rattle.outside_io.specs.Telling.{told}
-use Rattle.shift_recovery.specs.declared.faults.JournalFault.{JournalFault}
-use Rattle.shift_recovery.proofs.Replaying.{stands_opened}
-use Rattle.shift_recovery.proofs.Standing.{stands_found}
+use Rattle.journal_format.specs.declared.fault.JournalFault.{JournalFault}
+use Rattle.journal_format.proofs.Replaying.{stands_opened}
+use Rattle.journal_format.proofs.Standing.{stands_found}
 use Rattle.durable_cell.specs.DurableState.{DurableState}
 use Rattle.durable_cell.specs.Kept.{Keeps}
 use Rattle.durable_cell.specs.StoredGrants.{disk_stored, IsCore, IsStored}
-use Rattle.shift_recovery.specs.Replayed.{opened_as}
+use Rattle.journal_format.specs.Replayed.{opened_as}
 use Rattle.durable_cell.proofs.HandedBack.{handed_back, is_outside}
 use Rattle.durable_cell.proofs.Opened.{history_opened, parts_opened, seen_fresh, disk_opened, unmade_since}
 use Rattle.durable_cell.proofs.durable.open_over.Goals as goal

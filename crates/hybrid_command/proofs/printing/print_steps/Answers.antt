@@ -2,7 +2,7 @@
 use Rattle.std.proofs.Common.{refl, ap, map, ◌∙◌}
 use Rattle.cell_base.specs.declared.cells.Cell.{Cell}
 use Rattle.banker_check.specs.HybridPlans.{plan_h_of}
-use Rattle.cell_texts.specs.Blocks.{step_line}
+use Rattle.record_printer.specs.Blocks.{step_line}
 use Rattle.printer.proofs.Sequences.{prints_to_all, prints_to_next}
 use Rattle.hybrid_command.proofs.printing.print_steps.Goals as goal
 

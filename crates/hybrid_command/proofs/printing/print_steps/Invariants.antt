@@ -2,7 +2,7 @@
 use Rattle.std.proofs.Common.{◌≡◌, map}
 use Rattle.cell_base.specs.Plans.{work}
 use Rattle.banker_check.specs.HybridPlans.{plan_h_of}
-use Rattle.cell_texts.specs.Blocks.{step_line}
+use Rattle.record_printer.specs.Blocks.{step_line}
 use Rattle.printer.proofs.Sequences.{PrintsTo}
 use Rattle.hybrid_command.proofs.printing.print_steps.Given as goal
 

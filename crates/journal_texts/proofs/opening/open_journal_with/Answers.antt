@@ -18,7 +18,7 @@ returns-clause-opening g c =
 
 pub returns-clause-taken : goal.returns-clause-taken
 returns-clause-taken g c =
-    taken g.K.Taker.took c.args.kept c.open_with.result c.opened_or_end.result c.opened_or_end.ensures c.open_with.ensures.taken
+    taken g.K.GrantVisitor.visited c.args.kept c.open_with.result c.opened_or_end.result c.opened_or_end.ensures c.open_with.ensures.taken
 
 pub returns-clause-ended : goal.returns-clause-ended
 returns-clause-ended g c =

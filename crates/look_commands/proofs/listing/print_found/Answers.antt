@@ -2,7 +2,7 @@
 use Rattle.std.proofs.Common.{◌∙◌, List, ap}
 use Rattle.cell_base.specs.declared.cells.Cell.{Cell}
 use Rattle.cell_base.specs.declared.shifts.Grant.{Grant}
-use Rattle.cell_texts.specs.Blocks.{history_lines, planned_block}
+use Rattle.record_printer.specs.Blocks.{history_lines, planned_block}
 use Rattle.printer.proofs.Sequences.{prints_as, prints_more}
 use Rattle.look_commands.specs.Grants.{history_of}
 use Rattle.look_commands.proofs.listing.print_found.Goals as goal

@@ -3,7 +3,7 @@ use Rattle.std.proofs.Common.{◌-◌, List, ℕ, length, take, drop}
 use Rattle.std.proofs.lemmas.List.{take_rest}
 use Rattle.outside_io.specs.Moments.{widened}
 use Rattle.outside_io.specs.Telling.{turned, shown}
-use Rattle.move_journal.specs.Journals.{IsJournal}
+use Rattle.journal_format.specs.Journals.{IsJournal}
 use Rattle.move_journal.proofs.Turning.{on_ok}
 use Rattle.move_journal.proofs.Staging.{records_torn, records_written}
 use Rattle.move_journal.proofs.entry_write.write_records.Goals as goal

@@ -1,7 +1,7 @@
 -- What is printed is handed on.
 use Rattle.std.proofs.Common.{arith, rules, ◌≤◌}
 use Rattle.outside_io.specs.Causes.{Rose}
-use Rattle.cell_texts.specs.Blocks.{left_in_core}
+use Rattle.record_printer.specs.Blocks.{left_in_core}
 use Rattle.serve_command.proofs.Printing.{failed_beside, failed_faults, failed_took, flush_went, handed_cause, handed_on_beside}
 use Rattle.serve_command.proofs.Printing.{handed_part, handed_whole, on_err, on_ok}
 use Rattle.serve_command.proofs.beside.print_left_beside.Goals as goal

@@ -7,10 +7,10 @@ use Rattle.cell_base.specs.declared.shifts.Grant.{Grant}
 use Rattle.cell_base.specs.Fits.{RequestFits}
 use Rattle.cell_base.specs.Histories.{replay}
 use Rattle.durable_cell.specs.Made.{IsUnmade}
-use Rattle.shift_recovery.specs.Replayed.{opened_as}
+use Rattle.journal_format.specs.Replayed.{opened_as}
 use Rattle.live_cell.specs.LiveState.{LiveState}
 use Rattle.live_cell.specs.Openings.{IsOpened}
-use Rattle.shift_recovery.specs.Reads.{OnlyReads}
+use Rattle.journal_format.specs.Reads.{OnlyReads}
 use Rattle.cell_walks.specs.Allowed.{NotOpened, OpeningFailed, OpeningRefused, OpeningStarved}
 use Rattle.cell_walks.specs.DiskTold.{disk_told}
 use Rattle.cell_texts.specs.Tests.{known}

@@ -1,5 +1,6 @@
 -- The head, and then round after round.
 use Rattle.std.proofs.Common.{◌<◌, ℕ, [], ◌∷◌, Ok, length, ap, arith, inl, inr, map, refl, subst, sym, ◌∙◌, ◌++◌}
+use Rattle.std.proofs.lemmas.Result.{err_from_is_err_and}
 use Rattle.cell_base.specs.declared.cells.Cell.{Cell}
 use Rattle.input_lines.specs.Reading.{LinesState}
 use Rattle.lent_peers.specs.Beside.{IsBeside}
@@ -27,7 +28,7 @@ returns-in-Err-clause-converses g c = λ cell_text opening behind.
     c.print_beside.ensures.beside.unread c.print_beside.ensures.beside.no_read
     g.T.Peer.taken g.T.Peer.was_put g.T.Peer.faults c.args.peer.now c.print_beside.new.peer c.head_line-head.result
     (c.head_line-head.ensures ∙ ap (λ (n : ℕ). line_of (head_words 0 n)) c.len.ensures)
-    (omega (arith, c.core-core.ensures.room, c.requires.ready.room))
+    (omega (arith, c.live_law.ensures.room, c.requires.ready.room))
     (subst (TookSome (peer_took g.T.Peer c.args.peer.now c.print_beside.new.peer)) c.from_ref.ensures.value c.in-Err.ensures.part)
     c.in-Err.ensures.cause.failed
 
@@ -40,8 +41,8 @@ returns-in-Err-clause-lives g c = λ start is.
     c.print_beside.ensures.beside.unread c.print_beside.ensures.beside.no_read
     g.T.Peer.taken g.T.Peer.was_put g.T.Peer.faults c.args.peer.now c.print_beside.new.peer c.head_line-head.result
     (c.head_line-head.ensures ∙ ap (λ (n : ℕ). line_of (head_words 0 n)) c.len.ensures)
-    (omega (arith, c.core-core.ensures.room, c.requires.ready.room)))
-    (omega (arith, c.core-core.ensures.room, c.requires.ready.room))
+    (omega (arith, c.live_law.ensures.room, c.requires.ready.room)))
+    (omega (arith, c.live_law.ensures.room, c.requires.ready.room))
     (subst (λ (d : _). IsBeside g.D.Disk g.T.Peer d c.args.peer.now c.print_beside.new.peer (c.head_line-head.result ∷ [])) c.disk.ensures
     (subst (IsBeside g.D.Disk g.T.Peer c.disk.result.now c.args.peer.now c.print_beside.new.peer) c.from_ref.ensures.value
     c.print_beside.ensures.beside))
@@ -64,7 +65,7 @@ loop-round-init g c = record {
         c.print_beside.ensures.beside.unread c.print_beside.ensures.beside.no_read
         g.T.Peer.taken g.T.Peer.was_put g.T.Peer.faults c.args.peer.now c.print_beside.new.peer c.head_line-head.result
         (c.head_line-head.ensures ∙ ap (λ (n : ℕ). line_of (head_words 0 n)) c.len.ensures)
-        (omega (arith, c.core-core.ensures.room, c.requires.ready.room))
+        (omega (arith, c.live_law.ensures.room, c.requires.ready.room))
         (subst (TookAll (peer_took g.T.Peer c.args.peer.now c.print_beside.new.peer)) c.from_ref.ensures.value c.in_default.ensures.whole)
         c.in_default.ensures.cause.kept),
   );
@@ -76,33 +77,35 @@ loop-round-init g c = record {
       c.print_beside.ensures.beside.unread c.print_beside.ensures.beside.no_read
       g.T.Peer.taken g.T.Peer.was_put g.T.Peer.faults c.args.peer.now c.print_beside.new.peer c.head_line-head.result
       (c.head_line-head.ensures ∙ ap (λ (n : ℕ). line_of (head_words 0 n)) c.len.ensures)
-      (omega (arith, c.core-core.ensures.room, c.requires.ready.room)))
-      (omega (arith, c.core-core.ensures.room, c.requires.ready.room))
+      (omega (arith, c.live_law.ensures.room, c.requires.ready.room)))
+      (omega (arith, c.live_law.ensures.room, c.requires.ready.room))
       (subst (λ (d : _). IsBeside g.D.Disk g.T.Peer d c.args.peer.now c.print_beside.new.peer (c.head_line-head.result ∷ [])) c.disk.ensures
       (subst (IsBeside g.D.Disk g.T.Peer c.disk.result.now c.args.peer.now c.print_beside.new.peer) c.from_ref.ensures.value
       c.print_beside.ensures.beside));
 }
 
-pub returns-in-Err-round-clause-converses : goal.returns-in-Err-round-clause-converses
-returns-in-Err-round-clause-converses g c = λ cell_text opening behind.
+pub returns-in_err-round-clause-converses : goal.returns-in_err-round-clause-converses
+returns-in_err-round-clause-converses g c = λ cell_text opening behind.
     let server = c.args.server.now in
     let cell = server.live.cell in
     let so = c.loop-round.invariant.goes_on cell_text opening behind in
     let front = talk_after cell (opened opening) (map (ask_of cell) so.0) in
-    let last = c.in-Err-round.ensures.round cell_text front so.1.text so.0 so.1.stands_after so.1.reads in
-    stops g.D.Disk.reads_as g.D.Disk.may_leave g.D.Disk.moment g.D.Disk.left_since g.D.Disk.faults cell cell_text opening server.live.disk
+    let last = c.in_err-round.ensures.round cell_text front so.1.text so.0 so.1.stands_after so.1.reads in
+    let p = err_from_is_err_and c.from_residual.result c.from_residual.ensures.1 in
+    rw (p.1, p.2)
+    (stops g.D.Disk.reads_as g.D.Disk.may_leave g.D.Disk.moment g.D.Disk.left_since g.D.Disk.faults cell cell_text opening server.live.disk
     c.loop-round.server c.loop-round.lines so.0
     (peer_gave g.T.Peer c.args.peer.now c.round.new.peer) g.T.Peer.taken g.T.Peer.was_put g.T.Peer.faults c.args.peer.now c.loop-round.peer
     (input_kept g.D.Disk.reads_as g.D.Disk.may_leave g.D.Disk.moment g.D.Disk.left_since g.D.Disk.faults cell cell_text opening server.live.disk c.loop-round.server c.loop-round.lines so.0
     (peer_took g.T.Peer c.args.peer.now c.loop-round.peer) g.T.Peer.given g.T.Peer.has_ended g.T.Peer.read_faults
     c.args.peer.now c.loop-round.peer c.round.new.peer so.1 c.round.ensures.unread c.round.ensures.no_read)
-    c.round.new.peer c.round.new.self c.round.new.lines c.in-Err-round.status
+    c.round.new.peer c.round.new.self c.round.new.lines c.in_err-round.field-0.0
     (subst (λ (x : Cell). IsLastRound g.D.Disk.reads_as g.D.Disk.may_leave g.D.Disk.moment g.D.Disk.left_since g.D.Disk.faults x
     (peer_took g.T.Peer c.loop-round.peer c.round.new.peer) cell_text front so.1.text so.0
-    c.loop-round.server c.round.new.self c.round.new.lines c.in-Err-round.status) so.1.cell_is last)
+    c.loop-round.server c.round.new.self c.round.new.lines c.in_err-round.field-0.0) so.1.cell_is last))
 
-pub returns-in-Err-round-clause-lives : goal.returns-in-Err-round-clause-lives
-returns-in-Err-round-clause-lives g c = λ start is.
+pub returns-in_err-round-clause-lives : goal.returns-in_err-round-clause-lives
+returns-in_err-round-clause-lives g c = λ start is.
     let server = c.args.server.now in
     let so = c.loop-round.invariant.goes_on start.text start.opening is.stands_after in
     lives_then g.D.Disk g.T.Peer start server.live.disk c.loop-round.server.live.disk c.round.new.self.live.disk
@@ -116,7 +119,7 @@ returns-in-Ok-eq0-clause-converses g c = λ cell_text opening behind.
     let cell = server.live.cell in
     let so = c.loop-round.invariant.goes_on cell_text opening behind in
     let front = talk_after cell (opened opening) (map (ask_of cell) so.0) in
-    let said = c.in_default-round.ensures.round cell_text front so.1.text so.0 so.1.stands_after so.1.reads in
+    let said = c.in_ok-round.ensures.round cell_text front so.1.text so.0 so.1.stands_after so.1.reads in
     let round = subst (λ (x : Cell). IsRound g.D.Disk.reads_as g.D.Disk.may_leave g.D.Disk.moment g.D.Disk.left_since g.D.Disk.faults x
     (peer_took g.T.Peer c.loop-round.peer c.round.new.peer) cell_text front so.1.text so.0
     c.loop-round.server c.round.new.self c.round.new.lines said.0) so.1.cell_is said.1 in
@@ -126,8 +129,8 @@ returns-in-Ok-eq0-clause-converses g c = λ cell_text opening behind.
     (input_kept g.D.Disk.reads_as g.D.Disk.may_leave g.D.Disk.moment g.D.Disk.left_since g.D.Disk.faults cell cell_text opening server.live.disk c.loop-round.server c.loop-round.lines so.0
     (peer_took g.T.Peer c.args.peer.now c.loop-round.peer) g.T.Peer.given g.T.Peer.has_ended g.T.Peer.read_faults
     c.args.peer.now c.loop-round.peer c.round.new.peer so.1 c.round.ensures.unread c.round.ensures.no_read)
-    c.round.new.peer c.round.new.self c.round.new.lines said.0 round c.in_default-round.ensures.still
-    c.in_default-round.ensures.fed in
+    c.round.new.peer c.round.new.self c.round.new.lines said.0 round c.in_ok-round.ensures.no_peer_fault
+    c.in_ok-round.ensures.no_disk_fault in
     let gives = c.in-Ok-eq0.ensures.goes_on in (
       c.fill.new.self,
       so.0 ++ said.0,
@@ -157,7 +160,7 @@ returns-in-Ok-eq0-clause-lives g c = λ start is.
     let cell = server.live.cell in
     let so = c.loop-round.invariant.goes_on start.text start.opening is.stands_after in
     let front = talk_after cell (opened start.opening) (map (ask_of cell) so.0) in
-    let said = c.in_default-round.ensures.round start.text front so.1.text so.0 so.1.stands_after so.1.reads in
+    let said = c.in_ok-round.ensures.round start.text front so.1.text so.0 so.1.stands_after so.1.reads in
     let round = subst (λ (x : Cell). IsRound g.D.Disk.reads_as g.D.Disk.may_leave g.D.Disk.moment g.D.Disk.left_since g.D.Disk.faults x
     (peer_took g.T.Peer c.loop-round.peer c.round.new.peer) start.text front so.1.text so.0
     c.loop-round.server c.round.new.self c.round.new.lines said.0) so.1.cell_is said.1 in
@@ -167,8 +170,8 @@ returns-in-Ok-eq0-clause-lives g c = λ start is.
     (input_kept g.D.Disk.reads_as g.D.Disk.may_leave g.D.Disk.moment g.D.Disk.left_since g.D.Disk.faults cell start.text start.opening server.live.disk c.loop-round.server c.loop-round.lines so.0
     (peer_took g.T.Peer c.args.peer.now c.loop-round.peer) g.T.Peer.given g.T.Peer.has_ended g.T.Peer.read_faults
     c.args.peer.now c.loop-round.peer c.round.new.peer so.1 c.round.ensures.unread c.round.ensures.no_read)
-    c.round.new.peer c.round.new.self c.round.new.lines said.0 round c.in_default-round.ensures.still
-    c.in_default-round.ensures.fed in
+    c.round.new.peer c.round.new.self c.round.new.lines said.0 round c.in_ok-round.ensures.no_peer_fault
+    c.in_ok-round.ensures.no_disk_fault in
     let lived = lives_then g.D.Disk g.T.Peer start server.live.disk c.loop-round.server.live.disk c.round.new.self.live.disk
     c.args.peer.now c.loop-round.peer c.round.new.peer (c.loop-round.invariant.lives start is) so.1.left.tells
     (λ clock. c.round.ensures.lives start so.1.text so.0
@@ -188,7 +191,7 @@ returns-in-Err-fill-clause-converses g c = λ cell_text opening behind.
     let cell = server.live.cell in
     let so = c.loop-round.invariant.goes_on cell_text opening behind in
     let front = talk_after cell (opened opening) (map (ask_of cell) so.0) in
-    let said = c.in_default-round.ensures.round cell_text front so.1.text so.0 so.1.stands_after so.1.reads in
+    let said = c.in_ok-round.ensures.round cell_text front so.1.text so.0 so.1.stands_after so.1.reads in
     let round = subst (λ (x : Cell). IsRound g.D.Disk.reads_as g.D.Disk.may_leave g.D.Disk.moment g.D.Disk.left_since g.D.Disk.faults x
     (peer_took g.T.Peer c.loop-round.peer c.round.new.peer) cell_text front so.1.text so.0
     c.loop-round.server c.round.new.self c.round.new.lines said.0) so.1.cell_is said.1 in
@@ -198,8 +201,8 @@ returns-in-Err-fill-clause-converses g c = λ cell_text opening behind.
     (input_kept g.D.Disk.reads_as g.D.Disk.may_leave g.D.Disk.moment g.D.Disk.left_since g.D.Disk.faults cell cell_text opening server.live.disk c.loop-round.server c.loop-round.lines so.0
     (peer_took g.T.Peer c.args.peer.now c.loop-round.peer) g.T.Peer.given g.T.Peer.has_ended g.T.Peer.read_faults
     c.args.peer.now c.loop-round.peer c.round.new.peer so.1 c.round.ensures.unread c.round.ensures.no_read)
-    c.round.new.peer c.round.new.self c.round.new.lines said.0 round c.in_default-round.ensures.still
-    c.in_default-round.ensures.fed in
+    c.round.new.peer c.round.new.self c.round.new.lines said.0 round c.in_ok-round.ensures.no_peer_fault
+    c.in_ok-round.ensures.no_disk_fault in
     is_lost g.D.Disk.reads_as g.D.Disk.may_leave g.D.Disk.moment g.D.Disk.left_since g.D.Disk.faults cell cell_text opening
     server.live.disk c.round.new.self c.round.new.lines
     (so.0 ++ said.0) g.T.Peer.given g.T.Peer.has_ended g.T.Peer.read_faults c.args.peer.now
@@ -218,7 +221,7 @@ returns-in-Err-fill-clause-lives g c = λ start is.
     let cell = server.live.cell in
     let so = c.loop-round.invariant.goes_on start.text start.opening is.stands_after in
     let front = talk_after cell (opened start.opening) (map (ask_of cell) so.0) in
-    let said = c.in_default-round.ensures.round start.text front so.1.text so.0 so.1.stands_after so.1.reads in
+    let said = c.in_ok-round.ensures.round start.text front so.1.text so.0 so.1.stands_after so.1.reads in
     let round = subst (λ (x : Cell). IsRound g.D.Disk.reads_as g.D.Disk.may_leave g.D.Disk.moment g.D.Disk.left_since g.D.Disk.faults x
     (peer_took g.T.Peer c.loop-round.peer c.round.new.peer) start.text front so.1.text so.0
     c.loop-round.server c.round.new.self c.round.new.lines said.0) so.1.cell_is said.1 in
@@ -228,8 +231,8 @@ returns-in-Err-fill-clause-lives g c = λ start is.
     (input_kept g.D.Disk.reads_as g.D.Disk.may_leave g.D.Disk.moment g.D.Disk.left_since g.D.Disk.faults cell start.text start.opening server.live.disk c.loop-round.server c.loop-round.lines so.0
     (peer_took g.T.Peer c.args.peer.now c.loop-round.peer) g.T.Peer.given g.T.Peer.has_ended g.T.Peer.read_faults
     c.args.peer.now c.loop-round.peer c.round.new.peer so.1 c.round.ensures.unread c.round.ensures.no_read)
-    c.round.new.peer c.round.new.self c.round.new.lines said.0 round c.in_default-round.ensures.still
-    c.in_default-round.ensures.fed in
+    c.round.new.peer c.round.new.self c.round.new.lines said.0 round c.in_ok-round.ensures.no_peer_fault
+    c.in_ok-round.ensures.no_disk_fault in
     let lived = lives_then g.D.Disk g.T.Peer start server.live.disk c.loop-round.server.live.disk c.round.new.self.live.disk
     c.args.peer.now c.loop-round.peer c.round.new.peer (c.loop-round.invariant.lives start is) so.1.left.tells
     (λ clock. c.round.ensures.lives start so.1.text so.0
@@ -249,14 +252,14 @@ returns-in-Err-fill-clause-lives g c = λ start is.
 
 pub loop-round-preserved-in-Ok : goal.loop-round-preserved-in-Ok
 loop-round-preserved-in-Ok g c = record {
-  ready = c.in_default-round.ensures.ready;
-  handed = c.fill.ensures.read.still ∙ c.in_default-round.ensures.handed c.loop-round.invariant.handed ∙ sym c.fill.ensures.read.same;
+  ready = c.in_ok-round.ensures.ready;
+  handed = c.fill.ensures.read.none_handed ∙ c.in_ok-round.ensures.handed c.loop-round.invariant.handed ∙ sym c.fill.ensures.read.same;
   goes_on = λ cell_text opening behind.
       let server = c.args.server.now in
       let cell = server.live.cell in
       let so = c.loop-round.invariant.goes_on cell_text opening behind in
       let front = talk_after cell (opened opening) (map (ask_of cell) so.0) in
-      let said = c.in_default-round.ensures.round cell_text front so.1.text so.0 so.1.stands_after so.1.reads in
+      let said = c.in_ok-round.ensures.round cell_text front so.1.text so.0 so.1.stands_after so.1.reads in
       let round = subst (λ (x : Cell). IsRound g.D.Disk.reads_as g.D.Disk.may_leave g.D.Disk.moment g.D.Disk.left_since g.D.Disk.faults x
       (peer_took g.T.Peer c.loop-round.peer c.round.new.peer) cell_text front so.1.text so.0
       c.loop-round.server c.round.new.self c.round.new.lines said.0) so.1.cell_is said.1 in
@@ -266,8 +269,8 @@ loop-round-preserved-in-Ok g c = record {
       (input_kept g.D.Disk.reads_as g.D.Disk.may_leave g.D.Disk.moment g.D.Disk.left_since g.D.Disk.faults cell cell_text opening server.live.disk c.loop-round.server c.loop-round.lines so.0
       (peer_took g.T.Peer c.args.peer.now c.loop-round.peer) g.T.Peer.given g.T.Peer.has_ended g.T.Peer.read_faults
       c.args.peer.now c.loop-round.peer c.round.new.peer so.1 c.round.ensures.unread c.round.ensures.no_read)
-      c.round.new.peer c.round.new.self c.round.new.lines said.0 round c.in_default-round.ensures.still
-      c.in_default-round.ensures.fed in (
+      c.round.new.peer c.round.new.self c.round.new.lines said.0 round c.in_ok-round.ensures.no_peer_fault
+      c.in_ok-round.ensures.no_disk_fault in (
         so.0 ++ said.0,
         piece_comes g.D.Disk.reads_as g.D.Disk.may_leave g.D.Disk.moment g.D.Disk.left_since g.D.Disk.faults cell cell_text opening
             server.live.disk c.round.new.self c.round.new.lines c.fill.new.self (so.0 ++ said.0)
@@ -283,7 +286,7 @@ loop-round-preserved-in-Ok g c = record {
       let cell = server.live.cell in
       let so = c.loop-round.invariant.goes_on start.text start.opening is.stands_after in
       let front = talk_after cell (opened start.opening) (map (ask_of cell) so.0) in
-      let said = c.in_default-round.ensures.round start.text front so.1.text so.0 so.1.stands_after so.1.reads in
+      let said = c.in_ok-round.ensures.round start.text front so.1.text so.0 so.1.stands_after so.1.reads in
       let round = subst (λ (x : Cell). IsRound g.D.Disk.reads_as g.D.Disk.may_leave g.D.Disk.moment g.D.Disk.left_since g.D.Disk.faults x
       (peer_took g.T.Peer c.loop-round.peer c.round.new.peer) start.text front so.1.text so.0
       c.loop-round.server c.round.new.self c.round.new.lines said.0) so.1.cell_is said.1 in
@@ -293,8 +296,8 @@ loop-round-preserved-in-Ok g c = record {
       (input_kept g.D.Disk.reads_as g.D.Disk.may_leave g.D.Disk.moment g.D.Disk.left_since g.D.Disk.faults cell start.text start.opening server.live.disk c.loop-round.server c.loop-round.lines so.0
       (peer_took g.T.Peer c.args.peer.now c.loop-round.peer) g.T.Peer.given g.T.Peer.has_ended g.T.Peer.read_faults
       c.args.peer.now c.loop-round.peer c.round.new.peer so.1 c.round.ensures.unread c.round.ensures.no_read)
-      c.round.new.peer c.round.new.self c.round.new.lines said.0 round c.in_default-round.ensures.still
-      c.in_default-round.ensures.fed in
+      c.round.new.peer c.round.new.self c.round.new.lines said.0 round c.in_ok-round.ensures.no_peer_fault
+      c.in_ok-round.ensures.no_disk_fault in
       let lived = lives_then g.D.Disk g.T.Peer start server.live.disk c.loop-round.server.live.disk c.round.new.self.live.disk
       c.args.peer.now c.loop-round.peer c.round.new.peer (c.loop-round.invariant.lives start is) so.1.left.tells
       (λ clock. c.round.ensures.lives start so.1.text so.0
@@ -311,14 +314,14 @@ loop-round-preserved-in-Ok g c = record {
 
 pub loop-round-preserved : goal.loop-round-preserved
 loop-round-preserved g c = record {
-  ready = c.in_default-round.ensures.ready;
-  handed = c.in_default-round.ensures.handed c.loop-round.invariant.handed;
+  ready = c.in_ok-round.ensures.ready;
+  handed = c.in_ok-round.ensures.handed c.loop-round.invariant.handed;
   goes_on = λ cell_text opening behind.
       let server = c.args.server.now in
       let cell = server.live.cell in
       let so = c.loop-round.invariant.goes_on cell_text opening behind in
       let front = talk_after cell (opened opening) (map (ask_of cell) so.0) in
-      let said = c.in_default-round.ensures.round cell_text front so.1.text so.0 so.1.stands_after so.1.reads in
+      let said = c.in_ok-round.ensures.round cell_text front so.1.text so.0 so.1.stands_after so.1.reads in
       let round = subst (λ (x : Cell). IsRound g.D.Disk.reads_as g.D.Disk.may_leave g.D.Disk.moment g.D.Disk.left_since g.D.Disk.faults x
       (peer_took g.T.Peer c.loop-round.peer c.round.new.peer) cell_text front so.1.text so.0
       c.loop-round.server c.round.new.self c.round.new.lines said.0) so.1.cell_is said.1 in
@@ -328,8 +331,8 @@ loop-round-preserved g c = record {
       (input_kept g.D.Disk.reads_as g.D.Disk.may_leave g.D.Disk.moment g.D.Disk.left_since g.D.Disk.faults cell cell_text opening server.live.disk c.loop-round.server c.loop-round.lines so.0
       (peer_took g.T.Peer c.args.peer.now c.loop-round.peer) g.T.Peer.given g.T.Peer.has_ended g.T.Peer.read_faults
       c.args.peer.now c.loop-round.peer c.round.new.peer so.1 c.round.ensures.unread c.round.ensures.no_read)
-      c.round.new.peer c.round.new.self c.round.new.lines said.0 round c.in_default-round.ensures.still
-      c.in_default-round.ensures.fed in (so.0 ++ said.0, conv);
+      c.round.new.peer c.round.new.self c.round.new.lines said.0 round c.in_ok-round.ensures.no_peer_fault
+      c.in_ok-round.ensures.no_disk_fault in (so.0 ++ said.0, conv);
   lives = λ start is.
       let server = c.args.server.now in
       let so = c.loop-round.invariant.goes_on start.text start.opening is.stands_after in

@@ -4,7 +4,7 @@ use Rattle.outside_io.specs.Causes.{Rose}
 use Rattle.outside_io.specs.PutLaws.{failed_after, failed_before, took_more}
 use Rattle.outside_io.specs.Puts.{TookAll, TookSome}
 use Rattle.admission_core.specs.CoreState.{CoreState}
-use Rattle.cell_texts.specs.Blocks.{left_in_core}
+use Rattle.record_printer.specs.Blocks.{left_in_core}
 use Rattle.lent_peers.specs.Beside.{IsBeside}
 use Rattle.live_cell.specs.LiveState.{LiveState}
 use Rattle.peers.specs.Meanings.{peer_took}

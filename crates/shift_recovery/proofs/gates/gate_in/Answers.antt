@@ -2,7 +2,7 @@
 use Rattle.std.proofs.Common.{List, ℕ, ◌-◌, length, sym, ◌∙◌, ap, arith, take, drop, length-take, length-drop}
 use Rattle.std.proofs.lemmas.List.{take_rest}
 use Rattle.entry_codec.specs.Decoding.{grant_of}
-use Rattle.shift_recovery.proofs.Windowed.{gate_whole}
+use Rattle.journal_format.proofs.Windowed.{gate_whole}
 use Rattle.shift_recovery.proofs.gates.gate_in.Goals as goal
 
 pub returns-in-Some-decode-clause-found : goal.returns-in-Some-decode-clause-found

@@ -4,7 +4,7 @@ use Rattle.std.specs.Prelude.{slice_range}
 use Rattle.std.proofs.lemmas.List.{take_at}
 use Rattle.shift_recovery.specs.declared.pieces.TheConstants.{PIECE}
 use Rattle.outside_io.specs.Telling.{where_told, told}
-use Rattle.shift_recovery.proofs.Windowed.{piece_more}
+use Rattle.journal_format.proofs.Windowed.{piece_more}
 use Rattle.shift_recovery.proofs.pieces.with_piece.Goals as goal
 
 pub returns-clause-bytes : goal.returns-clause-bytes

@@ -2,11 +2,11 @@
 use Rattle.std.specs.Prelude.{Some, None}
 use Rattle.std.proofs.Common.{◌≡◌, ◌+◌, ◌-◌, ◌≤◌, ◌∙◌, ◌++◌, ℕ, List, length, drop, take, refl, ap, sym, arith, length-take, length-drop}
 use Rattle.std.proofs.lemmas.List.{take_rest, drop-append-le}
-use Rattle.move_journal.specs.declared.head_write.TheConstants.{TEXT_AT}
-use Rattle.shift_recovery.specs.Readings.{first_difference}
+use Rattle.journal_format.specs.declared.head.TheConstants.{TEXT_AT}
+use Rattle.journal_format.specs.Readings.{first_difference}
 use Rattle.outside_io.specs.Telling.{where_told, told}
-use Rattle.shift_recovery.proofs.OnlyReading.{reads_none, reads_then}
-use Rattle.shift_recovery.proofs.Stepping.{shows_more}
+use Rattle.journal_format.proofs.OnlyReading.{reads_none, reads_then}
+use Rattle.journal_format.proofs.Stepping.{shows_more}
 use Rattle.shift_recovery.proofs.Differences.{compared_some, compared_none, text_longer, text_ends}
 use Rattle.shift_recovery.proofs.texts.compare.Goals as goal
 

@@ -1,9 +1,9 @@
 -- Up to here the texts are the same, so the first difference is that of the rest.
 use Rattle.std.specs.Prelude.{IfSome}
 use Rattle.std.proofs.Common.{◌≡◌, ◌+◌, ◌-◌, ◌≤◌, length, take, drop}
-use Rattle.move_journal.specs.declared.head_write.TheConstants.{TEXT_AT}
-use Rattle.shift_recovery.specs.Readings.{first_difference}
-use Rattle.shift_recovery.specs.Reads.{OnlyReads}
+use Rattle.journal_format.specs.declared.head.TheConstants.{TEXT_AT}
+use Rattle.journal_format.specs.Readings.{first_difference}
+use Rattle.journal_format.specs.Reads.{OnlyReads}
 use Rattle.shift_recovery.specs.Windows.{BeginsAt, AreOfFile}
 use Rattle.shift_recovery.proofs.texts.compare.Given as goal
 

@@ -1,6 +1,6 @@
 -- Up to the index there is no difference.
 use Rattle.std.proofs.Common.{◌≡◌, ◌+◌, ◌≤◌, ℕ, List, ◌++◌, length, drop}
-use Rattle.shift_recovery.specs.Readings.{first_difference}
+use Rattle.journal_format.specs.Readings.{first_difference}
 use Rattle.shift_recovery.proofs.texts.difference.Given as goal
 
 abbrev pub invariant-loop-index : goal.invariant-loop-index

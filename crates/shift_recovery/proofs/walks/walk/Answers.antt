@@ -3,14 +3,13 @@ use Rattle.std.specs.Prelude.{Option, Some, Result, Ok, Err}
 use Rattle.std.proofs.Common.{◌≡◌, ◌+◌, ◌-◌, ◌≤◌, ◌≢◌, ◌∙◌, ◌++◌, ◌∷◌, [], ℕ}
 use Rattle.std.proofs.Common.{List, length, drop, take, ap, refl, arith, length-take, length-drop}
 use Rattle.std.proofs.lemmas.List.{length_push}
-use Rattle.shift_recovery.specs.declared.faults.JournalFault.{JournalFault}
-use Rattle.shift_recovery.specs.declared.faults.JournalFault.TheVariants.{Long}
+use Rattle.journal_format.specs.declared.fault.JournalFault.{JournalFault}
+use Rattle.journal_format.specs.declared.fault.JournalFault.TheVariants.{Long}
 use Rattle.cell_base.specs.declared.shifts.Grant.{Grant}
 use Rattle.entry_codec.specs.declared.encoder.TheConstants.{ENTRY_SIZE}
-use Rattle.shift_recovery.specs.Readings.{grants_from}
-use Rattle.shift_recovery.specs.Walked.{with_grants}
+use Rattle.journal_format.specs.Readings.{with_grants, grants_from}
 use Rattle.outside_io.specs.Telling.{where_told, told}
-use Rattle.shift_recovery.proofs.Stepping.{closed_ends, fault_ends, too_long, with_none, gate_known, shows_more, walk_step}
+use Rattle.journal_format.proofs.Stepping.{closed_ends, fault_ends, too_long, with_none, gate_known, shows_more, walk_step}
 use Rattle.shift_recovery.proofs.walks.walk.Goals as goal
 
 abbrev good : Option Grant → Result (Option Grant) JournalFault
@@ -104,7 +103,7 @@ gates-preserved g c =
                 (omega (arith, long, length-drop c.gates.used c.gates.kept.items)) seen.1,
           ));
       grants = new;
-      taken = c.in_ok-take-in-Some-Ok-Some.ensures c.args.taker.now c.args.first grants v.gate_is v.taken;
+      taken = c.in_ok-visit-in-Some-Ok-Some.ensures c.args.visitor.now c.args.first grants v.gate_is v.taken;
       counted = omega (arith, v.counted, size);
       gate_is = omega (arith, v.gate_is, size);
       within = omega (arith, size, v.within, other);

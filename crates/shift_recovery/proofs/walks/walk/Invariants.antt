@@ -3,9 +3,8 @@ use Rattle.std.specs.Prelude.{IfSome}
 use Rattle.std.proofs.Common.{◌≡◌, ◌+◌, ◌-◌, ◌*◌, ◌≤◌, List, length, drop}
 use Rattle.cell_base.specs.declared.shifts.Grant.{Grant}
 use Rattle.entry_codec.specs.declared.encoder.TheConstants.{ENTRY_SIZE}
-use Rattle.shift_recovery.specs.Readings.{grants_from}
-use Rattle.shift_recovery.specs.Reads.{OnlyReads}
-use Rattle.shift_recovery.specs.Walked.{with_grants}
+use Rattle.journal_format.specs.Readings.{with_grants, grants_from}
+use Rattle.journal_format.specs.Reads.{OnlyReads}
 use Rattle.shift_recovery.specs.Windows.{BeginsAt, AreOfFile}
 use Rattle.shift_recovery.proofs.walks.walk.Given as goal
 
@@ -16,7 +15,7 @@ invariant-gates g l = record {
   window : BeginsAt l.gate l.len l.at l.used l.kept.items;
   shows : AreOfFile (g.D.Disk.reads_as l.fn.disk) l.gate l.len l.at l.used l.kept.items;
   grants : List Grant;
-  taken : g.T.Taker.took l.fn.taker l.first grants l.taker;
+  taken : g.T.GrantVisitor.visited l.fn.visitor l.first grants l.visitor;
   counted : l.count ≡ length grants;
   gate_is : l.gate ≡ l.first + ENTRY_SIZE * length grants;
   within : length grants ≤ l.room;

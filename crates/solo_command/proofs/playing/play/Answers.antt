@@ -1,7 +1,7 @@
 -- The history and what is left after it are the record of the shift, printed whole or up to a line at which the sink failed.
 use Rattle.std.proofs.Common.{ap, rules}
 use Rattle.admission_core.specs.CoreState.{CoreState}
-use Rattle.cell_texts.specs.Blocks.{left_in_core, planned_block}
+use Rattle.record_printer.specs.Blocks.{left_in_core, planned_block}
 use Rattle.printer.proofs.Sequences.{prints_as, prints_more}
 use Rattle.solo_command.proofs.Soloing.{record_lines, solo_delivered, solo_record}
 use Rattle.solo_command.proofs.playing.play.Goals as goal

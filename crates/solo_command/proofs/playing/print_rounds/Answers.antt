@@ -5,7 +5,7 @@ use Rattle.cell_base.specs.declared.requests.Part.{Part}
 use Rattle.cell_base.specs.Histories.{after}
 use Rattle.cell_base.specs.Rounds.{IsRoundRobin}
 use Rattle.record_text.specs.Fitting.{EntryFits}
-use Rattle.cell_texts.specs.Blocks.{entry_line}
+use Rattle.record_printer.specs.Blocks.{entry_line}
 use Rattle.printer.proofs.Sequences.{prints_as}
 use Rattle.solo_rounds.specs.Asking.{AreAsking}
 use Rattle.solo_command.proofs.Printing.{one_more}

@@ -2,7 +2,7 @@
 use Rattle.std.proofs.Common.{◌≡◌, [], List}
 use Rattle.cell_base.specs.declared.shifts.Entry.{Entry}
 use Rattle.printer.specs.Printing.{Prints}
-use Rattle.cell_texts.specs.Blocks.{history_lines}
+use Rattle.record_printer.specs.Blocks.{history_lines}
 use Rattle.solo_rounds.specs.Asking.{AreAsking, AreReady, asks_left_in}
 use Rattle.solo_command.proofs.playing.print_rounds.Given as goal
 

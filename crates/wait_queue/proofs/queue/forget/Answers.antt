@@ -1,5 +1,5 @@
 -- One waiter more is done.
-use Rattle.std.proofs.Common.{◌≡◌, ℕ, ◌<◌, Some, None, Option, Bool, true, false, cond, ◌||◌, length, get_or, set, length-set, get_or-set_other, refl, ap, sym, subst, ◌∙◌, arith}
+use Rattle.std.proofs.Common.{◌≡◌, ℕ, ◌<◌, Some, None, Option, List, Bool, true, false, cond, ◌||◌, length, get_or, set, length-set, get_or-set_other, refl, ap, sym, subst, ◌∙◌, arith}
 use Rattle.cell_base.specs.declared.cells.ResId.{ResId}
 use Rattle.cell_base.specs.declared.requests.JobId.{JobId}
 use Rattle.std.proofs.lemmas.List.{get_or_default, set-get_or}
@@ -27,21 +27,26 @@ loop-i-preserved c =
     let within : i < length ws = c.loop-i-test.true in
     let here : i < length now = omega (arith, inv.pairs, within) in
     let new = c.unless.result in let own = c.is_of-is_own.result in
-    let same : (e : Option ResId) → c.index.result.now ≡ get_or old i e =
-    λ e. c.index.ensures ∙ get_or_default now i c.index.result.now e here ∙ inv.others i e (omega arith) in
+    let none : Option ResId = None in
+    let after = c.set.new.self.items in
+    let is : after ≡ set now i new = c.set.ensures.items in
+    let read : get_or c.as_slice.result.now i none ≡ get_or now i none =
+    ap (λ (xs : List (Option ResId)). get_or xs i none) c.as_slice.ensures in
+    let same : (e : Option ResId) → get_or c.as_slice.result.now i none ≡ get_or old i e =
+    λ e. read ∙ get_or_default now i none e here ∙ inv.others i e (omega arith) in
     record {
-      pairs = length-set now i new ∙ inv.pairs;
-      without = λ k d e h. set-one (λ (j : ℕ) (w : Option ResId). IsWithout job (get_or ws j d) (get_or old j e) w) now i new e k here
+      pairs = ap (λ (xs : List (Option ResId)). length xs) is ∙ length-set now i new ∙ inv.pairs;
+      without = λ k d e h. set-one (λ (j : ℕ) (w : Option ResId). IsWithout job (get_or ws j d) (get_or old j e) w) now after i new e k is here
           (λ away. inv.without k d e (omega (arith, h, away)))
           (subst (λ (w : Option ResId). IsWithout job (get_or ws i d) (get_or old i e) w)
           (sym (c.unless.ensures ∙ ap (λ (w : Option ResId). cond own None w) (same e)))
           (one-without job (get_or ws i d) (get_or old i e) own
           (subst (λ (w : Waiter). is_of job w.request ≡ own) (get_or_default ws i nobody d within) (sym c.is_of-is_own.ensures))));
-      others = λ k e h. get_or-set_other now i k new e (λ f. absurd (omega (arith, f, h))) ∙ inv.others k e (omega (arith, h));
+      others = λ k e h. ap (λ (xs : List (Option ResId)). get_or xs k e) is ∙ get_or-set_other now i k new e (λ f. absurd (omega (arith, f, h))) ∙ inv.others k e (omega (arith, h));
       none = λ e.
           let both = none-of c.loop-i.any own (sym c.either-any.ensures ∙ e) in
-          let kept : new ≡ get_or now i c.index.result.now =
-          c.unless.ensures ∙ ap (λ b. cond {A = Option ResId} b None c.index.result.now) both.1 ∙ c.index.ensures in
-          ap (λ (w : Option ResId). set now i w) kept ∙ set-get_or now i c.index.result.now ∙ inv.none both.0;
-      capacity = inv.capacity;
+          let kept : new ≡ get_or now i none =
+          c.unless.ensures ∙ ap (λ b. cond {A = Option ResId} b None (get_or c.as_slice.result.now i none)) both.1 ∙ read in
+          is ∙ ap (λ (w : Option ResId). set now i w) kept ∙ set-get_or now i none ∙ inv.none both.0;
+      spare = c.set.ensures.spare ∙ inv.spare;
     }

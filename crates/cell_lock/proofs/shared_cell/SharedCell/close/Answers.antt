@@ -7,7 +7,7 @@ use Rattle.durable_cell.specs.DurableState.{DurableState}
 use Rattle.cell_lock.specs.declared.board.Opening.{Opening}
 use Rattle.cell_lock.specs.declared.board.View.{View}
 use Rattle.cell_lock.specs.Openings.{Outside, first_parts, opening_of}
-use Rattle.cell_lock.specs.Views.{AtSeat, mines_of}
+use Rattle.cell_lock.specs.Views.{AtSeat, own_entries_of}
 use Rattle.cell_lock.specs.Law.{AllBegin, AllStand}
 use Rattle.cell_lock.specs.Passes.{LockId, PassState, all_answers}
 use Rattle.cell_lock.specs.Steps.{gathering}
@@ -38,8 +38,8 @@ returns g c =
     let fits = end.0 in
     let began : AllBegin (all_answers ps) a.history =
     subst (λ (x : View g.row.D.Denot). AllBegin x.answers a.history) view end.1 in
-    let mines : map (λ (p : PassState g.row.D.Denot). p.mine) ps ≡ mines_of 1 (length ps) a.history =
-    ap (λ (x : View g.row.D.Denot). x.mines) (sym view) ∙ end.2 ∙ ap (λ (k : ℕ). mines_of 1 k a.history) (sym whole) in
+    let own_entries : map (λ (p : PassState g.row.D.Denot). p.mine) ps ≡ own_entries_of 1 (length ps) a.history =
+    ap (λ (x : View g.row.D.Denot). x.own_entries) (sym view) ∙ end.2 ∙ ap (λ (k : ℕ). own_entries_of 1 k a.history) (sym whole) in
     let stand : AllStand has c.args.self.opening.shift a (all_answers ps) =
     subst (λ (z : ℕ × View g.row.D.Denot). AllStand has z.0 a z.1.answers) (λ i. ((opening_is i).shift, view i)) end.4 in
     record {
@@ -49,7 +49,7 @@ returns g c =
       added = fits.added ∙ ap (λ (x : Opening g.row.D.Denot). grants x.shift a.history) opening_is;
       unsure = fits.unsure ∙ ap (λ (x : Opening g.row.D.Denot). unsure_grant x.shift a.history) opening_is;
       seen = all_seen ps a.history began;
-      mine = all_mine c.args.self 1 ps a.history c.requires.all.numbered mines;
+      mine = all_mine c.args.self 1 ps a.history c.requires.all.numbered own_entries;
       acknowledged = all_stand has c.args.self.opening.shift a ps stand;
       disk = c.durable_law.ensures.keeps_disk;
       others = λ n out. end.3 n (subst (λ (x : Opening g.row.D.Denot). Outside x n) (sym opening_is) out);

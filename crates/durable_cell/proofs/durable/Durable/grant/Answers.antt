@@ -43,7 +43,7 @@ invariant_of-self g c =
     i.entry i.found c.apply.new.self c.append.new.self c.push-in-Ok.new.self.spare c.push.new.self.spare) (sym more) (
       keeps_history old c.append.new.self.disk grant.shift e v.0 goes.none goes.room goes.right,
       disk_has_more g.D.Disk.reads_as g.D.Disk.may_leave g.D.Disk.moment g.D.Disk.left_since g.D.Disk.faults old
-          c.append.new.self.disk (old.history ++ e ∷ []) grant goes.none v.1 appends c.in-Ok.ensures.fed
+          c.append.new.self.disk (old.history ++ e ∷ []) grant goes.none v.1 appends c.in-Ok.ensures.no_fault
           (λ file grants is stands. c.in-Ok.ensures.stored file i.text grants is stands),
       keeps_parts old grant.shift e i.entry i.found i.core c.apply.new.self i.journal c.append.new.self i.history.spare i.added.spare
           c.push-in-Ok.new.self.spare c.push.new.self.spare v.2 core_is (λ _. c.in-Ok.ensures.runs) (omega (arith, c.in-Ok.ensures.grown))

@@ -1,7 +1,7 @@
 -- A blank disk is cleared and made a journal of no grants.
 use Rattle.std.proofs.Common.{sym, subst}
 use Rattle.outside_io.specs.Telling.{where_told, told}
-use Rattle.move_journal.specs.Blanks.{IsBlank}
+use Rattle.journal_format.specs.Blanks.{IsBlank}
 use Rattle.durable_cell.specs.declared.stored.Stored.{Stored}
 use Rattle.durable_cell.specs.declared.stored.Stored.TheVariants as stored
 use Rattle.durable_cell.specs.Made.{IsMade}
@@ -28,7 +28,7 @@ returns-in_ok-clear-in-Nothing g c grants held =
     (record {
       empty = creates.empty;
       runs = creates.runs;
-      no_fault = creates.fed;
+      no_fault = creates.no_fault;
       device = creates.device;
       stored = creates.stored;
       kept = creates.kept;

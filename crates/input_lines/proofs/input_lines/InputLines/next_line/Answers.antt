@@ -1,7 +1,7 @@
 -- Up to a newline, or to the end of what was read.
 use Rattle.std.specs.Prelude.{position, slice_range}
-use Rattle.std.proofs.Common.{◌≡◌, ◌-◌, ◌≤◌, ◌∙◌, ◌++◌, List, ℕ, Some, None, ap, arith, drop, length, sym, take}
-use Rattle.std.proofs.lemmas.List.{drop_all, length-take, take_all}
+use Rattle.std.proofs.Common.{◌≡◌, suc, ◌-◌, ◌<◌, ◌≤◌, ◌∙◌, ◌++◌, List, ℕ, Some, None, ap, arith, drop, length, subst, sym, take}
+use Rattle.std.proofs.lemmas.List.{drop_all, length-drop, length-take, take_all}
 use Rattle.std.proofs.lemmas.List.Quantifiers.{position-Some}
 use Rattle.input_lines.specs.Lines.{is_newline}
 use Rattle.input_lines.specs.Reading.{LinesState}
@@ -49,6 +49,25 @@ returns-in-Some-clause-whole c = λ same text given reads.
     (ahead_after now.piece.items now.at now.end 1 some ∙ ap (drop 1) rest ∙ drop_one count old.ahead)
     c.clear.ensures
     (ap (λ v. v.items) c.swap.ensures.x_after ∙ ap (λ (s : LinesState). s.begun) kept)
+
+pub returns-in-Some-clause-shorter : goal.returns-in-Some-clause-shorter
+returns-in-Some-clause-shorter c = λ same.
+    let i = c.self.inside in
+    let ahead = c.args.self.now.ahead in
+    let count = c.in-Some.count in
+    let ahead_is = ap (λ (s : LinesState). s.ahead) c.self.view_is in
+    let at : Some count ≡ position is_newline ahead =
+    c.in-Some.ensures ∙ ap (λ (piece : List ℕ). position is_newline (slice_range piece i.at i.end)) c.deref.ensures.value
+    ∙ ap (position is_newline) ahead_is in
+    let there = position-Some is_newline ahead count 0 (sym at) in
+    let now = c.self-in-Some.inside in
+    let rest : slice_range now.piece.items now.at now.end ≡ drop count ahead =
+    ap (λ (s : LinesState). s.ahead) (c.self-in-Some.view_is ∙ c.keep.ensures) in
+    let some : 1 ≤ length (slice_range now.piece.items now.at now.end) =
+    omega (arith, length_drop count ahead there.0, ap (λ (l : List ℕ). length l) rest) in
+    let less : length (drop (suc count) ahead) < length ahead = omega (arith, there.0, length-drop (suc count) ahead) in
+    subst (λ (l : List ℕ). length l < length ahead)
+    (sym (ahead_after now.piece.items now.at now.end 1 some ∙ ap (drop 1) rest ∙ drop_one count ahead)) less
 
 pub returns-in-None-clause-none : goal.returns-in-None-clause-none
 returns-in-None-clause-none c = λ same.

@@ -1,7 +1,7 @@
 -- What an append says of the journal's disk holds of the cell's.
 use Rattle.std.proofs.Common.{◌∙◌, ap, ◌++◌, subst}
 use Rattle.move_journal.specs.Disks.{Shows}
-use Rattle.move_journal.specs.Journals.{StandsFor, IsBeforeOrAfterAll}
+use Rattle.journal_format.specs.Journals.{StandsFor, IsBeforeOrAfterAll}
 use Rattle.live_cell.specs.LiveState.{LiveState}
 use Rattle.live_cell.proofs.Committing.{shows_after}
 use Rattle.live_cell.proofs.live.LiveCell.commit.Goals as goal

@@ -5,9 +5,9 @@ use Rattle.std.proofs.lemmas.Result.{err_from_is_err_and}
 use Rattle.cell_base.specs.declared.shifts.Grant.{Grant}
 use Rattle.outside_io.specs.Causes.{Rose}
 use Rattle.outside_io.specs.Telling.{told}
-use Rattle.shift_recovery.specs.Replayed.{opened_as}
-use Rattle.shift_recovery.proofs.Replaying.{stands_opened}
-use Rattle.shift_recovery.proofs.Standing.{stands_found}
+use Rattle.journal_format.specs.Replayed.{opened_as}
+use Rattle.journal_format.proofs.Replaying.{stands_opened}
+use Rattle.journal_format.proofs.Standing.{stands_found}
 use Rattle.durable_cell.specs.StoredGrants.{disk_stored}
 use Rattle.durable_cell.proofs.HandedBack.{handed_back, is_outside}
 use Rattle.durable_cell.proofs.Opened.{unmade_since}
@@ -32,7 +32,7 @@ returns-in-Ok-into_journal-clause-opened g c =
     let resumed = c.in_ok-core.ensures.resumed in (
       resumed.grants,
       live_after g.D.Disk.reads_as g.D.Disk.may_leave g.D.Disk.moment g.D.Disk.left_since g.D.Disk.faults c.args.cell c.args.cell_text.now
-          c.args.room c.args.most g.K.Taker.took c.args.disk c.args.kept c.in_ok-core.field-0
+          c.args.room c.args.most g.K.GrantVisitor.visited c.args.disk c.args.kept c.in_ok-core.field-0
           c.in-Ok-into_journal.journal c.in-Ok.group resumed c.in_ok-core.ensures.reads
           (c.in-Ok-into_journal.ensures resumed.grants resumed.holds) c.in-Ok.ensures,
     )
@@ -46,7 +46,7 @@ returns-in-Ok-into_journal-clause-stands g c file grants is stands due fits =
     after.1.exact in
     let same : after.0 ≡ grants = cc (stood, exact) in
     subst (λ (gs : List Grant). IsLiveAfter g.D.Disk.reads_as g.D.Disk.may_leave g.D.Disk.moment g.D.Disk.left_since cell text c.args.room
-    c.args.most g.K.Taker.took c.args.disk c.args.kept gs
+    c.args.most g.K.GrantVisitor.visited c.args.disk c.args.kept gs
     (seen c.in_ok-core.field-0.core c.in-Ok-into_journal.journal c.in-Ok.group c.args.room)
     c.in_ok-core.field-0.kept) same after.1
 

@@ -2,9 +2,9 @@
 use Rattle.std.proofs.Common.{◌-◌, ◌<◌, [], ◌∷◌, length, sym, ◌∙◌, ap, subst, arith, length-append}
 use Rattle.entry_codec.specs.Decoding.{grant_of}
 use Rattle.move_journal.specs.Groups.{GroupState}
-use Rattle.move_journal.specs.Journals.{entries, group_bytes, IsReadAgain}
+use Rattle.journal_format.specs.Journals.{entries, group_bytes, IsReadAgain}
 use Rattle.std.specs.List.{AllByRecursion}
-use Rattle.move_journal.proofs.Fronts.{each-append, group-push, length-entries}
+use Rattle.journal_format.proofs.Fronts.{each-append, group-push, length-entries}
 use Rattle.move_journal.proofs.group.Group.push.Goals as goal
 
 pub invariant_of-self : goal.invariant_of-self

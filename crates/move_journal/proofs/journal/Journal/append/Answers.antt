@@ -4,7 +4,7 @@ use Rattle.entry_codec.specs.Records.{record_of}
 use Rattle.outside_io.specs.Disk.{LeavesOnly}
 use Rattle.outside_io.specs.Moments.{widened}
 use Rattle.outside_io.specs.Telling.{where_told, told, turned_back}
-use Rattle.move_journal.specs.Journals.{IsBeforeOrAfterAll}
+use Rattle.journal_format.specs.Journals.{IsBeforeOrAfterAll}
 use Rattle.move_journal.specs.Kept.{JournalState}
 use Rattle.move_journal.proofs.Turning.{rests_show, leaves_show}
 use Rattle.move_journal.proofs.Appends.{open_within, open_more, open_holds_one, read_after, stands_either}

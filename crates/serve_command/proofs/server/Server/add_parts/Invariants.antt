@@ -1,9 +1,13 @@
 -- The lines of the first of them are kept.
 use Rattle.std.proofs.Common.{◌≡◌, ◌++◌, codes, map, take}
 use Rattle.serve_command.specs.Answers.{item_line}
+use Rattle.serve_command.specs.Walking.{IsBehind}
 use Rattle.serve_command.proofs.server.Server.add_parts.Given as goal
 
 abbrev pub invariant-loop-i : goal.invariant-loop-i
-invariant-loop-i g l = l.self ≡ record l.fn.self {
-  replies = l.fn.self.replies ++ map (item_line l.fn.self.live.cell (codes "part")) (take l.i l.fn.self.live.parts);
+invariant-loop-i g l = record {
+  kept : l.self ≡ record l.fn.self {
+    replies = l.fn.self.replies ++ map (item_line l.fn.self.live.cell (codes "part")) (take l.i l.fn.self.live.parts);
+  };
+  behind : IsBehind l.fn.self.live.parts l.i l.before;
 }

@@ -17,7 +17,7 @@ settle-requires-clause-waiters g c =
     let granted : reply_to old.live.cell old.live.parts request ≡ Granted = sym arm.ensures.reply ∙ arm.field-0-is in
     let noted = subst (λ (s : Server _). NotesGrant s session request c.note_grant.new.self) arm.ensures.state c.note_grant.ensures in
     mid_waiters old c.note_grant.new.self session request c.requires.ready c.requires.fits granted (arm.ensures.had_room arm.field-0-is) noted
-    c.core-core.ensures.fits c.core-core.ensures.admitted
+    c.live_law.ensures.fits c.live_law.ensures.admitted
 
 pub returns-in-Ok-Granted-clause-decided : goal.returns-in-Ok-Granted-clause-decided
 returns-in-Ok-Granted-clause-decided g c =
@@ -47,7 +47,7 @@ returns-in-Ok-Refused-clause-decided g c =
     let refused : reply_to old.live.cell old.live.parts request ≡ Refused arm.why = cc (arm.ensures.reply, arm.field-0-is, arm.why-is) in
     record {
       reply = refused;
-      fits = answered_fits old.live.cell c.core-core.ensures.fits old.live.parts c.core-core.ensures.admitted session request
+      fits = answered_fits old.live.cell c.live_law.ensures.fits old.live.parts c.live_law.ensures.admitted session request
           c.requires.fits (Refused arm.why) (sym refused);
       same = arm.ensures.state
           ∙ ap (λ (l : LiveState _). record old { live = l }) (asked_same old.live session request arm.why refused);

@@ -18,7 +18,7 @@ end_line-line-requires-clause-known g c =
     let cell_is = c.cell.ensures.cell ∙ ap (λ (s : CoreState). s.cell) c.core.ensures.core
     ∙ ap (λ (l : LiveState _). l.cell) c.in-Ok.ensures.state in
     subst (λ (cell : Cell). ToldFits cell (Answered c.in-Ok.reply)) (sym cell_is)
-    (answered_fits old.cell c.core-core.ensures.fits old.parts c.core-core.ensures.admitted waiter.session waiter.request
+    (answered_fits old.cell c.live_law.ensures.fits old.parts c.live_law.ensures.admitted waiter.session waiter.request
     c.requires.request c.in-Ok.reply c.in-Ok.ensures.reply).told
 
 pub returns-in-Granted-clause-ended : goal.returns-in-Granted-clause-ended
@@ -57,7 +57,7 @@ returns-in-Granted-clause-waiters g c =
     (c.end_line-line.ensures
     ∙ ap (λ (cell : Cell). ended_line cell (record { session = waiter.session; request = waiter.request; told = Answered c.in-Ok.reply }))
     cell_is)
-    c.push.ensures refl refl c.requires.request c.in-Granted.is c.core-core.ensures.fits c.core-core.ensures.admitted c.requires.waiters
+    c.push.ensures refl refl c.requires.request c.in-Granted.is c.live_law.ensures.fits c.live_law.ensures.admitted c.requires.waiters
     c.note.ensures.watching c.note.ensures.room
 
 pub returns-in_default-reply-clause-ended : goal.returns-in_default-reply-clause-ended

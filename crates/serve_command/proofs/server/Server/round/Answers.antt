@@ -5,7 +5,7 @@ use Rattle.outside_io.specs.Causes.{Rose}
 use Rattle.outside_io.specs.Puts.{TookAll, TookSome}
 use Rattle.live_cell.specs.LiveState.{LiveState}
 use Rattle.move_journal.specs.Disks.{Shows}
-use Rattle.move_journal.specs.Journals.{StandsFor}
+use Rattle.journal_format.specs.Journals.{StandsFor}
 use Rattle.lent_peers.specs.Beside.{IsBeside}
 use Rattle.peers.specs.Meanings.{peer_took}
 use Rattle.cell_walks.specs.Outcomes.{printed}

@@ -1,8 +1,9 @@
 -- Line by line.
-use Rattle.std.proofs.Common.{List, ℕ, ap, arith, length, map, subst, sym, ◌∙◌}
+use Rattle.std.proofs.Common.{◌≡◌, ◌+◌, ◌≤◌, List, ℕ, ap, arith, length, map, refl, subst, sym, ◌∙◌}
 use Rattle.admission_core.specs.CoreState.{CoreState}
 use Rattle.serve_command.specs.Asks.{ask_of}
-use Rattle.serve_command.specs.Rounds.{IsAnsweredGroup, KeepsWaiters, Stays}
+use Rattle.policy_laws.proofs.Room.{few_parts}
+use Rattle.serve_command.specs.Rounds.{IsAnsweredGroup, KeepsWaiters, MAX_REPLIES, Stays}
 use Rattle.serve_command.specs.declared.server.Server.{Server}
 use Rattle.serve_command.proofs.Asking.{ask_of-kept}
 use Rattle.serve_command.proofs.Taking.{begins, finds_full, one_more, stays_more, stays_same}
@@ -16,12 +17,27 @@ loop-i-init g c =
       goes_on = λ talk text given at reads. begins c.args.self.now ready talk text given c.args.lines.now at reads;
       stays = stays_same c.args.self.now;
       waiters = ready.waiters;
+      ahead = omega arith;
+      begins = λ e. refl;
       pending = omega (arith, none, ap (λ (gs : List _). length gs) ready.pending);
     }
 
 pub returns-then-not-has_room-clause-taken : goal.returns-then-not-has_room-clause-taken
 returns-then-not-has_room-clause-taken g c = λ talk text given at reads.
     let so = c.loop-i.invariant.goes_on talk text given at reads in (so.0, so.1, so.2, omega (arith, so.3, c.loop-i-test.true))
+
+pub returns-then-not-has_room-clause-takes : goal.returns-then-not-has_room-clause-takes
+returns-then-not-has_room-clause-takes g c = λ some.
+    let ready = c.requires.ready in
+    let old = c.args.self.now in
+    let so = c.loop-i.invariant in
+    let begun : c.loop-i._i ≡ 0 → ⊥ = λ e.
+    let full = subst (λ (s : Server _). MAX_REPLIES ≤ length s.replies + length s.queue.waiters + length s.live.parts) (so.begins e)
+    (c.has_room.ensures.none c.if-not-has_room.true) in
+    let none = ap (λ (rs : List (List ℕ)). length rs) ready.replies in
+    let few = few_parts old.live.cell c.live_law.ensures.fits old.live.parts c.live_law.ensures.admitted in
+    omega (arith, full, none, few, ready.waiters.few) in
+    omega (arith, so.ahead, begun)
 
 pub returns-then-not-has_room-clause-stays : goal.returns-then-not-has_room-clause-stays
 returns-then-not-has_room-clause-stays g c = c.loop-i.invariant.stays
@@ -34,6 +50,10 @@ returns-then-not-next_line-clause-taken g c = λ talk text given at reads.
     let so = c.loop-i.invariant.goes_on talk text given at reads in
     (so.0, so.1, (c.next_line.ensures.none c.if-not-next_line.true).1 text _ so.2, omega (arith, so.3, c.loop-i-test.true))
 
+pub returns-then-not-next_line-clause-takes : goal.returns-then-not-next_line-clause-takes
+returns-then-not-next_line-clause-takes g c = λ some.
+    omega (arith, some, ap (λ (bytes : List ℕ). length bytes) (c.next_line.ensures.none c.if-not-next_line.true).0)
+
 pub returns-then-not-next_line-clause-stays : goal.returns-then-not-next_line-clause-stays
 returns-then-not-next_line-clause-stays g c = c.loop-i.invariant.stays
 
@@ -44,7 +64,7 @@ pub answer-requires-clause-ready : goal.answer-requires-clause-ready
 answer-requires-clause-ready g c =
     let so = c.loop-i.invariant in
     let ready = c.requires.ready in
-    let short = c.has_room.ensures c.if-not-has_room.false in
+    let short = c.has_room.ensures.room c.if-not-has_room.false in
     record {
       runs = so.stays.runs ∙ ready.runs;
       room = so.stays.room ∙ ready.room;
@@ -74,6 +94,10 @@ returns-in-Err-clause-taken g c = λ talk text given at reads.
       omega (arith, so.3, c.loop-i-test.true),
     )
 
+pub returns-in-Err-clause-takes : goal.returns-in-Err-clause-takes
+returns-in-Err-clause-takes g c = λ some.
+    omega (arith, c.loop-i.invariant.ahead, c.next_line.ensures.shorter c.if-not-next_line.false)
+
 pub returns-in-Err-clause-stays : goal.returns-in-Err-clause-stays
 returns-in-Err-clause-stays g c = subst (λ (s : Server _). Stays c.args.self.now s) (sym c.in-Err.ensures.same) c.loop-i.invariant.stays
 
@@ -96,12 +120,17 @@ loop-i-preserved g c =
           (c.in_default.ensures.answered _ taken.1.at) goes line.2;
       stays = stays_more c.args.self.now _ c.answer.new.self so.stays goes.stays;
       waiters = c.in_default.ensures.waiters;
+      ahead = omega (arith, so.ahead, c.next_line.ensures.shorter c.if-not-next_line.false);
+      begins = λ e. absurd (omega (arith, e));
       pending = omega (arith, so.pending, goes.told);
     }
 
 pub returns-clause-taken : goal.returns-clause-taken
 returns-clause-taken g c = λ talk text given at reads.
     let so = c.loop-i.invariant.goes_on talk text given at reads in (so.0, so.1, so.2, omega (arith, so.3))
+
+pub returns-clause-takes : goal.returns-clause-takes
+returns-clause-takes g c = λ some. omega (arith, c.loop-i.invariant.ahead)
 
 pub returns-clause-stays : goal.returns-clause-stays
 returns-clause-stays g c = c.loop-i.invariant.stays

@@ -1,5 +1,5 @@
 -- So many lines were answered.
-use Rattle.std.proofs.Common.{◌≤◌, ℕ, List, length}
+use Rattle.std.proofs.Common.{◌≡◌, ◌≤◌, ◌+◌, ℕ, List, length}
 use Rattle.input_lines.specs.Reading.{AreLinesSoFar}
 use Rattle.serve_command.specs.Rounds.{KeepsWaiters, StandsAt, Stays}
 use Rattle.serve_command.specs.Talks.{Talk}
@@ -12,5 +12,7 @@ invariant-loop-i g l = record {
       → TakenSo l.initial.self.live.cell talk l.initial.self.asked text given l.self l.lines l._i;
   stays : Stays l.initial.self l.self;
   waiters : KeepsWaiters l.self;
+  ahead : length l.lines.ahead + l._i ≤ length l.initial.lines.ahead;
+  begins : l._i ≡ 0 → l.self ≡ l.initial.self;
   pending : length l.self.live.pending ≤ length l.self.replies;
 }

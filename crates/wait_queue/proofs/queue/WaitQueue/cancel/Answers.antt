@@ -29,14 +29,14 @@ pub take-requires : goal.take-requires
 take-requires c =
     let ws = c.args.self.now.waiters in let test = is_of_session c.args.session in
     let is = subst (λ (q : QueueState). position test q.waiters ≡ Some c.in-Some.at) c.self.view_is
-    (ap (position test) (sym c.deref.ensures.value) ∙ sym c.place_of.ensures ∙ c.in-Some.is) in
+    (ap (position test) (sym c.as_slice.ensures) ∙ sym c.place_of.ensures ∙ c.in-Some.is) in
     (position-Some test ws c.in-Some.at nobody is).0
 
 pub returns-in-Some-clause-found : goal.returns-in-Some-clause-found
 returns-in-Some-clause-found c =
     let ws = c.args.self.now.waiters in let test = is_of_session c.args.session in let w = c.take.result in
     let is = subst (λ (q : QueueState). position test q.waiters ≡ Some c.in-Some.at) c.self.view_is
-    (ap (position test) (sym c.deref.ensures.value) ∙ sym c.place_of.ensures ∙ c.in-Some.is) in
+    (ap (position test) (sym c.as_slice.ensures) ∙ sym c.place_of.ensures ∙ c.in-Some.is) in
     let some = position-Some test ws c.in-Some.at w is in
     ap (λ (v : Waiter). Some v) c.take.ensures.waiter ∙ sym (first-found test ws c.in-Some.at w some.0 some.1 some.2)
 
@@ -44,18 +44,18 @@ pub returns-in-Some-clause-others : goal.returns-in-Some-clause-others
 returns-in-Some-clause-others c =
     let ws = c.args.self.now.waiters in let test = is_of_session c.args.session in let w = c.take.result in
     let is = subst (λ (q : QueueState). position test q.waiters ≡ Some c.in-Some.at) c.self.view_is
-    (ap (position test) (sym c.deref.ensures.value) ∙ sym c.place_of.ensures ∙ c.in-Some.is) in
+    (ap (position test) (sym c.as_slice.ensures) ∙ sym c.place_of.ensures ∙ c.in-Some.is) in
     let some = position-Some test ws c.in-Some.at w is in
     c.take.ensures.waiters ∙ first-removed test ws c.in-Some.at w some.0 some.1 some.2
 
 pub returns-in-None-clause-found : goal.returns-in-None-clause-found
 returns-in-None-clause-found c =
     let i = c.self.inside in let test = is_of_session c.args.session in
-    let is : position test i.waiters.items ≡ None = ap (position test) (sym c.deref.ensures.value) ∙ sym c.in-None.ensures in
+    let is : position test i.waiters.items ≡ None = ap (position test) (sym c.as_slice.ensures) ∙ sym c.in-None.ensures in
     subst (λ (q : QueueState). ◌≡◌ {A = Option Waiter} None (find test q.waiters)) c.self.view_is (sym (unplaced-find test i.waiters.items is))
 
 pub returns-in-None-clause-others : goal.returns-in-None-clause-others
 returns-in-None-clause-others c =
     let i = c.self.inside in let test = is_of_session c.args.session in
-    let is : position test i.waiters.items ≡ None = ap (position test) (sym c.deref.ensures.value) ∙ sym c.in-None.ensures in
+    let is : position test i.waiters.items ≡ None = ap (position test) (sym c.as_slice.ensures) ∙ sym c.in-None.ensures in
     subst (λ (q : QueueState). q.waiters ≡ without_first test q.waiters) c.self.view_is (sym (unplaced-rest test i.waiters.items is))

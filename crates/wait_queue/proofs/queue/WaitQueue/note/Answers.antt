@@ -15,9 +15,9 @@ pub invariant_of-self : goal.invariant_of-self
 invariant_of-self c =
     let i = c.self.inside in let old = c.self.invariant in
     let pairs : length c.forget-any.new.watches.items ≡ length i.waiters.items =
-    c.forget-any.ensures.pairs ∙ ap (λ (ws : List Waiter). length ws) c.deref.ensures.value in
+    c.forget-any.ensures.pairs ∙ ap (λ (ws : List Waiter). length ws) c.as_slice.ensures in
     let without = subst (λ (ws : List Waiter). AreWithout c.in-Some.job ws i.watches.items c.forget-any.new.watches.items)
-    c.deref.ensures.value c.forget-any.ensures.without in
+    c.as_slice.ensures c.forget-any.ensures.without in
     record {
       pairs = pairs;
       job_places = old.job_places;
@@ -30,7 +30,7 @@ invariant_of-self c =
           let both = neither i.is_stale c.forget-any.result (sym c.either-self-inside.ensures ∙ e) in
           subst (λ (xs : List (Option ResId)). AreWatched xs) (sym (c.forget-any.ensures.none both.1)) (old.fresh both.0);
       waiters_room = old.waiters_room;
-      watches_room = omega (arith, old.watches_room, c.forget-any.ensures.capacity);
+      watches_room = omega (arith, old.watches_room, c.forget-any.ensures.spare, pairs, old.pairs);
     }
 
 pub returns-then-has-clause-watching : goal.returns-then-has-clause-watching
@@ -39,7 +39,7 @@ returns-then-has-clause-watching c cell parts fits admitted fit granted watching
     let is : job_of c.args.request.now ≡ Some c.in-Some.job = sym c.job_of.ensures ∙ c.in-Some.is in
     let before = subst (λ (q : QueueState). AreWatching cell parts q.waiters q.watches) (sym c.self.view_is) watching in
     let without = subst (λ (ws : List Waiter). AreWithout c.in-Some.job ws i.watches.items c.forget-any.new.watches.items)
-    c.deref.ensures.value c.forget-any.ensures.without in
+    c.as_slice.ensures c.forget-any.ensures.without in
     noted-watching cell parts c.args.request.now c.in-Some.job i.waiters.items i.watches.items c.forget-any.new.watches.items fits admitted
     fit granted is without before
 

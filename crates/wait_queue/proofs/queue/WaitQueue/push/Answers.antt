@@ -38,25 +38,25 @@ invariant_of-self c =
       pairs = omega (
         arith,
         old.pairs,
-        ap (λ (l : List Waiter). length l) c.push_reserved.ensures.items,
-        ap (λ (l : List (Option ResId)). length l) c.push_reserved-2.ensures.items,
+        ap (λ (l : List Waiter). length l) c.push.ensures.items,
+        ap (λ (l : List (Option ResId)). length l) c.push-2.ensures.items,
         length-append ws (c.args.waiter ∷ []),
         length-append xs (new ∷ []),
       );
       job_places = omega (arith, old.job_places, c.add.ensures.places);
       session_places = omega (arith, old.session_places, c.add-2.ensures.places);
-      jobs_counted = subst (λ (l : List Waiter). AreCounted job_key c.add.new.self l) (sym c.push_reserved.ensures.items)
+      jobs_counted = subst (λ (l : List Waiter). AreCounted job_key c.add.new.self l) (sym c.push.ensures.items)
           (c.add.ensures.counted job_key ws c.args.waiter (sym c.job_number.ensures) old.jobs_counted);
-      sessions_counted = subst (λ (l : List Waiter). AreCounted session_key c.add-2.new.self l) (sym c.push_reserved.ensures.items)
+      sessions_counted = subst (λ (l : List Waiter). AreCounted session_key c.add-2.new.self l) (sym c.push.ensures.items)
           (c.add-2.ensures.counted session_key ws c.args.waiter refl old.sessions_counted);
-      covered = subst (λ (l : List (Option ResId)). AreCovered mask l) (sym c.push_reserved-2.ensures.items)
+      covered = subst (λ (l : List (Option ResId)). AreCovered mask l) (sym c.push-2.ensures.items)
           (All-push (IsCovered mask) xs new
           (λ k d h. covered-more i.watched c.args.at.0 (get_or xs k d) (old.covered k d h))
           (has_bit_set_same i.watched c.args.at.0 c.requires.at));
-      fresh = λ e. subst (λ (l : List (Option ResId)). AreWatched l) (sym c.push_reserved-2.ensures.items)
+      fresh = λ e. subst (λ (l : List (Option ResId)). AreWatched l) (sym c.push-2.ensures.items)
           (All-push (λ (w : Option ResId). w ≢ None) xs new (old.fresh e) (λ f. absurd (cc f)));
-      waiters_room = omega (arith, old.waiters_room, c.push_reserved.ensures.capacity);
-      watches_room = omega (arith, old.watches_room, c.push_reserved-2.ensures.capacity);
+      waiters_room = omega (arith, old.waiters_room, c.push.ensures.spare, ap (λ (l : List Waiter). length l) c.push.ensures.items, length-append ws (c.args.waiter ∷ []));
+      watches_room = omega (arith, old.watches_room, c.push-2.ensures.spare, ap (λ (l : List (Option ResId)). length l) c.push-2.ensures.items, length-append xs (new ∷ []));
     }
 
 pub returns-clause-watching : goal.returns-clause-watching
@@ -66,6 +66,6 @@ returns-clause-watching c cell parts held units fits admitted fit is watching =
     let new = (saturated-held cell parts admitted fits c.args.waiter.request fit c.args.at held units is).0 in
     let pushed = each-pushed (λ (w : Waiter) (x : Option ResId). IsWatch cell parts w.request x) i.waiters.items i.watches.items
     c.args.waiter (Some c.args.at) c.self.invariant.pairs before new in
-    subst (λ (ws : List Waiter). AreWatching cell parts ws c.push_reserved-2.new.self.items) (sym c.push_reserved.ensures.items)
+    subst (λ (ws : List Waiter). AreWatching cell parts ws c.push-2.new.self.items) (sym c.push.ensures.items)
     (subst (λ (xs : List (Option ResId)). AreWatching cell parts (i.waiters.items ++ c.args.waiter ∷ []) xs)
-    (sym c.push_reserved-2.ensures.items) pushed)
+    (sym c.push-2.ensures.items) pushed)

@@ -25,7 +25,7 @@ invariant_of-self c =
           old.sessions_counted);
       covered = old.covered;
       fresh = old.fresh;
-      waiters_room = omega (arith, old.waiters_room, c.renew_all.ensures.capacity);
+      waiters_room = omega (arith, old.waiters_room, c.renew_all.ensures.spare, ap (λ (ws : List Waiter). length ws) is, length-map i.waiters.items f);
       watches_room = old.watches_room;
     }
 

@@ -35,14 +35,14 @@ returns-then-self-full-eq0-clause-others c =
 pub look-requires-clause-watching : goal.look-requires-clause-watching
 look-requires-clause-watching c =
     let cell = c.args.core.now.cell in let parts = c.args.core.now.parts in
-    subst (λ (ws : List Waiter). AreWatching cell parts ws c.self.inside.watches.items) (sym c.deref.ensures.value)
+    subst (λ (ws : List Waiter). AreWatching cell parts ws c.self.inside.watches.items) (sym c.as_slice.ensures)
     (subst (λ (q : QueueState). AreWatching cell parts q.waiters q.watches) (sym c.self.view_is) c.requires.watching)
 
 pub returns-in-Ready-clause-found : goal.returns-in-Ready-clause-found
 returns-in-Ready-clause-found c =
     let i = c.self.inside in let cell = c.args.core.now.cell in let parts = c.args.core.now.parts in
     let test = is_ready cell parts in let w = c.take.result in let at = c.in-Ready.at in
-    let found = subst (λ (ws : List Waiter). IsFound cell parts ws c.look.new.watches.items (Ready at)) c.deref.ensures.value
+    let found = subst (λ (ws : List Waiter). IsFound cell parts ws c.look.new.watches.items (Ready at)) c.as_slice.ensures
     c.in-Ready.ensures.found in
     let first = first-found test i.waiters.items at w found.0 (found.1 w).0 (found.1 w).1 in
     subst (λ (q : QueueState). ◌≡◌ {A = Option Waiter} (Some w) (find test q.waiters)) c.self.view_is
@@ -52,7 +52,7 @@ pub returns-in-Ready-clause-others : goal.returns-in-Ready-clause-others
 returns-in-Ready-clause-others c =
     let i = c.self.inside in let cell = c.args.core.now.cell in let parts = c.args.core.now.parts in
     let test = is_ready cell parts in let w = c.take.result in let at = c.in-Ready.at in
-    let found = subst (λ (ws : List Waiter). IsFound cell parts ws c.look.new.watches.items (Ready at)) c.deref.ensures.value
+    let found = subst (λ (ws : List Waiter). IsFound cell parts ws c.look.new.watches.items (Ready at)) c.as_slice.ensures
     c.in-Ready.ensures.found in
     subst (λ (q : QueueState). c.take.new.self.waiters ≡ without_first test q.waiters) c.self.view_is
     (c.take.ensures.waiters ∙ first-removed test i.waiters.items at w found.0 (found.1 w).0 (found.1 w).1)
@@ -61,23 +61,23 @@ pub returns-in-Ready-clause-watching : goal.returns-in-Ready-clause-watching
 returns-in-Ready-clause-watching c =
     let cell = c.args.core.now.cell in let parts = c.args.core.now.parts in
     c.take.ensures.watching cell parts
-    (subst (λ (ws : List Waiter). AreWatching cell parts ws c.look.new.watches.items) c.deref.ensures.value c.in-Ready.ensures.watching)
+    (subst (λ (ws : List Waiter). AreWatching cell parts ws c.look.new.watches.items) c.as_slice.ensures c.in-Ready.ensures.watching)
 
 pub returns-in-Nobody-clause-found : goal.returns-in-Nobody-clause-found
 returns-in-Nobody-clause-found c =
     let i = c.self.inside in let cell = c.args.core.now.cell in let parts = c.args.core.now.parts in
     let test = is_ready cell parts in
-    let none = subst (λ (ws : List Waiter). All (λ (w : Waiter). test w ≡ false) ws) c.deref.ensures.value c.in-Nobody.ensures.found.0 in
+    let none = subst (λ (ws : List Waiter). All (λ (w : Waiter). test w ≡ false) ws) c.as_slice.ensures c.in-Nobody.ensures.found.0 in
     subst (λ (q : QueueState). ◌≡◌ {A = Option Waiter} None (find test q.waiters)) c.self.view_is (sym (find_none test i.waiters.items none))
 
 pub returns-in-Nobody-clause-others : goal.returns-in-Nobody-clause-others
 returns-in-Nobody-clause-others c =
     let i = c.self.inside in let cell = c.args.core.now.cell in let parts = c.args.core.now.parts in
     let test = is_ready cell parts in
-    let none = subst (λ (ws : List Waiter). All (λ (w : Waiter). test w ≡ false) ws) c.deref.ensures.value c.in-Nobody.ensures.found.0 in
+    let none = subst (λ (ws : List Waiter). All (λ (w : Waiter). test w ≡ false) ws) c.as_slice.ensures c.in-Nobody.ensures.found.0 in
     subst (λ (q : QueueState). i.waiters.items ≡ without_first test q.waiters) c.self.view_is (sym (none-removed test i.waiters.items none))
 
 pub returns-in-Nobody-clause-watching : goal.returns-in-Nobody-clause-watching
 returns-in-Nobody-clause-watching c =
-    subst (λ (ws : List Waiter). AreWatching c.args.core.now.cell c.args.core.now.parts ws c.look.new.watches.items) c.deref.ensures.value
+    subst (λ (ws : List Waiter). AreWatching c.args.core.now.cell c.args.core.now.parts ws c.look.new.watches.items) c.as_slice.ensures
     c.in-Nobody.ensures.watching

@@ -1,12 +1,13 @@
 -- Nobody waits, so nobody is counted.
-use Rattle.std.proofs.Common.{List, sym, subst, rules}
+use Rattle.std.proofs.Common.{List, ap, sym, subst, rules}
+use Rattle.cell_base.specs.Shelves.{Shelved}
 use Rattle.wait_queue.specs.declared.waiter.Waiter.{Waiter}
 use Rattle.wait_queue.specs.Counting.{AreCounted, job_key, session_key}
 use Rattle.wait_queue.proofs.queue.WaitQueue.with_room.Goals as goal
 
 pub invariant_of-result : goal.invariant_of-result
 invariant_of-result c =
-    let none = c.in_ok-with_capacity.ensures.items in
+    let none = ap (λ (s : Shelved Waiter). s.items) c.in_ok-with_room.ensures in
     record {
       pairs = search rules;
       job_places = c.in_ok-for_waiters.ensures.places;

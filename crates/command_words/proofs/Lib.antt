@@ -1,0 +1,2 @@
+-- Lemmas, grouped by subject.
+pub mod Written

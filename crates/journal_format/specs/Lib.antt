@@ -1,0 +1,6 @@
+-- What the contracts cite.
+pub mod Blanks
+pub mod Journals
+pub mod Readings
+pub mod Reads
+pub mod Replayed

@@ -1,0 +1,2 @@
+-- Lemmas, grouped by subject.
+mod Digits

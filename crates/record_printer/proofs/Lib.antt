@@ -1,0 +1,4 @@
+-- Lemmas, grouped by subject.
+pub mod BlockTexts
+pub mod Fitted
+pub mod Fitting
