@@ -228,8 +228,9 @@ public sealed class Cell : IDisposable
                 child.WaitForExit();
                 int status = child.ExitCode;
                 if (!isClosing || status != 0) stopped = new StoppedException(status, lines.LastOrDefault() ?? "");
-                if (!isClosing && status > 128) try { Start(); stopped = null; } catch (StoppedException fault) { stopped = fault; }
-                isOver = isClosing || stopped != null;
+                isOver = status <= 128;
+                if (!isOver) try { Start(); stopped = null; } catch (StoppedException fault) { stopped = fault; isOver = true; }
+                if (!isOver && isClosing) input.Close(); // the new one tells the last lines
                 foreach (Waiting ended in ends.Values) waiting.Enqueue(ended);
                 ends.Clear();
                 while (waiting.TryDequeue(out Waiting one))

@@ -237,15 +237,17 @@ public final class Cell implements AutoCloseable {
             synchronized (sending) {
                 int status = child.onExit().join().exitValue();
                 if (!isClosing || status != 0) stopped = new StoppedException(status, lines.isEmpty() ? "" : lines.get(lines.size() - 1));
-                if (!isClosing && status > 128) {
+                isOver = status <= 128;
+                if (!isOver) {
                     try {
                         start();
                         stopped = null;
+                        if (isClosing) input.close(); // the new one tells the last lines
                     } catch (StoppedException fault) {
                         stopped = fault;
+                        isOver = true;
                     }
                 }
-                isOver = isClosing || stopped != null;
                 waiting.addAll(ends.values());
                 ends.clear();
                 for (var one = waiting.poll(); one != null; one = waiting.poll()) {

@@ -234,11 +234,11 @@ class Cell {
         if (!hand_out(line)) lines_.push_back(line);
       if (!line.empty()) lines_.push_back(line);
       const std::lock_guard sending(sending_);
-      const bool is_closing = bool(stopped_);
-      status_ = wait_for_end();
-      if (!is_closing || status_ != 0) stopped_ = std::make_exception_ptr(Stopped(status_, lines_.empty() ? "" : lines_.back()));
-      if (!is_closing && status_ > 128) try { start(); stopped_ = nullptr; } catch (const Stopped&) { stopped_ = std::current_exception(); }
-      is_over = bool(stopped_);
+      const std::exception_ptr closed = stopped_;
+      is_over = (status_ = wait_for_end()) <= 128;
+      if (!closed || status_ != 0) stopped_ = std::make_exception_ptr(Stopped(status_, lines_.empty() ? "" : lines_.back()));
+      if (!is_over) try { start(); stopped_ = closed; } catch (const Stopped&) { stopped_ = std::current_exception(), is_over = true; }
+      if (!is_over && closed) shutdown(socket_, SHUT_WR);  // the new one tells the last lines
       for (auto& one : ends_) waiting_.push_back(std::move(one.second));
       for (ends_.clear(); !waiting_.empty(); waiting_.pop_front())
         is_over ? waiting_.front().second.set_exception(stopped_) : waiting_.front().second.set_value({});

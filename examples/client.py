@@ -237,10 +237,12 @@ class Cell:
             with self.lock:
                 lost, self.waiting, self.ends = [*self.waiting, *self.ends.values()], collections.deque(), {}
                 self.stopped = Stopped(self.child.wait(), self.lines[-1] if self.lines else "")
-                if self.child.returncode < 0 and not self.is_closing:
+                if self.child.returncode < 0:
                     try:
                         self._start()
                         self.stopped = None
+                        if self.is_closing:  # the new one tells the last lines
+                            self.child.stdin.close()
                     except Stopped as stopped:
                         self.stopped = stopped
             for _, told in lost:
