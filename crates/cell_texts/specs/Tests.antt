@@ -15,7 +15,7 @@ use Rattle.step_text.specs.declared.faults.StepFault.{StepFault}
 use Rattle.cell_walks.specs.Observed.{File, Word}
 use Rattle.cell_walks.specs.Walks.{Test}
 use Rattle.cell_walks.specs.declared.early_end.Subject.TheVariants.{Cell as OfCell, Input}
-use Rattle.cell_texts.specs.FaultNumbers.{cell_finding, shift_finding}
+use Rattle.cell_texts.specs.FaultNumbers.{cell_fault_code, shift_fault_code}
 use Rattle.cell_texts.specs.Texts.{refusal_text, step_refused}
 use Rattle.cell_texts.specs.declared.readers.CellFile.{CellFile}
 use Rattle.cell_texts.specs.OneWay.{reads_by, once}
@@ -39,7 +39,7 @@ with_text bytes (Err fault) = Err fault
 
 -- the line of a fault of a cell file; want of memory has none
 abbrev pub cell_fault_line : CellFault → Option (List ℕ)
-cell_fault_line fault = option_map (refusal_text (codes "cell")) (cell_finding fault)
+cell_fault_line fault = option_map (refusal_text (codes "cell")) (cell_fault_code fault)
 
 -- these bytes read as a cell with its text, or have this fault
 abbrev pub cell_reads : List ℕ → Result KnownCell CellFault → Type 0
@@ -59,7 +59,7 @@ cell_file name = record {
 
 -- the same of a shift file
 abbrev pub shift_fault_line : ShiftFault → Option (List ℕ)
-shift_fault_line fault = option_map (refusal_text (codes "shift")) (shift_finding fault)
+shift_fault_line fault = option_map (refusal_text (codes "shift")) (shift_fault_code fault)
 
 -- a shift file for this cell, status 5
 abbrev pub shift_file : Cell → List ℕ → Test

@@ -10,7 +10,7 @@ use Rattle.cell_base.specs.declared.places.Field.{Field}
 use Rattle.cell_base.specs.declared.places.Field.TheVariants.{Whole, Version, Resources, JobTypes, Name, Capacity, Order, Route, Next}
 use Rattle.cell_base.specs.declared.places.Field.TheVariants.{Number, Patience, Sessions, Steps, Job, Kind, Path, Machine, Turns}
 use Rattle.record_text.specs.Lines.{line_of}
-use Rattle.cell_texts.specs.declared.findings.Finding.{Finding}
+use Rattle.cell_texts.specs.declared.fault_codes.FaultCode.{FaultCode}
 
 -- ---- places
 
@@ -64,13 +64,13 @@ place_words place = section_word place.section ∷ item_words place.section plac
 
 -- ---- refusals
 
--- a finding as words: its number, its place and its count
-abbrev pub finding_words : Finding → List (List ℕ)
-finding_words finding = decimal finding.number ∷ option_map_or place_words finding.place [] ++ number_words finding.count
+-- a fault code as words: its number, its place and its count
+abbrev pub fault_code_words : FaultCode → List (List ℕ)
+fault_code_words code = decimal code.number ∷ option_map_or place_words code.place [] ++ number_words code.count
 
 -- the line of a file that is refused
-abbrev pub refusal_text : List ℕ → Finding → List ℕ
-refusal_text file finding = line_of (file ∷ codes "refused" ∷ finding_words finding)
+abbrev pub refusal_text : List ℕ → FaultCode → List ℕ
+refusal_text file code = line_of (file ∷ codes "refused" ∷ fault_code_words code)
 
 -- the line of a record whose line of this number is bad
 abbrev pub bad_line_text : ℕ → List ℕ

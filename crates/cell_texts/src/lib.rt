@@ -11,16 +11,16 @@
 //! ```
 #![tactic(auto)]
 
-mod findings;
+mod fault_codes;
 mod lines;
 mod made;
 mod printing;
 mod readers;
 mod refusals;
 
-pub use findings::Finding;
+pub use fault_codes::FaultCode;
 pub use lines::job_line;
 pub use made::{Answered, Made};
 pub use printing::{print_lines, print_usage};
 pub use readers::{CellFile, CommandEnd, read_cell, read_named, read_shift};
-pub use refusals::{at_finding, at_record_fault, at_step_fault};
+pub use refusals::{at_fault_code, at_record_fault, at_step_fault};

@@ -2,10 +2,10 @@
 ghost use Rattle.std.specs.Prelude.{◌≡◌, ◌+◌, ◌≤◌, ◌++◌, [], length, IfSome};
 ghost use Rattle.std.specs.Option.{option_map, option_map_or};
 ghost use Rattle.record_text.specs.Spaced.{spaced};
-ghost use Rattle.cell_texts.specs.Texts.{bad_line_text, field_word, field_words, finding_words, item_words, job_line, number_words};
+ghost use Rattle.cell_texts.specs.Texts.{bad_line_text, field_word, field_words, fault_code_words, item_words, job_line, number_words};
 ghost use Rattle.cell_texts.specs.Texts.{place_words, refusal_text, section_word, step_refused};
 
-use crate::findings::Finding;
+use crate::fault_codes::FaultCode;
 use cell_base::{Field, JobId, Place, Section};
 use record_text::Line;
 
@@ -19,13 +19,13 @@ pub fn job_line(job: JobId) -> Line
 }
 
 /// The line of a refused file of this kind, which is a word of 7 bytes at most.
-pub fn refusal_line(file: &[u8], finding: &Finding) -> Line
+pub fn refusal_line(file: &[u8], code: &FaultCode) -> Line
     requires { length file.now ≤ 7 }
-    ensures { result ≡ refusal_text file.now finding.now }
+    ensures { result ≡ refusal_text file.now code.now }
 {
     let mut line = Line::of_word(file);
     line.word(b"refused");
-    add_finding(&mut line, finding);
+    add_fault_code(&mut line, code);
     line.end()
 }
 
@@ -46,14 +46,14 @@ pub fn step_line() -> Line
     Line::of_word(b"step refused").end()
 }
 
-fn add_finding(line: &mut Line, finding: &Finding)
+fn add_fault_code(line: &mut Line, code: &FaultCode)
     requires { length line.old ≤ 15 }
-    ensures words { line.new ≡ line.old ++ spaced (finding_words finding.now) }
+    ensures words { line.new ≡ line.old ++ spaced (fault_code_words code.now) }
     ensures len { length line.new ≤ 120 }
 {
-    line.number(finding.number);
-    add_place(line, finding.place);
-    add_number(line, finding.count);
+    line.number(code.number);
+    add_place(line, code.place);
+    add_number(line, code.count);
 }
 
 fn add_place(line: &mut Line, place: Option<Place>)

@@ -7,7 +7,7 @@ ghost use Rattle.cell_texts.specs.RecordReads.{record_line};
 ghost use Rattle.cell_texts.specs.Tests.{cell_fault_line, shift_fault_line, step_fault_line};
 ghost use Rattle.cell_texts.specs.Texts.{refusal_text};
 
-use crate::findings::Finding;
+use crate::fault_codes::FaultCode;
 use crate::lines::{bad_line, refusal_line, step_line};
 use cell_file::CellFault;
 use cell_walks::{EarlyEnd, Refusal, Subject};
@@ -15,15 +15,15 @@ use record_text::RecordFault;
 use shift_file::ShiftFault;
 use step_text::StepFault;
 
-/// The end at a finding in a file of this kind, which is a word of 7 bytes at most; without one it is want of memory.
-pub fn at_finding(subject: Subject, file: &[u8], finding: Option<Finding>) -> EarlyEnd
+/// The end at a fault code in a file of this kind, which is a word of 7 bytes at most; without one it is want of memory.
+pub fn at_fault_code(subject: Subject, file: &[u8], code: Option<FaultCode>) -> EarlyEnd
     requires { length file.now ≤ 7 }
-    ensures { result ≡ end_with subject (option_map (refusal_text file.now) finding) }
+    ensures { result ≡ end_with subject (option_map (refusal_text file.now) code) }
 {
-    match finding {
-        Some(finding) => EarlyEnd::Refused(Refusal {
+    match code {
+        Some(code) => EarlyEnd::Refused(Refusal {
             subject,
-            line: refusal_line(file, &finding),
+            line: refusal_line(file, &code),
         }),
         None => EarlyEnd::WantOfMemory,
     }
@@ -33,14 +33,14 @@ pub fn at_finding(subject: Subject, file: &[u8], finding: Option<Finding>) -> Ea
 pub fn at_cell_fault(fault: CellFault) -> EarlyEnd
     ensures { result ≡ end_with Cell (cell_fault_line fault) }
 {
-    at_finding(Subject::Cell, b"cell", Finding::of_cell(fault))
+    at_fault_code(Subject::Cell, b"cell", FaultCode::of_cell(fault))
 }
 
 /// The end at a fault of a shift file.
 pub fn at_shift_fault(fault: ShiftFault) -> EarlyEnd
     ensures { result ≡ end_with Input (shift_fault_line fault) }
 {
-    at_finding(Subject::Input, b"shift", Finding::of_shift(fault))
+    at_fault_code(Subject::Input, b"shift", FaultCode::of_shift(fault))
 }
 
 /// The end at a fault of a record.

@@ -3,7 +3,7 @@ use Rattle.std.specs.Prelude.{ℕ}
 use Rattle.journal_format.specs.declared.fault.JournalFault.{JournalFault}
 use Rattle.journal_format.specs.declared.fault.JournalFault.TheVariants as journal
 use Rattle.cell_texts.specs.FaultNumbers.{with_count, plain}
-use Rattle.cell_texts.specs.declared.findings.Finding.{Finding}
+use Rattle.cell_texts.specs.declared.fault_codes.FaultCode.{FaultCode}
 
 -- | Number | journal     |
 -- |      1 | NotAJournal |
@@ -13,12 +13,12 @@ use Rattle.cell_texts.specs.declared.findings.Finding.{Finding}
 -- |      5 | other shift |
 
 -- the fault of a journal
-abbrev pub journal_finding : JournalFault → Finding
-journal_finding journal.NotAJournal = plain 1
-journal_finding (journal.OtherCell offset) = with_count 2 offset
-journal_finding (journal.Damaged offset) = with_count 3 offset
-journal_finding (journal.Long length) = with_count 4 length
+abbrev pub journal_fault_code : JournalFault → FaultCode
+journal_fault_code journal.NotAJournal = plain 1
+journal_fault_code (journal.OtherCell offset) = with_count 2 offset
+journal_fault_code (journal.Damaged offset) = with_count 3 offset
+journal_fault_code (journal.Long length) = with_count 4 length
 
 -- a grant in it is another shift's, of a session
-abbrev pub other_shift_finding : ℕ → Finding
-other_shift_finding session = with_count 5 session
+abbrev pub other_shift_fault_code : ℕ → FaultCode
+other_shift_fault_code session = with_count 5 session

@@ -17,7 +17,7 @@ use Rattle.cell_texts.specs.Parting.{Longer, longer, same_place}
 use Rattle.cell_walks.specs.Observed.{Known}
 use Rattle.cell_walks.specs.Walks.{Test}
 use Rattle.cell_walks.specs.declared.early_end.Subject.TheVariants.{Journal}
-use Rattle.journal_texts.specs.FaultNumbers.{other_shift_finding}
+use Rattle.journal_texts.specs.FaultNumbers.{other_shift_fault_code}
 use Rattle.cell_texts.specs.Texts.{refusal_text}
 
 all_front : (P : Grant → Type 0) (front rest : List Grant) → All P (front ++ rest) → All P front
@@ -77,7 +77,7 @@ one_session shift opening one two a b = elim (cases_lt (length a.before) (length
 
 -- the line of such a grant
 abbrev pub other_shift : ℕ → List ℕ
-other_shift session = refusal_text (codes "journal") (other_shift_finding session)
+other_shift session = refusal_text (codes "journal") (other_shift_fault_code session)
 
 -- the sessions start after the grants, or one of these is another shift's
 abbrev pub sessions_start : Shift → List Grant → List ℕ → Result ⊤ ℕ → Type 0

@@ -5,11 +5,11 @@ use Rattle.journal_format.specs.declared.fault.JournalFault.{JournalFault}
 use Rattle.cell_walks.specs.Walks.{Journal, ToAdd, ToRead}
 use Rattle.cell_texts.specs.Tests.{KnownCell}
 use Rattle.cell_texts.specs.Texts.{refusal_text}
-use Rattle.journal_texts.specs.FaultNumbers.{journal_finding}
+use Rattle.journal_texts.specs.FaultNumbers.{journal_fault_code}
 
 -- the line of a fault of a journal
 abbrev pub journal_line : JournalFault → List ℕ
-journal_line why = refusal_text (codes "journal") (journal_finding why)
+journal_line why = refusal_text (codes "journal") (journal_fault_code why)
 
 -- the journal of a cell, which is only read, status 6
 abbrev pub to_read : KnownCell → Journal

@@ -2,24 +2,24 @@
 ghost use Rattle.std.specs.Prelude.{◌≡◌, Some};
 ghost use Rattle.cell_walks.specs.Walks.{end_with};
 ghost use Rattle.cell_walks.specs.declared.early_end.Subject.TheVariants.{Journal};
-ghost use Rattle.journal_texts.specs.FaultNumbers.{journal_finding};
+ghost use Rattle.journal_texts.specs.FaultNumbers.{journal_fault_code};
 ghost use Rattle.journal_texts.specs.Openings.{end_unopened};
 ghost use Rattle.journal_texts.specs.Starting.{other_shift};
 ghost use Rattle.journal_texts.specs.Tests.{journal_line};
 
-use cell_texts::{Finding, at_finding};
+use cell_texts::{FaultCode, at_fault_code};
 use cell_walks::{EarlyEnd, Subject};
 use shift_recovery::{JournalFault, OpenFault};
 
 // The fault of a journal, as its line shows it.
-fn finding_of(fault: JournalFault) -> Finding
-    ensures { result ≡ journal_finding fault }
+fn finding_of(fault: JournalFault) -> FaultCode
+    ensures { result ≡ journal_fault_code fault }
 {
     match fault {
-        JournalFault::NotAJournal => Finding::plain(1),
-        JournalFault::OtherCell { at } => Finding::with_count(2, at),
-        JournalFault::Damaged { at } => Finding::with_count(3, at),
-        JournalFault::Long { len } => Finding::with_count(4, len),
+        JournalFault::NotAJournal => FaultCode::plain(1),
+        JournalFault::OtherCell { at } => FaultCode::with_count(2, at),
+        JournalFault::Damaged { at } => FaultCode::with_count(3, at),
+        JournalFault::Long { len } => FaultCode::with_count(4, len),
     }
 }
 
@@ -27,7 +27,7 @@ fn finding_of(fault: JournalFault) -> Finding
 pub fn at_journal_fault(why: JournalFault) -> EarlyEnd
     ensures { result ≡ end_with Journal (Some (journal_line why)) }
 {
-    at_finding(Subject::Journal, b"journal", Some(finding_of(why)))
+    at_fault_code(Subject::Journal, b"journal", Some(finding_of(why)))
 }
 
 /// The end at a disk that was not opened.
@@ -45,9 +45,9 @@ pub(crate) fn at_open_fault(why: OpenFault) -> EarlyEnd
 pub fn at_other_shift(session: u16) -> EarlyEnd
     ensures { result ≡ end_with Journal (Some (other_shift session)) }
 {
-    at_finding(
+    at_fault_code(
         Subject::Journal,
         b"journal",
-        Some(Finding::with_count(5, u64::from(session))),
+        Some(FaultCode::with_count(5, u64::from(session))),
     )
 }

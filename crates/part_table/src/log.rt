@@ -53,7 +53,7 @@ fn place_again(chain: &Chain, slots: &mut Slots)
 {
     for at in 0..chain.len() {
         let entry = chain.get(at);
-        slots.go_on(entry.item.part.job, entry.slot, at);
+        slots.move_job(entry.item.part.job, entry.slot, at);
     }
 }
 
@@ -189,7 +189,7 @@ impl Log {
         ensures slots { self.new.slots ≡ self.old.slots }
     {
         let entry = self.chain.take_out(at);
-        self.slots.go_on(job, entry.slot, self.chain.len());
+        self.slots.move_job(job, entry.slot, self.chain.len());
         let part = Part {
             place,
             done,

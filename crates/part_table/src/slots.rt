@@ -108,7 +108,7 @@ impl Slots {
     }
 
     /// The part of a job, which has the slot, goes on to a place.
-    pub fn go_on(&mut self, job: JobId, slot: u32, at: u32)
+    pub fn move_job(&mut self, job: JobId, slot: u32, at: u32)
         requires { slot_of self.old job.0 ≡ Some slot }
         ensures slots { self.new.slots ≡ self.old.slots }
         ensures place { (q : ℕ) → place_at self.new q ≡ (if nat_eq job.0 q then Some at else place_at self.old q) }

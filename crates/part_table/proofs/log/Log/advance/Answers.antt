@@ -13,9 +13,9 @@ invariant_of-self c =
     c.len.ensures ∙ ap length c.take_out-entry.ensures.entries ∙ length-set entries c.args.at (gone_entry c.take_out-entry.result) in
     rw (c.push.ensures.entries, c.take_out-entry.ensures.entries)
     (places_advanced entries c.args.job c.args.at c.take_out-entry.result c.args.place c.args.done c.args.on
-    c.take_out-entry.ensures.entry is c.self.inside.slots c.go_on.new.self c.self.invariant
-    (λ q. c.go_on.ensures.place q ∙ ap (λ n. cond (nat_eq c.args.job.0 q) (Some n) (place_at c.self.inside.slots q)) end)
-    c.go_on.ensures.slots)
+    c.take_out-entry.ensures.entry is c.self.inside.slots c.move_job.new.self c.self.invariant
+    (λ q. c.move_job.ensures.place q ∙ ap (λ n. cond (nat_eq c.args.job.0 q) (Some n) (place_at c.self.inside.slots q)) end)
+    c.move_job.ensures.slots)
 
 pub returns-clause-items : goal.returns-clause-items
 returns-clause-items c =
