@@ -1,7 +1,7 @@
-// Asks servers with so many requests in the air, beside the writes and syncs of as many grants without one.
+// Asks servers with so many requests in flight, beside the writes and syncs of as many grants without one.
 //
 //   asking rate CELL FOLDER SLICES GROUPS AIR PROGRAM..   in turns: at each server AIR sessions load and unload a job each, GROUPS requests
-//                                                         each, one in the air at each; and GROUPS groups of AIR grants go to a file: 17
+//                                                         each, one in flight at each; and GROUPS groups of AIR grants go to a file: 17
 //                                                         bytes each are written and synced, and one byte more. Prints the seconds of each
 //                                                         server and of the file, added up over SLICES turns
 //   asking room CELL FOLDER SLICES GRANTS AIR PROGRAM PROGRAM

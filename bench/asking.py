@@ -37,7 +37,7 @@ class Asking:
         return [float(word) for word in done.stdout.split()]
 
     def rates(self, air, groups=10):
-        """The grants a second of each server with so many requests in the air, in groups a turn, and of the bare loop beside them."""
+        """The grants a second of each server with so many requests in flight, in groups a turn, and of the bare loop beside them."""
         return [groups * SLICES * air / seconds for seconds in self.told("rate", SLICES, groups, air)]
 
     def contended(self, air, grants):

@@ -22,7 +22,7 @@ SHIFT = HERE / "workshop-shift.toml"
 
 
 class Workshop:
-    """The routes of the workshop's types, the session of each part, and that of each machine with a lock: it has one step in the air."""
+    """The routes of the workshop's types, the session of each part, and that of each machine with a lock: it has one step in flight."""
 
     def __init__(self, cell):
         self.cell = cell

@@ -19,7 +19,7 @@ use Rattle.order_advisor.specs.declared.advice.Advice.{Advice}
 use Rattle.order_advisor.specs.Advices.{IsBest}
 use Rattle.order_advisor.specs.declared.weighing.Weighing.{Weighing}
 use Rattle.order_advisor.specs.Orders.{weight, own_weight, weight_under, unit_weight, IsOrderList, ComesBefore}
-use Rattle.order_advisor.specs.Sets.{first_orders, added_weight, hex, order_in, KnowsLeast}
+use Rattle.order_advisor.specs.Sets.{first_orders, added_weight, power_of_16, order_in, KnowsLeast}
 use Rattle.policy_laws.proofs.Totals.{total, total-le}
 use Rattle.order_advisor.proofs.Sums.{total-same, total-add, total-times, total-at}
 use Rattle.order_advisor.proofs.Digits.{numeral, numeral-total, numeral-less, numeral-same, numeral_digit, numeral_cut}
@@ -88,13 +88,13 @@ module _ (weighing : Weighing) (cell : Cell) (n : ℕ) (is_count : n ≡ length 
   cost-whole : (o place : ℕ → ℕ) (k : ℕ) → ((q : ℕ) → q < n → o q < k) → cost_below weighing cell n o place k ≡ numeral (total (adds o) n) place n
   cost-whole o place k all =
       let none : n - n ≡ 0 = omega arith in
-      let unit : numeral (total (adds o) n) place n * hex (n - n) ≡ numeral (total (adds o) n) place n * 1 = ap (λ j. numeral (total
-      (adds o) n) place n * hex j) none in
+      let unit : numeral (total (adds o) n) place n * power_of_16 (n - n) ≡ numeral (total (adds o) n) place n * 1 = ap (λ j. numeral (total
+      (adds o) n) place n * power_of_16 j) none in
       let sum = numeral-total (total (adds o) n) place n n (omega arith) in
-      let weights = total-times (adds o) (hex n) n in
+      let weights = total-times (adds o) (power_of_16 n) n in
       total-same (λ q. cond (nat_lt (o q) k) (cost_in weighing cell n o place q) 0) (cost_in weighing cell n o place) n
       (λ q h. ap (λ b. cond b (cost_in weighing cell n o place q) 0) (lt-ltb (o q) k (all q h)))
-      ∙ total-add (λ q. adds o q * hex n) (λ q. place q * hex (n - 1 - q)) n
+      ∙ total-add (λ q. adds o q * power_of_16 n) (λ q. place q * power_of_16 (n - 1 - q)) n
       ∙ omega (arith, unit, sum, weights)
 
   module _ (few : n ≤ 16) (costs : List ℕ) (known : KnowsLeast weighing cell n (2 ^ n) costs) where
@@ -149,7 +149,7 @@ module _ (weighing : Weighing) (cell : Cell) (n : ℕ) (is_count : n ≡ length 
         order-at q within =
             ap (λ (xs : List ℕ). get_or xs q 0) read
             ∙ get_or-map-range_with_len (order_in n least_cost) 0 n q q 0 within (omega arith)
-            ∙ ap (λ x. x + 1) (ap (λ c. c / hex (n - 1 - q) % 16) is_numeral ∙ numeral_digit (total (adds o) n) o n q place-small within)
+            ∙ ap (λ x. x + 1) (ap (λ c. c / power_of_16 (n - 1 - q) % 16) is_numeral ∙ numeral_digit (total (adds o) n) o n q place-small within)
 
         length-orders : length orders ≡ n
         length-orders = ap length read ∙ length-map-range_with_len (order_in n least_cost) 0 n
@@ -166,11 +166,11 @@ module _ (weighing : Weighing) (cell : Cell) (n : ℕ) (is_count : n ≡ length 
             (λ q r h within at_most. omega (arith, order-at q h, order-at r within, at_most))
             (λ q r h within at_most. omega (arith, order-at q h, order-at r within, at_most))
 
-        pub weighs : least_cost / hex n ≡ weight weighing cell orders
+        pub weighs : least_cost / power_of_16 n ≡ weight weighing cell orders
         weighs =
             let whole : n ≡ 0 + n = omega arith in
-            ap (λ c. c / hex n) is_numeral
-            ∙ ap (λ m. numeral (total (adds o) n) o m / hex n) whole
+            ap (λ c. c / power_of_16 n) is_numeral
+            ∙ ap (λ m. numeral (total (adds o) n) o m / power_of_16 n) whole
             ∙ numeral_cut (total (adds o) n) o 0 n (λ q h. place-small q (omega arith))
             ∙ sym weight-adds
 
@@ -205,7 +205,7 @@ module _ (weighing : Weighing) (cell : Cell) (n : ℕ) (is_count : n ≡ length 
           below_broken = least-le broken sizes broken-ranking (λ r h. omega arith) (suc (total broken n))
               (λ q h. omega (arith, total-at broken n q h))
 
-          pub least : least_cost / hex n ≤ weight weighing cell others
+          pub least : least_cost / power_of_16 n ≤ weight weighing cell others
           least = ⊎_elim
               (λ (less : total (adds broken) n < total (adds o) n).
               let lower = numeral-less (total (adds broken) n) (total (adds o) n) sizes o 0 n
@@ -215,7 +215,7 @@ module _ (weighing : Weighing) (cell : Cell) (n : ℕ) (is_count : n ≡ length 
               (cases_lt (total (adds broken) n) (total (adds o) n))
 
         -- of the lists that weigh as little none comes before
-        module _ (others : List ℕ) (listed : IsOrderList n others) (as_little : weight weighing cell others ≡ least_cost / hex n) where
+        module _ (others : List ℕ) (listed : IsOrderList n others) (as_little : weight weighing cell others ≡ least_cost / power_of_16 n) where
           abbrev other_place : ℕ → ℕ
           other_place q = get_or others q 0 - 1
 
@@ -255,7 +255,7 @@ module _ (weighing : Weighing) (cell : Cell) (n : ℕ) (is_count : n ≡ length 
                   (λ q within. omega (arith, (listed.within q within).0, (listed.within q within).1)) (omega arith) less in
                   omega (arith, lower, below_other, is_numeral)
 
-    pub is_best : (advice : Advice) → advice.orders ≡ map (order_in n least_cost) (range_with_len 0 n) → advice.weight ≡ least_cost / hex n
+    pub is_best : (advice : Advice) → advice.orders ≡ map (order_in n least_cost) (range_with_len 0 n) → advice.weight ≡ least_cost / power_of_16 n
         → advice.given ≡ own_weight weighing cell → IsBest weighing cell advice
     is_best advice read weighed given = at some_ranking.0 some_ranking.1 some_ranking.2
       where

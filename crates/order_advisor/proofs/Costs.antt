@@ -8,9 +8,9 @@ use Rattle.std.proofs.lemmas.Bool.{cases_eq}
 use Rattle.cell_base.specs.declared.cells.Cell.{Cell}
 use Rattle.cell_base.specs.Masks.{has_bit}
 use Rattle.order_advisor.specs.declared.weighing.Weighing.{Weighing}
-use Rattle.order_advisor.specs.Sets.{members_of, hex, cost, most_cost, last_cost, KnowsLeast}
+use Rattle.order_advisor.specs.Sets.{members_of, power_of_16, cost, most_cost, last_cost, KnowsLeast}
 use Rattle.order_advisor.proofs.Masks.{mask_by, mask_by-same, members_of-total}
-use Rattle.order_advisor.proofs.Digits.{hex-le}
+use Rattle.order_advisor.proofs.Digits.{power_of_16-le}
 
 -- one resource more
 pub members_of-next : (r set : ℕ) → members_of (r + 1) set ≡ members_of r set + cond (has_bit set r) 1 0
@@ -21,7 +21,7 @@ members_of-next r set =
 
 pub cost-small : (n r weight place : ℕ) → weight ≤ 4096000 → place ≤ 16 → cost n r weight place ≤ most_cost n
 cost-small n r weight place light near =
-    omega (arith, mul-le-mul_right (hex n) light, mul-le-mul_right (hex (n - 1 - r)) near, hex-le (n - 1 - r) n (omega arith))
+    omega (arith, mul-le-mul_right (power_of_16 n) light, mul-le-mul_right (power_of_16 (n - 1 - r)) near, power_of_16-le (n - 1 - r) n (omega arith))
 
 -- a set that is not empty has a resource
 pub some_bit : (n set : ℕ) → 0 < set → set < 2 ^ n → ((q : ℕ) → q < n → has_bit set q ≡ false) → ⊥

@@ -12,7 +12,7 @@ use Rattle.std.proofs.lemmas.Nat.Bits.{bit_at_ones}
 use Rattle.cell_base.specs.declared.cells.Cell.{Cell}
 use Rattle.cell_base.specs.Masks.{has_bit}
 use Rattle.order_advisor.specs.declared.weighing.Weighing.{Weighing}
-use Rattle.order_advisor.specs.Sets.{added_weight, members_of, hex, cost, last_cost, KnowsLeast}
+use Rattle.order_advisor.specs.Sets.{added_weight, members_of, power_of_16, cost, last_cost, KnowsLeast}
 use Rattle.policy_laws.proofs.Totals.{total, total-le}
 use Rattle.order_advisor.proofs.Sums.{total-same, total_changed}
 use Rattle.order_advisor.proofs.Masks.{mask_by, are_bits, mask_by-same, without, members_of-total}
@@ -118,7 +118,7 @@ module _ (n : ℕ) where
 
 -- one place more costs more
 cost-le : (n r weight place more : ℕ) → place ≤ more → cost n r weight place ≤ cost n r weight more
-cost-le n r weight place more at_most = omega (arith, mul-le-mul_right (hex (n - 1 - r)) at_most)
+cost-le n r weight place more at_most = omega (arith, mul-le-mul_right (power_of_16 (n - 1 - r)) at_most)
 
 module _ (weighing : Weighing) (cell : Cell) (n : ℕ) where
   -- what resource q costs in a ranking at a place

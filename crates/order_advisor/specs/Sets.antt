@@ -46,22 +46,22 @@ abbrev pub members_of : ℕ → ℕ → ℕ
 members_of n set = length (filter (has_bit set) (range_with_len 0 n))
 
 -- a power of 16
-abbrev pub hex : ℕ → ℕ
-hex digits = 2 ^ (4 * digits)
+abbrev pub power_of_16 : ℕ → ℕ
+power_of_16 digits = 2 ^ (4 * digits)
 
 -- what resource r of n costs as number `place` from 0, where the stages that lead to it weigh so much. The cost of all is a number whose last n
 -- digits to base 16 are the places of the resources, before them the weight: the least one has the least weight, and of the lists
 -- with that weight the first
 abbrev pub cost : ℕ → ℕ → ℕ → ℕ → ℕ
-cost n r weight place = weight * hex n + place * hex (n - 1 - r)
+cost n r weight place = weight * power_of_16 n + place * power_of_16 (n - 1 - r)
 
 -- more than any resource costs
 abbrev pub most_cost : ℕ → ℕ
-most_cost n = 8388608 * hex n
+most_cost n = 8388608 * power_of_16 n
 
 -- the order of resource r of n in a cost of all
 abbrev pub order_in : ℕ → ℕ → ℕ → ℕ
-order_in n all r = all / hex (n - 1 - r) % 16 + 1
+order_in n all r = all / power_of_16 (n - 1 - r) % 16 + 1
 
 -- what resource r adds as the last one of a set
 abbrev pub last_cost : Weighing → Cell → ℕ → ℕ → ℕ → ℕ

@@ -7,7 +7,7 @@ ghost use Rattle.order_advisor.specs.Orders.{own_weight};
 ghost use Rattle.order_advisor.specs.Sets.{order_in};
 ghost use Rattle.order_advisor.specs.declared.weighing.Weighing.TheVariants.{Alike, ByCapacity};
 
-use crate::search::{hex, least_costs};
+use crate::search::{least_costs, power_of_16};
 use crate::weighing::{Weighing, weight_of};
 use cell_base::{Cell, List, NoMemory, ResId};
 use route_table::StageTable;
@@ -118,7 +118,7 @@ fn best_of(
     let least = costs[(1 << resources) - 1];
     Ok(Advice {
         orders: orders(alloc, resources, least)?,
-        weight: (least / hex(resources)) as u64,
+        weight: (least / power_of_16(resources)) as u64,
         given: given(alloc, table, resources, weighing)?,
     })
 }
@@ -130,7 +130,7 @@ fn orders(alloc: Global, resources: u16, cost: u128) -> Result<List<u32>, NoMemo
 {
     let mut list = List::new(alloc);
     for r in 0..resources {
-        list.try_push((cost / hex(resources - 1 - r) % 16) as u32 + 1)?;
+        list.try_push((cost / power_of_16(resources - 1 - r) % 16) as u32 + 1)?;
     }
     Ok(list)
 }

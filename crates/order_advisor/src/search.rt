@@ -4,7 +4,7 @@ ghost use Rattle.std.specs.Prelude.{◌≡◌, ℕ, ◌+◌, ◌-◌, ◌*◌, �
 ghost use Rattle.cell_base.specs.Masks.{has_bit};
 ghost use Rattle.cell_base.specs.Stages.{stages};
 ghost use Rattle.cell_base.specs.Fits.{CellFits};
-ghost use Rattle.order_advisor.specs.Sets.{members_of, hex, cost, last_cost, most_cost, KnowsInside, KnowsLeast};
+ghost use Rattle.order_advisor.specs.Sets.{members_of, power_of_16, cost, last_cost, most_cost, KnowsInside, KnowsLeast};
 
 use crate::inside::{count, has_bit, sweep};
 use crate::weighing::{Weighing, weight_of};
@@ -106,13 +106,14 @@ fn cost(resources: u16, r: ResId, weight: u64, place: u16) -> u128
     ensures value { result ≡ cost resources r.0 weight place }
     ensures small { result ≤ most_cost resources }
 {
-    u128::from(weight) * hex(resources) + u128::from(place) * hex(resources - 1 - r.0)
+    u128::from(weight) * power_of_16(resources)
+        + u128::from(place) * power_of_16(resources - 1 - r.0)
 }
 
-/// A power of 16.
-pub fn hex(digits: u16) -> u128
+/// 16 to the power of a number of digits.
+pub fn power_of_16(digits: u16) -> u128
     requires { digits ≤ 16 }
-    ensures value { result ≡ hex digits }
+    ensures value { result ≡ power_of_16 digits }
     ensures small { result ≤ 2 ^ 64 }
 {
     1 << (4 * digits)

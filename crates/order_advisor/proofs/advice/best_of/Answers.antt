@@ -8,7 +8,7 @@ use Rattle.std.proofs.lemmas.Nat.{one_shl}
 use Rattle.std.proofs.lemmas.Option.{get_or_from_slice_get, slice_get-get_or}
 use Rattle.cell_base.specs.declared.cells.Cell.{Cell}
 use Rattle.order_advisor.specs.declared.weighing.Weighing.{Weighing}
-use Rattle.order_advisor.specs.Sets.{hex, most_cost, order_in, KnowsLeast}
+use Rattle.order_advisor.specs.Sets.{power_of_16, most_cost, order_in, KnowsLeast}
 use Rattle.order_advisor.proofs.Best.{is_best}
 use Rattle.order_advisor.proofs.advice.best_of.Goals as goal
 
@@ -24,14 +24,14 @@ last_cost n last costs few long read =
 
 -- the weight fits 64 bits
 weight-small : (weighing : Weighing) (cell : Cell) (n last : ℕ) (costs : List ℕ) → n ≤ 16 → KnowsLeast weighing cell n (2 ^ n) costs → last ≡ get_or costs (2 ^ n - 1) 0
-    → last / hex n < 2 ^ 64
+    → last / power_of_16 n < 2 ^ 64
 weight-small weighing cell n last costs few known read =
     let power = pow_mono {i = 0} {j = n} (omega arith) in
     let small = known.small (2 ^ n - 1) (omega (arith, power)) in
     let sets : 2 ^ n - 1 ≤ 65536 = omega (arith, pow_mono {i = n} {j = 16} few) in
     let cost = mul-le-mul_right (most_cost n) sets in
-    let less : last ≤ hex n * 549755813888 = omega (arith, read, small, cost) in
-    omega (arith, div-le_of_le-mul (hex n) less)
+    let less : last ≤ power_of_16 n * 549755813888 = omega (arith, read, small, cost) in
+    omega (arith, div-le_of_le-mul (power_of_16 n) less)
 
 pub overflow_cast-result : goal.overflow_cast-result
 overflow_cast-result c =
@@ -39,7 +39,7 @@ overflow_cast-result c =
     let last = c.index-least.result.now in
     let costs = c.in_ok-costs.costs.items in
     let read = last_cost n last costs c.requires.limit c.in_ok-costs.ensures.length c.index-least.ensures in
-    let small : last / c.hex.result < 2 ^ 64 = subst (λ h. last / h < 2 ^ 64) (sym c.hex.ensures.value)
+    let small : last / c.power_of_16.result < 2 ^ 64 = subst (λ h. last / h < 2 ^ 64) (sym c.power_of_16.ensures.value)
     (weight-small c.args.weighing c.args.table.now n last costs c.requires.limit c.in_ok-costs.ensures.least read) in
     omega (arith, small)
 
@@ -52,5 +52,5 @@ returns c =
     let read = last_cost n last costs c.requires.limit c.in_ok-costs.ensures.length c.index-least.ensures in
     is_best c.args.weighing cell n c.requires.resources c.requires.limit costs c.in_ok-costs.ensures.least _
     (c.in_ok-orders.ensures ∙ ap (λ cost. map (order_in n cost) (range_with_len 0 n)) read)
-    (ap₂ (λ cost h. cost / h) read c.hex.ensures.value)
+    (ap₂ (λ cost h. cost / h) read c.power_of_16.ensures.value)
     c.in_ok-given.ensures

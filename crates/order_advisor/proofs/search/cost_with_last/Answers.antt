@@ -6,7 +6,7 @@ use Rattle.policy_laws.proofs.Limits.{few_stages}
 use Rattle.order_advisor.specs.Orders.{unit_weight}
 use Rattle.order_advisor.specs.Sets.{members_of, cost, most_cost}
 use Rattle.order_advisor.proofs.Masks.{without}
-use Rattle.order_advisor.proofs.Digits.{hex-le}
+use Rattle.order_advisor.proofs.Digits.{power_of_16-le}
 use Rattle.order_advisor.proofs.Sweeps.{added-counted}
 use Rattle.order_advisor.proofs.Costs.{sum-small}
 use Rattle.order_advisor.proofs.search.cost_with_last.Goals as goal
@@ -20,7 +20,7 @@ fits n set few small =
     omega (
       arith,
       mul-le set (most_cost n) 65536 (8388608 * 2 ^ 64)
-          (omega (arith, small, pow_mono {i = n} {j = 16} few)) (omega (arith, hex-le n 16 few)),
+          (omega (arith, small, pow_mono {i = n} {j = 16} few)) (omega (arith, power_of_16-le n 16 few)),
     )
 
 pub weight_of-weight-requires-clause-members : goal.weight_of-weight-requires-clause-members
