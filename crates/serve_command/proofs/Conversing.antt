@@ -276,13 +276,13 @@ module _ {D : Type 0} (reads_as : D → Option (List ℕ)) (may_leave : D → Li
     room = so_far.room;
   }
 
-  -- the last one is empty
-  pub none_is_ahead : (count : ℕ) → count ≡ 0 → GivesPiece (gave b) (gave c) lines later count → later.ahead ≡ []
-  none_is_ahead count none gives = gives.ahead_is ∙ nothing gives.piece (gives.count_is ∙ none)
-    where
-      nothing : (bytes : List ℕ) → length bytes ≡ 0 → bytes ≡ []
-      nothing [] is = refl
-      nothing (byte ∷ bytes) is = absurd (omega (arith, is))
+-- the last one is empty
+pub none_is_ahead : (given after : Option (List ℕ)) (lines later : LinesState) → GivesPiece given after lines later 0 → later.ahead ≡ []
+none_is_ahead given after lines later gives = gives.ahead_is ∙ nothing gives.piece gives.count_is
+  where
+    nothing : (bytes : List ℕ) → length bytes ≡ 0 → bytes ≡ []
+    nothing [] is = refl
+    nothing (byte ∷ bytes) is = absurd (omega (arith, is))
 
 -- ---- calls that leave one side as it is
 

@@ -19,6 +19,7 @@ pub mod LoopLives
 pub mod OpeningLives
 pub mod Printing
 pub mod Refusing
+pub mod RoundByRound
 pub mod RoundLives
 pub mod Rounding
 pub mod Saying

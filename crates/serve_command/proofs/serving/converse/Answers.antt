@@ -1,8 +1,7 @@
 -- The head, and then round after round.
-use Rattle.std.proofs.Common.{◌<◌, ℕ, [], ◌∷◌, Ok, length, ap, arith, inl, inr, map, refl, subst, sym, ◌∙◌, ◌++◌}
+use Rattle.std.proofs.Common.{◌<◌, ℕ, [], ◌∷◌, Ok, length, ap, arith, inl, inr, refl, subst, sym, ◌∙◌}
 use Rattle.std.proofs.lemmas.Result.{err_from_is_err_and}
-use Rattle.cell_base.specs.declared.cells.Cell.{Cell}
-use Rattle.input_lines.specs.Reading.{LinesState}
+use Rattle.input_lines.specs.Reading.{GivesPiece, LinesState}
 use Rattle.lent_peers.specs.Beside.{IsBeside}
 use Rattle.peers.specs.Meanings.{peer_gave, peer_took}
 use Rattle.peers.specs.Reads.{IsRead}
@@ -11,13 +10,10 @@ use Rattle.cell_walks.specs.declared.early_end.EarlyEnd.TheVariants.{NotRead}
 use Rattle.outside_io.specs.Causes.{Rose}
 use Rattle.outside_io.specs.Puts.{TookAll, TookSome}
 use Rattle.record_text.specs.Lines.{head_words, line_of}
-use Rattle.serve_command.specs.Asks.{ask_of}
 use Rattle.serve_command.specs.Conversing.{IsConversing}
-use Rattle.serve_command.specs.Rounds.{IsLastRound, IsRound}
-use Rattle.serve_command.specs.Talks.{opened, talk_after}
-use Rattle.serve_command.proofs.Conversing.{begins, head_is, input_kept, is_lost, none_is_ahead, not_begun, piece_comes, round_goes}
-use Rattle.serve_command.proofs.Conversing.{sink_kept, stops}
-use Rattle.serve_command.proofs.LoopLives.{begins_live, has_room, lives_then, lost_lives, read_lives, served_to}
+use Rattle.serve_command.proofs.Conversing.{begins, head_is, is_lost, none_is_ahead, not_begun}
+use Rattle.serve_command.proofs.LoopLives.{begins_live}
+use Rattle.serve_command.proofs.RoundByRound.{lost_is_live, piece_follows, put_before, read_is_live, round_answers, round_is_live, round_stops}
 use Rattle.serve_command.proofs.serving.converse.Goals as goal
 
 pub returns-in-Err-clause-converses : goal.returns-in-Err-clause-converses
@@ -87,130 +83,68 @@ loop-round-init g c = record {
 pub returns-in_err-round-clause-converses : goal.returns-in_err-round-clause-converses
 returns-in_err-round-clause-converses g c = λ cell_text opening behind.
     let server = c.args.server.now in
-    let cell = server.live.cell in
     let so = c.loop-round.invariant.goes_on cell_text opening behind in
-    let front = talk_after cell (opened opening) (map (ask_of cell) so.0) in
-    let last = c.in_err-round.ensures.round cell_text front so.1.text so.0 so.1.stands_after so.1.reads in
     let p = err_from_is_err_and c.from_residual.result c.from_residual.ensures.1 in
     rw (p.1, p.2)
-    (stops g.D.Disk.reads_as g.D.Disk.may_leave g.D.Disk.moment g.D.Disk.left_since g.D.Disk.faults cell cell_text opening server.live.disk
-    c.loop-round.server c.loop-round.lines so.0
-    (peer_gave g.T.Peer c.args.peer.now c.round.new.peer) g.T.Peer.taken g.T.Peer.was_put g.T.Peer.faults c.args.peer.now c.loop-round.peer
-    (input_kept g.D.Disk.reads_as g.D.Disk.may_leave g.D.Disk.moment g.D.Disk.left_since g.D.Disk.faults cell cell_text opening server.live.disk c.loop-round.server c.loop-round.lines so.0
-    (peer_took g.T.Peer c.args.peer.now c.loop-round.peer) g.T.Peer.given g.T.Peer.has_ended g.T.Peer.read_faults
-    c.args.peer.now c.loop-round.peer c.round.new.peer so.1 c.round.ensures.unread c.round.ensures.no_read)
-    c.round.new.peer c.round.new.self c.round.new.lines c.in_err-round.field-0.0
-    (subst (λ (x : Cell). IsLastRound g.D.Disk.reads_as g.D.Disk.may_leave g.D.Disk.moment g.D.Disk.left_since g.D.Disk.faults x
-    (peer_took g.T.Peer c.loop-round.peer c.round.new.peer) cell_text front so.1.text so.0
-    c.loop-round.server c.round.new.self c.round.new.lines c.in_err-round.field-0.0) so.1.cell_is last))
+    (round_stops g.D.Disk g.T.Peer server.live.cell cell_text opening server.live.disk c.args.peer.now c.loop-round.server
+    c.loop-round.lines c.loop-round.peer so.0 so.1 c.round.new.peer c.round.new.self c.round.new.lines c.round.ensures.unread
+    c.round.ensures.no_read c.in_err-round.field-0.0 c.in_err-round.ensures.round)
 
 pub returns-in_err-round-clause-lives : goal.returns-in_err-round-clause-lives
 returns-in_err-round-clause-lives g c = λ start is.
-    let server = c.args.server.now in
     let so = c.loop-round.invariant.goes_on start.text start.opening is.stands_after in
-    lives_then g.D.Disk g.T.Peer start server.live.disk c.loop-round.server.live.disk c.round.new.self.live.disk
-    c.args.peer.now c.loop-round.peer c.round.new.peer (c.loop-round.invariant.lives start is) so.1.left.tells
-    (λ clock. c.round.ensures.lives start so.1.text so.0
-    (served_to g.D.Disk g.T.Peer start server c.loop-round.server c.args.peer.now c.loop-round.peer c.loop-round.lines so.0 is so.1 clock))
+    round_is_live g.D.Disk g.T.Peer start c.args.server.now c.args.peer.now is c.loop-round.server c.loop-round.lines c.loop-round.peer so.0
+    so.1 (c.loop-round.invariant.lives start is) c.round.new.self.live.disk c.round.new.peer c.round.ensures.lives
 
 pub returns-in-Ok-eq0-clause-converses : goal.returns-in-Ok-eq0-clause-converses
 returns-in-Ok-eq0-clause-converses g c = λ cell_text opening behind.
     let server = c.args.server.now in
-    let cell = server.live.cell in
     let so = c.loop-round.invariant.goes_on cell_text opening behind in
-    let front = talk_after cell (opened opening) (map (ask_of cell) so.0) in
-    let said = c.in_ok-round.ensures.round cell_text front so.1.text so.0 so.1.stands_after so.1.reads in
-    let round = subst (λ (x : Cell). IsRound g.D.Disk.reads_as g.D.Disk.may_leave g.D.Disk.moment g.D.Disk.left_since g.D.Disk.faults x
-    (peer_took g.T.Peer c.loop-round.peer c.round.new.peer) cell_text front so.1.text so.0
-    c.loop-round.server c.round.new.self c.round.new.lines said.0) so.1.cell_is said.1 in
-    let conv = round_goes g.D.Disk.reads_as g.D.Disk.may_leave g.D.Disk.moment g.D.Disk.left_since g.D.Disk.faults cell cell_text opening
-    server.live.disk c.loop-round.server c.loop-round.lines so.0 (peer_gave g.T.Peer c.args.peer.now c.round.new.peer)
-    g.T.Peer.taken g.T.Peer.was_put g.T.Peer.faults c.args.peer.now c.loop-round.peer
-    (input_kept g.D.Disk.reads_as g.D.Disk.may_leave g.D.Disk.moment g.D.Disk.left_since g.D.Disk.faults cell cell_text opening server.live.disk c.loop-round.server c.loop-round.lines so.0
-    (peer_took g.T.Peer c.args.peer.now c.loop-round.peer) g.T.Peer.given g.T.Peer.has_ended g.T.Peer.read_faults
-    c.args.peer.now c.loop-round.peer c.round.new.peer so.1 c.round.ensures.unread c.round.ensures.no_read)
-    c.round.new.peer c.round.new.self c.round.new.lines said.0 round c.in_ok-round.ensures.no_peer_fault
-    c.in_ok-round.ensures.no_disk_fault in
-    let gives = c.in-Ok-eq0.ensures.goes_on in (
+    let conv = round_answers g.D.Disk g.T.Peer server.live.cell cell_text opening server.live.disk c.args.peer.now c.loop-round.server
+    c.loop-round.lines c.loop-round.peer so.0 so.1 c.round.new.peer c.round.new.self c.round.new.lines c.round.ensures.unread
+    c.round.ensures.no_read c.in_ok-round.ensures.round c.in_ok-round.ensures.no_peer_fault c.in_ok-round.ensures.no_disk_fault in
+    let read = subst (λ (d : _). IsRead g.D.Disk g.T.Peer d c.round.new.peer c.fill.new.peer) c.disk-then-is_spent.ensures
+    c.fill.ensures.read in (
       c.fill.new.self,
-      so.0 ++ said.0,
-      piece_comes g.D.Disk.reads_as g.D.Disk.may_leave g.D.Disk.moment g.D.Disk.left_since g.D.Disk.faults cell cell_text opening
-          server.live.disk c.round.new.self c.round.new.lines c.fill.new.self (so.0 ++ said.0)
-          (peer_took g.T.Peer c.args.peer.now c.fill.new.peer) g.T.Peer.given g.T.Peer.has_ended g.T.Peer.read_faults
-          c.args.peer.now c.round.new.peer c.fill.new.peer
-          (sink_kept g.D.Disk.reads_as g.D.Disk.may_leave g.D.Disk.moment g.D.Disk.left_since g.D.Disk.faults cell cell_text opening server.live.disk c.round.new.self c.round.new.lines (so.0 ++ said.0)
-          (peer_gave g.T.Peer c.args.peer.now c.round.new.peer) g.T.Peer.taken g.T.Peer.was_put g.T.Peer.faults c.args.peer.now c.round.new.peer c.fill.new.peer conv
-          c.fill.ensures.read.of_put c.fill.ensures.read.same c.fill.ensures.read.no_put)
-          c.in-Ok-eq0.field-0 gives c.in-Ok-eq0.ensures.cause.kept,
-      none_is_ahead g.D.Disk.reads_as g.D.Disk.may_leave g.D.Disk.moment g.D.Disk.left_since g.D.Disk.faults cell cell_text opening
-          server.live.disk c.round.new.self c.round.new.lines c.fill.new.self (so.0 ++ said.0)
-          (peer_took g.T.Peer c.args.peer.now c.fill.new.peer) g.T.Peer.given g.T.Peer.has_ended g.T.Peer.read_faults
-          c.args.peer.now c.round.new.peer c.fill.new.peer
-          (sink_kept g.D.Disk.reads_as g.D.Disk.may_leave g.D.Disk.moment g.D.Disk.left_since g.D.Disk.faults cell cell_text opening server.live.disk c.round.new.self c.round.new.lines (so.0 ++ said.0)
-          (peer_gave g.T.Peer c.args.peer.now c.round.new.peer) g.T.Peer.taken g.T.Peer.was_put g.T.Peer.faults c.args.peer.now c.round.new.peer c.fill.new.peer conv
-          c.fill.ensures.read.of_put c.fill.ensures.read.same c.fill.ensures.read.no_put)
-          c.in-Ok-eq0.field-0
-          c.in-Ok-eq0.field-0-test gives,
+      conv.0,
+      piece_follows g.D.Disk g.T.Peer server.live.cell cell_text opening server.live.disk c.args.peer.now c.round.new.self
+          c.round.new.lines c.round.new.peer conv.0 conv.1 c.fill.new.peer c.fill.new.self c.in-Ok-eq0.field-0 read c.in-Ok-eq0.ensures.goes_on
+          c.in-Ok-eq0.ensures.cause.kept,
+      none_is_ahead (g.T.Peer.given c.round.new.peer) (g.T.Peer.given c.fill.new.peer) c.round.new.lines c.fill.new.self
+          (subst (GivesPiece (g.T.Peer.given c.round.new.peer) (g.T.Peer.given c.fill.new.peer) c.round.new.lines c.fill.new.self)
+          c.in-Ok-eq0.field-0-test c.in-Ok-eq0.ensures.goes_on),
       c.in-Ok-eq0.ensures.end (ap Ok c.in-Ok-eq0.field-0-test),
     )
 
 pub returns-in-Ok-eq0-clause-lives : goal.returns-in-Ok-eq0-clause-lives
 returns-in-Ok-eq0-clause-lives g c = λ start is.
     let server = c.args.server.now in
-    let cell = server.live.cell in
     let so = c.loop-round.invariant.goes_on start.text start.opening is.stands_after in
-    let front = talk_after cell (opened start.opening) (map (ask_of cell) so.0) in
-    let said = c.in_ok-round.ensures.round start.text front so.1.text so.0 so.1.stands_after so.1.reads in
-    let round = subst (λ (x : Cell). IsRound g.D.Disk.reads_as g.D.Disk.may_leave g.D.Disk.moment g.D.Disk.left_since g.D.Disk.faults x
-    (peer_took g.T.Peer c.loop-round.peer c.round.new.peer) start.text front so.1.text so.0
-    c.loop-round.server c.round.new.self c.round.new.lines said.0) so.1.cell_is said.1 in
-    let conv = round_goes g.D.Disk.reads_as g.D.Disk.may_leave g.D.Disk.moment g.D.Disk.left_since g.D.Disk.faults cell start.text start.opening
-    server.live.disk c.loop-round.server c.loop-round.lines so.0 (peer_gave g.T.Peer c.args.peer.now c.round.new.peer)
-    g.T.Peer.taken g.T.Peer.was_put g.T.Peer.faults c.args.peer.now c.loop-round.peer
-    (input_kept g.D.Disk.reads_as g.D.Disk.may_leave g.D.Disk.moment g.D.Disk.left_since g.D.Disk.faults cell start.text start.opening server.live.disk c.loop-round.server c.loop-round.lines so.0
-    (peer_took g.T.Peer c.args.peer.now c.loop-round.peer) g.T.Peer.given g.T.Peer.has_ended g.T.Peer.read_faults
-    c.args.peer.now c.loop-round.peer c.round.new.peer so.1 c.round.ensures.unread c.round.ensures.no_read)
-    c.round.new.peer c.round.new.self c.round.new.lines said.0 round c.in_ok-round.ensures.no_peer_fault
-    c.in_ok-round.ensures.no_disk_fault in
-    let lived = lives_then g.D.Disk g.T.Peer start server.live.disk c.loop-round.server.live.disk c.round.new.self.live.disk
-    c.args.peer.now c.loop-round.peer c.round.new.peer (c.loop-round.invariant.lives start is) so.1.left.tells
-    (λ clock. c.round.ensures.lives start so.1.text so.0
-    (served_to g.D.Disk g.T.Peer start server c.loop-round.server c.args.peer.now c.loop-round.peer c.loop-round.lines so.0 is so.1 clock)) in
-    lives_then g.D.Disk g.T.Peer start server.live.disk c.round.new.self.live.disk c.round.new.self.live.disk
-    c.args.peer.now c.round.new.peer c.fill.new.peer lived conv.left.tells
-    (λ clock. read_lives g.D.Disk g.T.Peer start c.round.new.self c.round.new.lines conv.text (so.0 ++ said.0) c.round.new.peer
-    c.fill.new.peer
-    (served_to g.D.Disk g.T.Peer start server c.round.new.self c.args.peer.now c.round.new.peer c.round.new.lines (so.0 ++ said.0) is conv
-    clock)
-    (has_room g.D.Disk g.T.Peer start server c.round.new.self c.round.new.lines (so.0 ++ said.0) c.args.peer.now is conv)
-    (subst (λ (d : _). IsRead g.D.Disk g.T.Peer d c.round.new.peer c.fill.new.peer) c.disk-then-is_spent.ensures c.fill.ensures.read))
+    let conv = round_answers g.D.Disk g.T.Peer server.live.cell start.text start.opening server.live.disk c.args.peer.now c.loop-round.server
+    c.loop-round.lines c.loop-round.peer so.0 so.1 c.round.new.peer c.round.new.self c.round.new.lines c.round.ensures.unread
+    c.round.ensures.no_read c.in_ok-round.ensures.round c.in_ok-round.ensures.no_peer_fault c.in_ok-round.ensures.no_disk_fault in
+    let read = subst (λ (d : _). IsRead g.D.Disk g.T.Peer d c.round.new.peer c.fill.new.peer) c.disk-then-is_spent.ensures
+    c.fill.ensures.read in
+    let lived = round_is_live g.D.Disk g.T.Peer start server c.args.peer.now is c.loop-round.server c.loop-round.lines c.loop-round.peer so.0
+    so.1 (c.loop-round.invariant.lives start is) c.round.new.self.live.disk c.round.new.peer c.round.ensures.lives in
+    read_is_live g.D.Disk g.T.Peer start server c.args.peer.now is c.round.new.self c.round.new.lines c.round.new.peer conv.0 conv.1 lived
+    c.fill.new.peer read
 
 pub returns-in-Err-fill-clause-converses : goal.returns-in-Err-fill-clause-converses
 returns-in-Err-fill-clause-converses g c = λ cell_text opening behind.
     let server = c.args.server.now in
-    let cell = server.live.cell in
     let so = c.loop-round.invariant.goes_on cell_text opening behind in
-    let front = talk_after cell (opened opening) (map (ask_of cell) so.0) in
-    let said = c.in_ok-round.ensures.round cell_text front so.1.text so.0 so.1.stands_after so.1.reads in
-    let round = subst (λ (x : Cell). IsRound g.D.Disk.reads_as g.D.Disk.may_leave g.D.Disk.moment g.D.Disk.left_since g.D.Disk.faults x
-    (peer_took g.T.Peer c.loop-round.peer c.round.new.peer) cell_text front so.1.text so.0
-    c.loop-round.server c.round.new.self c.round.new.lines said.0) so.1.cell_is said.1 in
-    let conv = round_goes g.D.Disk.reads_as g.D.Disk.may_leave g.D.Disk.moment g.D.Disk.left_since g.D.Disk.faults cell cell_text opening
-    server.live.disk c.loop-round.server c.loop-round.lines so.0 (peer_gave g.T.Peer c.args.peer.now c.round.new.peer)
-    g.T.Peer.taken g.T.Peer.was_put g.T.Peer.faults c.args.peer.now c.loop-round.peer
-    (input_kept g.D.Disk.reads_as g.D.Disk.may_leave g.D.Disk.moment g.D.Disk.left_since g.D.Disk.faults cell cell_text opening server.live.disk c.loop-round.server c.loop-round.lines so.0
-    (peer_took g.T.Peer c.args.peer.now c.loop-round.peer) g.T.Peer.given g.T.Peer.has_ended g.T.Peer.read_faults
-    c.args.peer.now c.loop-round.peer c.round.new.peer so.1 c.round.ensures.unread c.round.ensures.no_read)
-    c.round.new.peer c.round.new.self c.round.new.lines said.0 round c.in_ok-round.ensures.no_peer_fault
-    c.in_ok-round.ensures.no_disk_fault in
-    is_lost g.D.Disk.reads_as g.D.Disk.may_leave g.D.Disk.moment g.D.Disk.left_since g.D.Disk.faults cell cell_text opening
-    server.live.disk c.round.new.self c.round.new.lines
-    (so.0 ++ said.0) g.T.Peer.given g.T.Peer.has_ended g.T.Peer.read_faults c.args.peer.now
+    let conv = round_answers g.D.Disk g.T.Peer server.live.cell cell_text opening server.live.disk c.args.peer.now c.loop-round.server
+    c.loop-round.lines c.loop-round.peer so.0 so.1 c.round.new.peer c.round.new.self c.round.new.lines c.round.ensures.unread
+    c.round.ensures.no_read c.in_ok-round.ensures.round c.in_ok-round.ensures.no_peer_fault c.in_ok-round.ensures.no_disk_fault in
+    let read = subst (λ (d : _). IsRead g.D.Disk g.T.Peer d c.round.new.peer c.fill.new.peer) c.disk-then-is_spent.ensures
+    c.fill.ensures.read in
+    is_lost g.D.Disk.reads_as g.D.Disk.may_leave g.D.Disk.moment g.D.Disk.left_since g.D.Disk.faults server.live.cell cell_text opening
+    server.live.disk c.round.new.self c.round.new.lines conv.0 g.T.Peer.given g.T.Peer.has_ended g.T.Peer.read_faults c.args.peer.now
     c.round.new.peer c.finish_beside.new.peer g.T.Peer.taken g.T.Peer.was_put g.T.Peer.faults c.args.peer.now c.fill.new.peer
     c.finish_beside.new.peer
-    (sink_kept g.D.Disk.reads_as g.D.Disk.may_leave g.D.Disk.moment g.D.Disk.left_since g.D.Disk.faults cell cell_text opening server.live.disk c.round.new.self c.round.new.lines (so.0 ++ said.0)
-    (peer_gave g.T.Peer c.args.peer.now c.round.new.peer) g.T.Peer.taken g.T.Peer.was_put g.T.Peer.faults c.args.peer.now c.round.new.peer c.fill.new.peer conv
-    c.fill.ensures.read.of_put c.fill.ensures.read.same c.fill.ensures.read.no_put)
+    (put_before g.D.Disk g.T.Peer server.live.cell cell_text opening server.live.disk c.args.peer.now c.round.new.self c.round.new.lines
+    c.round.new.peer conv.0 conv.1 c.fill.new.peer read)
     (c.is_spent.ensures.0 c.if-is_spent.true) (c.finish_beside.ensures.beside.unread ∙ c.in-Err-fill.ensures.nothing.0)
     (subst (Rose (g.T.Peer.read_faults c.round.new.peer)) (sym c.finish_beside.ensures.beside.no_read) c.in-Err-fill.ensures.cause.failed)
     c.finish_beside.result c.finish_beside.ensures.delivered
@@ -218,37 +152,18 @@ returns-in-Err-fill-clause-converses g c = λ cell_text opening behind.
 pub returns-in-Err-fill-clause-lives : goal.returns-in-Err-fill-clause-lives
 returns-in-Err-fill-clause-lives g c = λ start is.
     let server = c.args.server.now in
-    let cell = server.live.cell in
     let so = c.loop-round.invariant.goes_on start.text start.opening is.stands_after in
-    let front = talk_after cell (opened start.opening) (map (ask_of cell) so.0) in
-    let said = c.in_ok-round.ensures.round start.text front so.1.text so.0 so.1.stands_after so.1.reads in
-    let round = subst (λ (x : Cell). IsRound g.D.Disk.reads_as g.D.Disk.may_leave g.D.Disk.moment g.D.Disk.left_since g.D.Disk.faults x
-    (peer_took g.T.Peer c.loop-round.peer c.round.new.peer) start.text front so.1.text so.0
-    c.loop-round.server c.round.new.self c.round.new.lines said.0) so.1.cell_is said.1 in
-    let conv = round_goes g.D.Disk.reads_as g.D.Disk.may_leave g.D.Disk.moment g.D.Disk.left_since g.D.Disk.faults cell start.text start.opening
-    server.live.disk c.loop-round.server c.loop-round.lines so.0 (peer_gave g.T.Peer c.args.peer.now c.round.new.peer)
-    g.T.Peer.taken g.T.Peer.was_put g.T.Peer.faults c.args.peer.now c.loop-round.peer
-    (input_kept g.D.Disk.reads_as g.D.Disk.may_leave g.D.Disk.moment g.D.Disk.left_since g.D.Disk.faults cell start.text start.opening server.live.disk c.loop-round.server c.loop-round.lines so.0
-    (peer_took g.T.Peer c.args.peer.now c.loop-round.peer) g.T.Peer.given g.T.Peer.has_ended g.T.Peer.read_faults
-    c.args.peer.now c.loop-round.peer c.round.new.peer so.1 c.round.ensures.unread c.round.ensures.no_read)
-    c.round.new.peer c.round.new.self c.round.new.lines said.0 round c.in_ok-round.ensures.no_peer_fault
-    c.in_ok-round.ensures.no_disk_fault in
-    let lived = lives_then g.D.Disk g.T.Peer start server.live.disk c.loop-round.server.live.disk c.round.new.self.live.disk
-    c.args.peer.now c.loop-round.peer c.round.new.peer (c.loop-round.invariant.lives start is) so.1.left.tells
-    (λ clock. c.round.ensures.lives start so.1.text so.0
-    (served_to g.D.Disk g.T.Peer start server c.loop-round.server c.args.peer.now c.loop-round.peer c.loop-round.lines so.0 is so.1 clock)) in
-    lives_then g.D.Disk g.T.Peer start server.live.disk c.round.new.self.live.disk c.round.new.self.live.disk
-    c.args.peer.now c.round.new.peer c.finish_beside.new.peer lived conv.left.tells
-    (λ clock. lost_lives g.D.Disk g.T.Peer start c.round.new.self c.round.new.lines conv.text (so.0 ++ said.0) c.round.new.peer
-    c.fill.new.peer
-    (served_to g.D.Disk g.T.Peer start server c.round.new.self c.args.peer.now c.round.new.peer c.round.new.lines (so.0 ++ said.0) is conv
-    clock)
-    (has_room g.D.Disk g.T.Peer start server c.round.new.self c.round.new.lines (so.0 ++ said.0) c.args.peer.now is conv)
-    c.finish_beside.new.peer (early_line NotRead ∷ []) (inr (inl refl))
-    (subst (λ (d : _). IsRead g.D.Disk g.T.Peer d c.round.new.peer c.fill.new.peer) c.disk-then-is_spent.ensures c.fill.ensures.read)
-    c.in-Err-fill.ensures.nothing.0
-    (subst (λ (d : _). IsBeside g.D.Disk g.T.Peer d c.fill.new.peer c.finish_beside.new.peer (early_line NotRead ∷ [])) c.disk-in-Err-fill.ensures
-    c.finish_beside.ensures.beside))
+    let conv = round_answers g.D.Disk g.T.Peer server.live.cell start.text start.opening server.live.disk c.args.peer.now c.loop-round.server
+    c.loop-round.lines c.loop-round.peer so.0 so.1 c.round.new.peer c.round.new.self c.round.new.lines c.round.ensures.unread
+    c.round.ensures.no_read c.in_ok-round.ensures.round c.in_ok-round.ensures.no_peer_fault c.in_ok-round.ensures.no_disk_fault in
+    let read = subst (λ (d : _). IsRead g.D.Disk g.T.Peer d c.round.new.peer c.fill.new.peer) c.disk-then-is_spent.ensures
+    c.fill.ensures.read in
+    let lived = round_is_live g.D.Disk g.T.Peer start server c.args.peer.now is c.loop-round.server c.loop-round.lines c.loop-round.peer so.0
+    so.1 (c.loop-round.invariant.lives start is) c.round.new.self.live.disk c.round.new.peer c.round.ensures.lives in
+    lost_is_live g.D.Disk g.T.Peer start server c.args.peer.now is c.round.new.self c.round.new.lines c.round.new.peer conv.0 conv.1 lived
+    c.fill.new.peer c.finish_beside.new.peer (early_line NotRead ∷ []) (inr (inl refl)) read c.in-Err-fill.ensures.nothing.0
+    (subst (λ (d : _). IsBeside g.D.Disk g.T.Peer d c.fill.new.peer c.finish_beside.new.peer (early_line NotRead ∷ []))
+    c.disk-in-Err-fill.ensures c.finish_beside.ensures.beside)
 
 pub loop-round-preserved-in-Ok : goal.loop-round-preserved-in-Ok
 loop-round-preserved-in-Ok g c = record {
@@ -256,60 +171,29 @@ loop-round-preserved-in-Ok g c = record {
   handed = c.fill.ensures.read.none_handed ∙ c.in_ok-round.ensures.handed c.loop-round.invariant.handed ∙ sym c.fill.ensures.read.same;
   goes_on = λ cell_text opening behind.
       let server = c.args.server.now in
-      let cell = server.live.cell in
       let so = c.loop-round.invariant.goes_on cell_text opening behind in
-      let front = talk_after cell (opened opening) (map (ask_of cell) so.0) in
-      let said = c.in_ok-round.ensures.round cell_text front so.1.text so.0 so.1.stands_after so.1.reads in
-      let round = subst (λ (x : Cell). IsRound g.D.Disk.reads_as g.D.Disk.may_leave g.D.Disk.moment g.D.Disk.left_since g.D.Disk.faults x
-      (peer_took g.T.Peer c.loop-round.peer c.round.new.peer) cell_text front so.1.text so.0
-      c.loop-round.server c.round.new.self c.round.new.lines said.0) so.1.cell_is said.1 in
-      let conv = round_goes g.D.Disk.reads_as g.D.Disk.may_leave g.D.Disk.moment g.D.Disk.left_since g.D.Disk.faults cell cell_text opening
-      server.live.disk c.loop-round.server c.loop-round.lines so.0 (peer_gave g.T.Peer c.args.peer.now c.round.new.peer)
-      g.T.Peer.taken g.T.Peer.was_put g.T.Peer.faults c.args.peer.now c.loop-round.peer
-      (input_kept g.D.Disk.reads_as g.D.Disk.may_leave g.D.Disk.moment g.D.Disk.left_since g.D.Disk.faults cell cell_text opening server.live.disk c.loop-round.server c.loop-round.lines so.0
-      (peer_took g.T.Peer c.args.peer.now c.loop-round.peer) g.T.Peer.given g.T.Peer.has_ended g.T.Peer.read_faults
-      c.args.peer.now c.loop-round.peer c.round.new.peer so.1 c.round.ensures.unread c.round.ensures.no_read)
-      c.round.new.peer c.round.new.self c.round.new.lines said.0 round c.in_ok-round.ensures.no_peer_fault
-      c.in_ok-round.ensures.no_disk_fault in (
-        so.0 ++ said.0,
-        piece_comes g.D.Disk.reads_as g.D.Disk.may_leave g.D.Disk.moment g.D.Disk.left_since g.D.Disk.faults cell cell_text opening
-            server.live.disk c.round.new.self c.round.new.lines c.fill.new.self (so.0 ++ said.0)
-            (peer_took g.T.Peer c.args.peer.now c.fill.new.peer) g.T.Peer.given g.T.Peer.has_ended g.T.Peer.read_faults
-            c.args.peer.now c.round.new.peer c.fill.new.peer
-            (sink_kept g.D.Disk.reads_as g.D.Disk.may_leave g.D.Disk.moment g.D.Disk.left_since g.D.Disk.faults cell cell_text opening server.live.disk c.round.new.self c.round.new.lines (so.0 ++ said.0)
-            (peer_gave g.T.Peer c.args.peer.now c.round.new.peer) g.T.Peer.taken g.T.Peer.was_put g.T.Peer.faults c.args.peer.now c.round.new.peer c.fill.new.peer conv
-            c.fill.ensures.read.of_put c.fill.ensures.read.same c.fill.ensures.read.no_put)
-            c.in-Ok.field-0 c.in-Ok.ensures.goes_on c.in-Ok.ensures.cause.kept,
+      let conv = round_answers g.D.Disk g.T.Peer server.live.cell cell_text opening server.live.disk c.args.peer.now c.loop-round.server
+      c.loop-round.lines c.loop-round.peer so.0 so.1 c.round.new.peer c.round.new.self c.round.new.lines c.round.ensures.unread
+      c.round.ensures.no_read c.in_ok-round.ensures.round c.in_ok-round.ensures.no_peer_fault c.in_ok-round.ensures.no_disk_fault in
+      let read = subst (λ (d : _). IsRead g.D.Disk g.T.Peer d c.round.new.peer c.fill.new.peer) c.disk-then-is_spent.ensures
+      c.fill.ensures.read in (
+        conv.0,
+        piece_follows g.D.Disk g.T.Peer server.live.cell cell_text opening server.live.disk c.args.peer.now c.round.new.self
+            c.round.new.lines c.round.new.peer conv.0 conv.1 c.fill.new.peer c.fill.new.self c.in-Ok.field-0 read c.in-Ok.ensures.goes_on
+            c.in-Ok.ensures.cause.kept,
       );
   lives = λ start is.
       let server = c.args.server.now in
-      let cell = server.live.cell in
       let so = c.loop-round.invariant.goes_on start.text start.opening is.stands_after in
-      let front = talk_after cell (opened start.opening) (map (ask_of cell) so.0) in
-      let said = c.in_ok-round.ensures.round start.text front so.1.text so.0 so.1.stands_after so.1.reads in
-      let round = subst (λ (x : Cell). IsRound g.D.Disk.reads_as g.D.Disk.may_leave g.D.Disk.moment g.D.Disk.left_since g.D.Disk.faults x
-      (peer_took g.T.Peer c.loop-round.peer c.round.new.peer) start.text front so.1.text so.0
-      c.loop-round.server c.round.new.self c.round.new.lines said.0) so.1.cell_is said.1 in
-      let conv = round_goes g.D.Disk.reads_as g.D.Disk.may_leave g.D.Disk.moment g.D.Disk.left_since g.D.Disk.faults cell start.text start.opening
-      server.live.disk c.loop-round.server c.loop-round.lines so.0 (peer_gave g.T.Peer c.args.peer.now c.round.new.peer)
-      g.T.Peer.taken g.T.Peer.was_put g.T.Peer.faults c.args.peer.now c.loop-round.peer
-      (input_kept g.D.Disk.reads_as g.D.Disk.may_leave g.D.Disk.moment g.D.Disk.left_since g.D.Disk.faults cell start.text start.opening server.live.disk c.loop-round.server c.loop-round.lines so.0
-      (peer_took g.T.Peer c.args.peer.now c.loop-round.peer) g.T.Peer.given g.T.Peer.has_ended g.T.Peer.read_faults
-      c.args.peer.now c.loop-round.peer c.round.new.peer so.1 c.round.ensures.unread c.round.ensures.no_read)
-      c.round.new.peer c.round.new.self c.round.new.lines said.0 round c.in_ok-round.ensures.no_peer_fault
-      c.in_ok-round.ensures.no_disk_fault in
-      let lived = lives_then g.D.Disk g.T.Peer start server.live.disk c.loop-round.server.live.disk c.round.new.self.live.disk
-      c.args.peer.now c.loop-round.peer c.round.new.peer (c.loop-round.invariant.lives start is) so.1.left.tells
-      (λ clock. c.round.ensures.lives start so.1.text so.0
-      (served_to g.D.Disk g.T.Peer start server c.loop-round.server c.args.peer.now c.loop-round.peer c.loop-round.lines so.0 is so.1 clock)) in
-      lives_then g.D.Disk g.T.Peer start server.live.disk c.round.new.self.live.disk c.round.new.self.live.disk
-      c.args.peer.now c.round.new.peer c.fill.new.peer lived conv.left.tells
-      (λ clock. read_lives g.D.Disk g.T.Peer start c.round.new.self c.round.new.lines conv.text (so.0 ++ said.0) c.round.new.peer
-      c.fill.new.peer
-      (served_to g.D.Disk g.T.Peer start server c.round.new.self c.args.peer.now c.round.new.peer c.round.new.lines (so.0 ++ said.0) is conv
-      clock)
-      (has_room g.D.Disk g.T.Peer start server c.round.new.self c.round.new.lines (so.0 ++ said.0) c.args.peer.now is conv)
-      (subst (λ (d : _). IsRead g.D.Disk g.T.Peer d c.round.new.peer c.fill.new.peer) c.disk-then-is_spent.ensures c.fill.ensures.read));
+      let conv = round_answers g.D.Disk g.T.Peer server.live.cell start.text start.opening server.live.disk c.args.peer.now c.loop-round.server
+      c.loop-round.lines c.loop-round.peer so.0 so.1 c.round.new.peer c.round.new.self c.round.new.lines c.round.ensures.unread
+      c.round.ensures.no_read c.in_ok-round.ensures.round c.in_ok-round.ensures.no_peer_fault c.in_ok-round.ensures.no_disk_fault in
+      let read = subst (λ (d : _). IsRead g.D.Disk g.T.Peer d c.round.new.peer c.fill.new.peer) c.disk-then-is_spent.ensures
+      c.fill.ensures.read in
+      let lived = round_is_live g.D.Disk g.T.Peer start server c.args.peer.now is c.loop-round.server c.loop-round.lines c.loop-round.peer so.0
+      so.1 (c.loop-round.invariant.lives start is) c.round.new.self.live.disk c.round.new.peer c.round.ensures.lives in
+      read_is_live g.D.Disk g.T.Peer start server c.args.peer.now is c.round.new.self c.round.new.lines c.round.new.peer conv.0 conv.1 lived
+      c.fill.new.peer read;
 }
 
 pub loop-round-preserved : goal.loop-round-preserved
@@ -318,26 +202,12 @@ loop-round-preserved g c = record {
   handed = c.in_ok-round.ensures.handed c.loop-round.invariant.handed;
   goes_on = λ cell_text opening behind.
       let server = c.args.server.now in
-      let cell = server.live.cell in
       let so = c.loop-round.invariant.goes_on cell_text opening behind in
-      let front = talk_after cell (opened opening) (map (ask_of cell) so.0) in
-      let said = c.in_ok-round.ensures.round cell_text front so.1.text so.0 so.1.stands_after so.1.reads in
-      let round = subst (λ (x : Cell). IsRound g.D.Disk.reads_as g.D.Disk.may_leave g.D.Disk.moment g.D.Disk.left_since g.D.Disk.faults x
-      (peer_took g.T.Peer c.loop-round.peer c.round.new.peer) cell_text front so.1.text so.0
-      c.loop-round.server c.round.new.self c.round.new.lines said.0) so.1.cell_is said.1 in
-      let conv = round_goes g.D.Disk.reads_as g.D.Disk.may_leave g.D.Disk.moment g.D.Disk.left_since g.D.Disk.faults cell cell_text opening
-      server.live.disk c.loop-round.server c.loop-round.lines so.0 (peer_gave g.T.Peer c.args.peer.now c.round.new.peer)
-      g.T.Peer.taken g.T.Peer.was_put g.T.Peer.faults c.args.peer.now c.loop-round.peer
-      (input_kept g.D.Disk.reads_as g.D.Disk.may_leave g.D.Disk.moment g.D.Disk.left_since g.D.Disk.faults cell cell_text opening server.live.disk c.loop-round.server c.loop-round.lines so.0
-      (peer_took g.T.Peer c.args.peer.now c.loop-round.peer) g.T.Peer.given g.T.Peer.has_ended g.T.Peer.read_faults
-      c.args.peer.now c.loop-round.peer c.round.new.peer so.1 c.round.ensures.unread c.round.ensures.no_read)
-      c.round.new.peer c.round.new.self c.round.new.lines said.0 round c.in_ok-round.ensures.no_peer_fault
-      c.in_ok-round.ensures.no_disk_fault in (so.0 ++ said.0, conv);
+      round_answers g.D.Disk g.T.Peer server.live.cell cell_text opening server.live.disk c.args.peer.now c.loop-round.server
+      c.loop-round.lines c.loop-round.peer so.0 so.1 c.round.new.peer c.round.new.self c.round.new.lines c.round.ensures.unread
+      c.round.ensures.no_read c.in_ok-round.ensures.round c.in_ok-round.ensures.no_peer_fault c.in_ok-round.ensures.no_disk_fault;
   lives = λ start is.
-      let server = c.args.server.now in
       let so = c.loop-round.invariant.goes_on start.text start.opening is.stands_after in
-      lives_then g.D.Disk g.T.Peer start server.live.disk c.loop-round.server.live.disk c.round.new.self.live.disk
-      c.args.peer.now c.loop-round.peer c.round.new.peer (c.loop-round.invariant.lives start is) so.1.left.tells
-      (λ clock. c.round.ensures.lives start so.1.text so.0
-      (served_to g.D.Disk g.T.Peer start server c.loop-round.server c.args.peer.now c.loop-round.peer c.loop-round.lines so.0 is so.1 clock));
+      round_is_live g.D.Disk g.T.Peer start c.args.server.now c.args.peer.now is c.loop-round.server c.loop-round.lines c.loop-round.peer so.0
+      so.1 (c.loop-round.invariant.lives start is) c.round.new.self.live.disk c.round.new.peer c.round.ensures.lives;
 }
