@@ -5,7 +5,9 @@ ghost use Rattle.record_text.specs.Fitting.{ToldFits, EntryFits};
 use cell_base::{
     Cell, Entry, JobId, List, NoMemory, Refusal, Reply, Request, ResId, Told, TypeId, request_fits,
 };
-use record_text::{Line, head_line, left_line, line_of, plan_line, step_line};
+use record_text::{
+    Line, PLAIN_REFUSALS, head_line, left_line, line_of, plan_line, refusal_word, step_line,
+};
 use std::alloc::Global;
 use std::test::Fail;
 use test_fixtures::{add_machine, add_type};
@@ -139,24 +141,12 @@ fn each_entry_has_its_line(rt: HostRuntime) -> Result<(), Fail> {
         let line = printed(&cell, session, request, Told::Answered(Reply::Granted));
         assert_eq!(rt; line.as_ref().map(|line| line.bytes()), Some(text));
     }
-    let answers: [(Told, &[u8]); 9] = [
+    let answers: [(Told, &[u8]); 3] = [
         (Told::Halted, b"1 move 7 halted\n"),
-        (
-            refused(Refusal::JobLoaded),
-            b"1 move 7 refused job-loaded\n",
-        ),
-        (
-            refused(Refusal::NoSuchJob),
-            b"1 move 7 refused no-such-job\n",
-        ),
         (
             refused(Refusal::NotProcessed),
             b"1 move 7 refused not-processed\n",
         ),
-        (refused(Refusal::AtLast), b"1 move 7 refused at-last\n"),
-        (refused(Refusal::NotLast), b"1 move 7 refused not-last\n"),
-        (refused(Refusal::Idle), b"1 move 7 refused idle\n"),
-        (refused(Refusal::NoBranch), b"1 move 7 refused no-branch\n"),
         (
             saturated(0, 2, 3),
             b"1 move 7 refused saturated M1 2 of 3\n",
@@ -165,6 +155,22 @@ fn each_entry_has_its_line(rt: HostRuntime) -> Result<(), Fail> {
     for (told, text) in answers {
         let line = printed(&cell, 1, move_by(0), told);
         assert_eq!(rt; line.as_ref().map(|line| line.bytes()), Some(text));
+    }
+    Ok(())
+}
+
+#[test]
+fn each_plain_refusal_has_its_word(rt: HostRuntime) -> Result<(), Fail> {
+    let cell = named_cell(rt.alloc())?;
+    for why in PLAIN_REFUSALS {
+        let mut wanted = Line::of_word(b"1 move 7 refused");
+        wanted.word(refusal_word(&why));
+        let wanted = wanted.end();
+        let line = printed(&cell, 1, move_by(0), refused(why));
+        assert_eq!(rt;
+            line.as_ref().map(|line| line.bytes()),
+            Some(wanted.bytes())
+        );
     }
     Ok(())
 }

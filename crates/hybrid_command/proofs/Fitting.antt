@@ -5,8 +5,7 @@ use Rattle.cell_base.specs.declared.cells.Cell.{Cell}
 use Rattle.cell_base.specs.declared.requests.Part.{Part}
 use Rattle.cell_base.specs.declared.requests.Request.{Request}
 use Rattle.cell_base.specs.declared.requests.Refusal.{Refusal}
-use Rattle.cell_base.specs.declared.requests.Refusal.TheVariants.{JobLoaded, NoSuchJob, NotProcessed, AtLast}
-use Rattle.cell_base.specs.declared.requests.Refusal.TheVariants.{NotLast, Idle, Saturated, NoBranch}
+use Rattle.cell_base.specs.declared.requests.Refusal.TheVariants.{Saturated}
 use Rattle.cell_base.specs.declared.requests.Told.TheVariants.{Answered}
 use Rattle.cell_base.specs.Fits.{CellFits, RequestFits}
 use Rattle.policy_laws.proofs.States.{IsAdmitted-empty}
@@ -29,13 +28,7 @@ module _ (cell : Cell) (fits : CellFits cell) where
       → reply_h cell parts request ≡ Refused why → RefusalFits cell why
   refusal_fits parts request (Saturated at held units) kept fit is =
       absurd (unsaturated_law cell fits parts request (hybrid-state cell parts kept) fit at held units is)
-  refusal_fits parts request JobLoaded kept fit is = tt
-  refusal_fits parts request NoSuchJob kept fit is = tt
-  refusal_fits parts request NotProcessed kept fit is = tt
-  refusal_fits parts request AtLast kept fit is = tt
-  refusal_fits parts request NotLast kept fit is = tt
-  refusal_fits parts request Idle kept fit is = tt
-  refusal_fits parts request NoBranch kept fit is = tt
+  refusal_fits parts request why kept fit is = tt
 
   -- a block names one of the cell
   told_fits : (parts : List Part) (request : Request) (told : HybridReply) → IsHybrid cell parts → RequestFits cell request

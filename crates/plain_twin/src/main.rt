@@ -1,5 +1,5 @@
 //! The program `plain_twin`: asks the core and the plain recount the same drawn requests on three cells, and prints how many there
-//! were, how many were granted, and how many refused, by kind. At the first difference it says so and ends with status 1.
+//! were, how many were granted, and how many refused, by their words. At the first difference it says so and ends with status 1.
 #![tactic(auto)]
 
 mod draws;
@@ -25,7 +25,7 @@ fn main(rt: HostRuntime) -> ExitCode {
 
 // Asks both on each cell.
 fn compare_all<R: Print + AllocGlobal>(rt: &R) -> Result<()> {
-    let mut replies = Replies::none();
+    let mut replies = Replies::none(rt.alloc());
     for shape in SHAPES {
         let cell = cell_of(rt.alloc(), shape).ok().context("no memory")?;
         if !cell_fits(&cell) {

@@ -24,7 +24,7 @@ pub fn compare(alloc: Global, cell: &Cell, replies: &mut Replies) -> Result<()>
     for _ in 0..DRAWN {
         let request = draws.request();
         if request_fits(cell, &request) {
-            replies.note(ask_both(&mut core, &mut recount, &request)?);
+            replies.note(ask_both(&mut core, &mut recount, &request)?)?;
         }
     }
     Ok(())

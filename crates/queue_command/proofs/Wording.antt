@@ -5,8 +5,6 @@ use Rattle.std.proofs.lemmas.List.{append_assoc, length-append}
 use Rattle.std.proofs.Math.Seq.{take-append_seam}
 use Rattle.cell_base.specs.declared.cells.Cell.{Cell}
 use Rattle.cell_base.specs.declared.requests.Refusal.{Refusal}
-use Rattle.cell_base.specs.declared.requests.Refusal.TheVariants.{JobLoaded, NoSuchJob, NotProcessed, AtLast}
-use Rattle.cell_base.specs.declared.requests.Refusal.TheVariants.{NotLast, Idle, Saturated, NoBranch}
 use Rattle.cell_base.specs.declared.requests.Reply.{Reply}
 use Rattle.cell_base.specs.declared.requests.Reply.TheVariants.{Granted, Refused}
 use Rattle.cell_base.specs.declared.requests.Request.{Request}
@@ -24,17 +22,6 @@ first_part whole first behind n is at =
     let long = ap length is ∙ length-append first (32 ∷ behind) in
     let same : n ≡ length first = omega (arith, at, long) in
     ap (λ k. take k whole) same ∙ ap (take (length first)) is ∙ take-append_seam first (32 ∷ behind)
-
--- why a request was refused is never without words
-some_why : (cell : Cell) (why : Refusal) → (word : List ℕ) × (more : List (List ℕ)) × (why_words cell why ≡ word ∷ more)
-some_why cell JobLoaded = (_, _, refl)
-some_why cell NoSuchJob = (_, _, refl)
-some_why cell NotProcessed = (_, _, refl)
-some_why cell AtLast = (_, _, refl)
-some_why cell NotLast = (_, _, refl)
-some_why cell Idle = (_, _, refl)
-some_why cell NoBranch = (_, _, refl)
-some_why cell (Saturated at count capacity) = (_, _, refl)
 
 module _ (cell : Cell) (session : ℕ) (request : Request) where
   abbrev asked : List ℕ
@@ -75,27 +62,24 @@ module _ (cell : Cell) (session : ℕ) (request : Request) where
       module _ (why : Refusal) (four five reason line : List ℕ) (is : reply ≡ Refused why) (four_is : four ≡ replied reply)
           (five_is : five ≡ replied reply) (reason_is : reason ≡ take (length five - 1 - 8) (drop 8 four)) where
         -- what stands after the word is the text of the reason
-        reason_text : (v : List ℕ) (vs : List (List ℕ)) → why_words cell why ≡ v ∷ vs → reason ≡ joined (v ∷ vs)
-        reason_text v vs words =
-            let text : replied reply ≡ line_of (codes "refused" ∷ v ∷ vs) =
-            ap replied is ∙ ap (λ ws. line_of (codes "refused" ∷ ws)) words in
-            let behind : drop 8 (line_of (codes "refused" ∷ v ∷ vs)) ≡ joined (v ∷ vs) ++ 10 ∷ [] = refl in
-            let long : length (line_of (codes "refused" ∷ v ∷ vs)) ≡ 8 + length (joined (v ∷ vs) ++ 10 ∷ []) = omega arith in
-            let end = length-append (joined (v ∷ vs)) (10 ∷ []) in
-            let n : length five - 1 - 8 ≡ length (joined (v ∷ vs)) = omega (arith, ap length (five_is ∙ text), long, end) in
-            reason_is ∙ ap (λ k. take k (drop 8 four)) n ∙ ap (λ bytes. take (length (joined (v ∷ vs))) (drop 8 bytes)) (four_is ∙ text)
-            ∙ ap (take (length (joined (v ∷ vs)))) behind ∙ take-append_seam (joined (v ∷ vs)) (10 ∷ [])
+        reason_text : reason ≡ joined (why_words cell why)
+        reason_text =
+            let words = why_words cell why in
+            let behind : drop 8 (line_of (codes "refused" ∷ words)) ≡ joined words ++ 10 ∷ [] = refl in
+            let long : length (line_of (codes "refused" ∷ words)) ≡ 8 + length (joined words ++ 10 ∷ []) = omega arith in
+            let end = length-append (joined words) (10 ∷ []) in
+            let n : length five - 1 - 8 ≡ length (joined words) = omega (arith, ap length (five_is ∙ ap replied is), long, end) in
+            reason_is ∙ ap (λ k. take k (drop 8 four)) n ∙ ap (λ bytes. take (length (joined words)) (drop 8 bytes)) (four_is ∙ ap replied is)
+            ∙ ap (take (length (joined words))) behind ∙ take-append_seam (joined words) (10 ∷ [])
 
         pub line_of_refusal : line ≡ worded ++ 32 ∷ reason → closed ≡ line ++ 10 ∷ []
             → closed ≡ asked_line cell session request (word ∷ reason_words cell reply)
         line_of_refusal line_is closed_is =
-            let some = some_why cell why in
-            let text = joined (some.0 ∷ some.1) in
+            let text = joined (why_words cell why) in
             let made : closed ≡ ((asked ++ 32 ∷ word) ++ 32 ∷ text) ++ 10 ∷ [] =
             closed_is ∙ ap (λ bytes. bytes ++ 10 ∷ []) (line_is ∙ ap (λ bytes. bytes ++ 32 ∷ reason) worded_asked
-            ∙ ap (λ bytes. (asked ++ 32 ∷ word) ++ 32 ∷ bytes) (reason_text some.0 some.1 some.2)) in
+            ∙ ap (λ bytes. (asked ++ 32 ∷ word) ++ 32 ∷ bytes) reason_text) in
             made ∙ ap (λ bytes. bytes ++ 10 ∷ []) (append_assoc asked (32 ∷ word) (32 ∷ text))
             ∙ append_assoc asked (32 ∷ word ++ 32 ∷ text) (10 ∷ [])
-            ∙ sym (line_parted (decimal session) (request_words cell request) word (some.0 ∷ some.1))
-            ∙ ap (λ ws. asked_line cell session request (word ∷ ws)) (sym some.2)
+            ∙ sym (line_parted (decimal session) (request_words cell request) word (why_words cell why))
             ∙ ap (λ reply. asked_line cell session request (word ∷ reason_words cell reply)) (sym is)

@@ -5,8 +5,7 @@ use Rattle.cell_base.specs.declared.cells.Cell.{Cell}
 use Rattle.cell_base.specs.declared.requests.Part.{Part}
 use Rattle.cell_base.specs.declared.requests.Request.{Request}
 use Rattle.cell_base.specs.declared.requests.Refusal.{Refusal}
-use Rattle.cell_base.specs.declared.requests.Refusal.TheVariants.{JobLoaded, NoSuchJob, NotProcessed, AtLast}
-use Rattle.cell_base.specs.declared.requests.Refusal.TheVariants.{NotLast, Idle, Saturated, NoBranch}
+use Rattle.cell_base.specs.declared.requests.Refusal.TheVariants.{Saturated}
 use Rattle.cell_base.specs.declared.requests.Reply.TheVariants.{Granted, Refused}
 use Rattle.cell_base.specs.declared.requests.Told.{Told}
 use Rattle.cell_base.specs.declared.requests.Told.TheVariants.{Answered, Halted}
@@ -24,13 +23,7 @@ module _ (cell : Cell) (fits : CellFits cell) where
       → reply_to cell parts request ≡ Refused why → RefusalFits cell why
   refusal_fits parts request (Saturated at held units) admitted fit is =
       (saturation_law cell fits parts admitted request fit at held units is).resource
-  refusal_fits parts request JobLoaded admitted fit is = tt
-  refusal_fits parts request NoSuchJob admitted fit is = tt
-  refusal_fits parts request NotProcessed admitted fit is = tt
-  refusal_fits parts request AtLast admitted fit is = tt
-  refusal_fits parts request NotLast admitted fit is = tt
-  refusal_fits parts request Idle admitted fit is = tt
-  refusal_fits parts request NoBranch admitted fit is = tt
+  refusal_fits parts request why admitted fit is = tt
 
   told_fits : (parts : List Part) (request : Request) (told : Told) (later : List Entry) → IsAdmitted cell parts
       → RequestFits cell request

@@ -14,8 +14,7 @@ use Rattle.cell_base.specs.declared.cells.Cell.{Cell}
 use Rattle.cell_base.specs.declared.requests.Request.{Request}
 use Rattle.cell_base.specs.declared.requests.Request.TheVariants.{Load, Process, Move, Unload, Place}
 use Rattle.cell_base.specs.declared.requests.Refusal.{Refusal}
-use Rattle.cell_base.specs.declared.requests.Refusal.TheVariants.{JobLoaded, NoSuchJob, NotProcessed, AtLast}
-use Rattle.cell_base.specs.declared.requests.Refusal.TheVariants.{NotLast, Idle, Saturated, NoBranch}
+use Rattle.cell_base.specs.declared.requests.Refusal.TheVariants.{Saturated}
 use Rattle.cell_base.specs.declared.requests.Reply.TheVariants.{Granted, Refused}
 use Rattle.cell_base.specs.declared.requests.Told.{Told}
 use Rattle.cell_base.specs.declared.requests.Told.TheVariants.{Answered, Halted}
@@ -30,6 +29,7 @@ use Rattle.record_text.specs.BadLines.{is_newline}
 use Rattle.record_text.specs.Fitting.{RefusalFits, ToldFits}
 use Rattle.record_text.specs.Ranges.{RefusalInRange, ToldInRange, EntryIsWritten, StepIsWritten}
 use Rattle.record_text.specs.Lines.{head_words, why_words, told_words, entry_words, left_words, plan_words}
+use Rattle.record_text.specs.RefusalWords.{refusal_word}
 use Rattle.record_text.proofs.Requesting.{stage_is_small, step_fits}
 use Rattle.record_text.proofs.Splitting.{IsLine}
 
@@ -99,13 +99,6 @@ module _ (cell : Cell) (fits : CellFits cell) where
       )
 
   plain_why : (why : Refusal) → RefusalFits cell why → RefusalInRange why → ArePlain (why_words cell why)
-  plain_why JobLoaded known range = (key (codes "job-loaded") refl, tt)
-  plain_why NoSuchJob known range = (key (codes "no-such-job") refl, tt)
-  plain_why NotProcessed known range = (key (codes "not-processed") refl, tt)
-  plain_why AtLast known range = (key (codes "at-last") refl, tt)
-  plain_why NotLast known range = (key (codes "not-last") refl, tt)
-  plain_why Idle known range = (key (codes "idle") refl, tt)
-  plain_why NoBranch known range = (key (codes "no-branch") refl, tt)
   plain_why (Saturated at count capacity) known range = (
     key (codes "saturated") refl,
     (
@@ -113,6 +106,7 @@ module _ (cell : Cell) (fits : CellFits cell) where
       (job count range.0, (key (codes "of") refl, (job capacity range.1, tt))),
     ),
   )
+  plain_why why known range = (key (refusal_word why) refl, tt)
 
   plain_told : (told : Told) → ToldFits cell told → ToldInRange told → ArePlain (told_words cell told)
   plain_told (Answered Granted) known range = (key (codes "granted") refl, tt)

@@ -3,8 +3,7 @@ use Rattle.std.specs.Prelude.{◌<◌, ◌^◌, ⊤}
 use Rattle.cell_base.specs.declared.cells.Cell.{Cell}
 use Rattle.cell_base.specs.declared.requests.Request.{Request}
 use Rattle.cell_base.specs.declared.requests.Refusal.{Refusal}
-use Rattle.cell_base.specs.declared.requests.Refusal.TheVariants.{JobLoaded, NoSuchJob, NotProcessed, AtLast}
-use Rattle.cell_base.specs.declared.requests.Refusal.TheVariants.{NotLast, Idle, Saturated, NoBranch}
+use Rattle.cell_base.specs.declared.requests.Refusal.TheVariants.{Saturated}
 use Rattle.cell_base.specs.declared.requests.Reply.TheVariants.{Granted, Refused}
 use Rattle.cell_base.specs.declared.requests.Told.{Told}
 use Rattle.cell_base.specs.declared.requests.Told.TheVariants.{Answered, Halted}
@@ -15,13 +14,7 @@ use Rattle.record_text.specs.Fitting.{EntryFits}
 -- the numbers of a saturation are 32 bits each
 abbrev pub RefusalInRange : Refusal → Type 0
 RefusalInRange (Saturated at count capacity) = (count < 2 ^ 32) × (capacity < 2 ^ 32)
-RefusalInRange JobLoaded = ⊤
-RefusalInRange NoSuchJob = ⊤
-RefusalInRange NotProcessed = ⊤
-RefusalInRange AtLast = ⊤
-RefusalInRange NotLast = ⊤
-RefusalInRange Idle = ⊤
-RefusalInRange NoBranch = ⊤
+RefusalInRange why = ⊤
 
 -- the same of what was told
 abbrev pub ToldInRange : Told → Type 0

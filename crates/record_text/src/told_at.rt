@@ -1,11 +1,9 @@
 //! What was told of a request, up to the end of the line.
 ghost use Rattle.std.specs.Prelude.{◌≡◌};
 ghost use Rattle.std.specs.Option.{option_copied};
-ghost use Rattle.record_text.specs.Reading.{words_of_rest, saturated_at, plain_refusal, why_at, told_at};
+ghost use Rattle.record_text.specs.Reading.{words_of_rest, saturated_at, why_at, told_at};
 
-use crate::refusal_words::{
-    AT_LAST, IDLE, JOB_LOADED, NO_BRANCH, NO_SUCH_JOB, NOT_LAST, NOT_PROCESSED, SATURATED,
-};
+use crate::refusal_words::{SATURATED, plain_refusal};
 use crate::words::{Rest, after_word, is_end, number_at, resource_at, word_at};
 use cell_base::{Refusal, Reply, ResId, Told};
 use step_text::IndexedCell;
@@ -56,34 +54,6 @@ fn why_at(cell: &IndexedCell<'_>, rest: Rest<'_>) -> Option<Refusal>
     }
     let why = plain_refusal(word)?;
     if is_end(rest) { Some(why) } else { None }
-}
-
-#[tactic(auto, unfolding(crate::specs::Reading::plain_refusal))]
-fn plain_refusal(word: &[u8]) -> Option<Refusal>
-    ensures { result ≡ plain_refusal word.now }
-{
-    if word == JOB_LOADED {
-        return Some(Refusal::JobLoaded);
-    }
-    if word == NO_SUCH_JOB {
-        return Some(Refusal::NoSuchJob);
-    }
-    if word == NOT_PROCESSED {
-        return Some(Refusal::NotProcessed);
-    }
-    if word == AT_LAST {
-        return Some(Refusal::AtLast);
-    }
-    if word == NOT_LAST {
-        return Some(Refusal::NotLast);
-    }
-    if word == IDLE {
-        return Some(Refusal::Idle);
-    }
-    if word == NO_BRANCH {
-        return Some(Refusal::NoBranch);
-    }
-    None
 }
 
 #[tactic(auto, unfolding(crate::specs::Reading::saturated_at))]

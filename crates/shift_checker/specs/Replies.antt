@@ -1,22 +1,16 @@
 -- Whether two replies are the same, as a test.
 use Rattle.std.specs.Prelude.{Bool, true, false, ◌&&◌, ◌==◌}
+use Rattle.std.specs.Str.{bytes_eq}
 use Rattle.cell_base.specs.declared.requests.Refusal.{Refusal}
-use Rattle.cell_base.specs.declared.requests.Refusal.TheVariants.{JobLoaded, NoSuchJob, NotProcessed, AtLast}
-use Rattle.cell_base.specs.declared.requests.Refusal.TheVariants.{NotLast, Idle, Saturated, NoBranch}
+use Rattle.cell_base.specs.declared.requests.Refusal.TheVariants.{Saturated}
 use Rattle.cell_base.specs.declared.requests.Reply.{Reply}
 use Rattle.cell_base.specs.declared.requests.Reply.TheVariants.{Granted, Refused}
+use Rattle.record_text.specs.RefusalWords.{refusal_word}
 
--- the same reason, with the same numbers
+-- the same reason, by its word, with the same numbers
 abbrev pub same_refusal : Refusal → Refusal → Bool
-same_refusal JobLoaded JobLoaded = true
-same_refusal NoSuchJob NoSuchJob = true
-same_refusal NotProcessed NotProcessed = true
-same_refusal AtLast AtLast = true
-same_refusal NotLast NotLast = true
-same_refusal Idle Idle = true
-same_refusal NoBranch NoBranch = true
 same_refusal (Saturated at count capacity) (Saturated r held units) = (at.0 == r.0) && (count == held) && (capacity == units)
-same_refusal why other = false
+same_refusal why other = bytes_eq (refusal_word why) (refusal_word other)
 
 -- both grants, or the same refusal
 abbrev pub same_reply : Reply → Reply → Bool

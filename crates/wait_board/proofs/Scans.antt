@@ -7,8 +7,7 @@ use Rattle.cell_base.specs.declared.cells.Cell.{Cell}
 use Rattle.cell_base.specs.declared.requests.Part.{Part}
 use Rattle.cell_base.specs.declared.requests.Request.{Request}
 use Rattle.cell_base.specs.declared.requests.Refusal.{Refusal}
-use Rattle.cell_base.specs.declared.requests.Refusal.TheVariants.{JobLoaded, NoSuchJob, NotProcessed, AtLast, NotLast}
-use Rattle.cell_base.specs.declared.requests.Refusal.TheVariants.{Idle, Saturated, NoBranch}
+use Rattle.cell_base.specs.declared.requests.Refusal.TheVariants.{Saturated}
 use Rattle.cell_base.specs.declared.requests.Reply.{Reply}
 use Rattle.cell_base.specs.declared.requests.Reply.TheVariants.{Granted, Refused}
 use Rattle.cell_base.specs.Fits.{CellFits, RequestFits, IsWithin}
@@ -51,14 +50,8 @@ module _ (cell : Cell) where
     -- a saturation names a neighborhood that is full
     pub full : (parts : List Part) (request : Request) (why : Refusal) → IsAdmitted cell parts → RequestFits cell request
         → reply_to cell parts request ≡ Refused why → is_saturation why ≡ true → IsFullFor cell parts why
-    full parts request JobLoaded admitted fit is sat = false-true sat
-    full parts request NoSuchJob admitted fit is sat = false-true sat
-    full parts request NotProcessed admitted fit is sat = false-true sat
-    full parts request AtLast admitted fit is sat = false-true sat
-    full parts request NotLast admitted fit is sat = false-true sat
-    full parts request Idle admitted fit is sat = false-true sat
     full parts request (Saturated at held units) admitted fit is sat = saturation_law cell fits parts admitted request fit at held units is
-    full parts request NoBranch admitted fit is sat = false-true sat
+    full parts request why admitted fit is sat = false-true sat
 
     module _ (sessions : ℕ) where
       -- what stays true of a waiter whatever the parts

@@ -4,8 +4,7 @@ use Rattle.std.proofs.lemmas.List.{length-append}
 use Rattle.cell_base.specs.declared.cells.Cell.{Cell}
 use Rattle.cell_base.specs.declared.cells.ResId.{ResId}
 use Rattle.cell_base.specs.declared.requests.Refusal.{Refusal}
-use Rattle.cell_base.specs.declared.requests.Refusal.TheVariants.{JobLoaded, NoSuchJob, NotProcessed, AtLast, NotLast}
-use Rattle.cell_base.specs.declared.requests.Refusal.TheVariants.{Idle, Saturated, NoBranch}
+use Rattle.cell_base.specs.declared.requests.Refusal.TheVariants.{Saturated}
 use Rattle.policy_laws.specs.Decisions.{is_saturation}
 use Rattle.cell_base.specs.Outcomes.{reply_to, state_after}
 use Rattle.admission_core.specs.CoreState.{CoreState}
@@ -44,11 +43,5 @@ one-more told longer e is = ap (λ (xs : List BoardEntry). length xs) is ∙ len
 
 -- a refusal that names no neighborhood is no saturation
 pub unsaturated : (why : Refusal) → ((at : ResId) (held units : ℕ) → why ≡ Saturated at held units → ⊥) → is_saturation why ≡ false
-unsaturated JobLoaded not = refl
-unsaturated NoSuchJob not = refl
-unsaturated NotProcessed not = refl
-unsaturated AtLast not = refl
-unsaturated NotLast not = refl
-unsaturated Idle not = refl
 unsaturated (Saturated at held units) not = absurd (not at held units refl)
-unsaturated NoBranch not = refl
+unsaturated why not = refl

@@ -4,8 +4,7 @@ use Rattle.cell_base.specs.declared.cells.Cell.{Cell}
 use Rattle.cell_base.specs.declared.requests.Part.{Part}
 use Rattle.cell_base.specs.declared.requests.Request.{Request}
 use Rattle.cell_base.specs.declared.requests.Refusal.{Refusal}
-use Rattle.cell_base.specs.declared.requests.Refusal.TheVariants.{JobLoaded, NoSuchJob, NotProcessed, AtLast}
-use Rattle.cell_base.specs.declared.requests.Refusal.TheVariants.{NotLast, Idle, Saturated, NoBranch}
+use Rattle.cell_base.specs.declared.requests.Refusal.TheVariants.{Saturated}
 use Rattle.cell_base.specs.declared.requests.Reply.TheVariants.{Refused}
 use Rattle.cell_base.specs.Outcomes.{reply_to}
 use Rattle.cell_base.specs.Policy.{IsAdmitted}
@@ -18,13 +17,7 @@ present : (cell : Cell) → CellFits cell → (parts : List Part) → IsAdmitted
     → (why : Refusal) → reply_to cell parts request ≡ Refused why → IsPresent cell parts why
 present cell fits parts admitted request fit (Saturated at held units) e =
     saturation_law cell fits parts admitted request fit at held units e
-present cell fits parts admitted request fit JobLoaded e = tt
-present cell fits parts admitted request fit NoSuchJob e = tt
-present cell fits parts admitted request fit NotProcessed e = tt
-present cell fits parts admitted request fit AtLast e = tt
-present cell fits parts admitted request fit NotLast e = tt
-present cell fits parts admitted request fit Idle e = tt
-present cell fits parts admitted request fit NoBranch e = tt
+present cell fits parts admitted request fit why e = tt
 
 pub returns : goal.returns
 returns c =
