@@ -1,13 +1,11 @@
 -- How the whole lines of a text go on after what was read.
-use Rattle.std.specs.Prelude.{min, position, slice_range}
-use Rattle.std.specs.List.{position_or_len}
+use Rattle.std.specs.Prelude.{min, slice_range}
 use Rattle.std.proofs.Common.{◌≡◌, ℕ, zero, suc, ◌+◌, ◌-◌, ◌<◌, ◌≤◌, inl, inr, cond, Bool, true, false, List, [], ◌∷◌, ◌++◌}
 use Rattle.std.proofs.Common.{length, take, drop, get_or, Some, None, refl, sym, ap, ◌∙◌, arith, append_assoc, append-nil}
-use Rattle.std.proofs.lemmas.Bool.{cases_lt, lt-ltb}
+use Rattle.std.proofs.lemmas.Bool.{cases_lt, false_from_ne_true}
 use Rattle.std.proofs.lemmas.List.{drop-drop, drop-take, drop_all, length-take, take-take, take_all}
 use Rattle.std.proofs.Math.Seq.{take-append-add, take-append_seam}
-use Rattle.std.proofs.lemmas.List.Quantifiers.{position-Some}
-use Rattle.std.proofs.lemmas.List.Sums.{fails_before_first}
+use Rattle.memchr.specs.Find.{IsFirstByte}
 use Rattle.input_lines.specs.Lines.{is_newline, lines_after, whole_lines}
 use Rattle.input_lines.specs.Reading.{AreLinesSoFar, LinesState}
 
@@ -48,31 +46,20 @@ drop_one (suc n) [] = refl
 drop_one (suc n) (x ∷ xs) = drop_one n xs
 
 -- up to the first newline
-pub up_to_newline : (begun ahead more : List ℕ) (count : ℕ) → Some count ≡ position is_newline ahead
+pub up_to_newline : (begun ahead more : List ℕ) (count : ℕ) → IsFirstByte is_newline ahead (Some count)
     → lines_after begun (ahead ++ more) ≡ (begun ++ take count ahead) ∷ lines_after [] (drop (suc count) ahead ++ more)
-up_to_newline begun ahead more count at =
-    let there = position-Some is_newline ahead count 0 (sym at) in
-    no_newline begun ahead more count (omega (arith, there.0)) there.2
-    ∙ newline_at (begun ++ take count ahead) (drop count ahead) more (length_drop count ahead there.0)
-    (ap is_newline (get_drop count ahead) ∙ there.1)
+up_to_newline begun ahead more count first =
+    let inside : count < length ahead = first.0.high in
+    no_newline begun ahead more count (omega (arith, inside)) (λ k less. false_from_ne_true _ (first.0.before k (omega arith) less))
+    ∙ newline_at (begun ++ take count ahead) (drop count ahead) more (length_drop count ahead inside)
+    (ap is_newline (get_drop count ahead) ∙ first.1)
     ∙ ap (λ (rest : List ℕ). (begun ++ take count ahead) ∷ lines_after [] (rest ++ more)) (drop_one count ahead)
 
 -- there is none
-nowhere : (ahead : List ℕ) → None ≡ position is_newline ahead → length ahead ≤ position_or_len is_newline ahead
-nowhere ahead none = elim (cases_lt (position_or_len is_newline ahead) (length ahead)) [
-  | inl less ↦
-      let same : None ≡ Some (position_or_len is_newline ahead) =
-      none ∙ ap (λ b. cond b (Some (position_or_len is_newline ahead)) None)
-      (lt-ltb (position_or_len is_newline ahead) (length ahead) less) in
-      absurd cc
-  | inr most ↦ most
-]
-
-pub without_newline : (begun ahead more : List ℕ) → None ≡ position is_newline ahead
+pub without_newline : (begun ahead more : List ℕ) → IsFirstByte is_newline ahead None
     → lines_after begun (ahead ++ more) ≡ lines_after (begun ++ ahead) more
 without_newline begun ahead more none =
-    no_newline begun ahead more (length ahead) (omega arith)
-    (λ k less. fails_before_first is_newline ahead k 0 (omega (arith, less, nowhere ahead none)))
+    no_newline begun ahead more (length ahead) (omega arith) (λ k less. false_from_ne_true _ (none k (omega arith) less))
     ∙ (λ i. lines_after (begun ++ take_all (length ahead) ahead (omega arith) i) (drop_all (length ahead) ahead (omega arith) i ++ more))
 
 -- ---- a piece
@@ -113,6 +100,21 @@ module _ (piece : List ℕ) (at end count : ℕ) (few : count ≤ length (slice_
       ap (take rest) (sym (drop-drop count at piece)) ∙ sym (drop-take count rest (drop at piece))
       ∙ ap (λ (n : ℕ). drop count (take n (drop at piece))) (sym all)
 
+-- of a line that stands whole in a piece the first bytes are lent
+pub lent_line : (piece : List ℕ) (at end count : ℕ) → count ≤ length (slice_range piece at end)
+    → slice_range piece at (at + min count 67) ≡ take 67 (take count (slice_range piece at end))
+lent_line piece at end count few =
+    let ahead : List ℕ = slice_range piece at end in
+    let kept : take (min count 67) ahead ≡ take 67 (take count ahead) = elim (cases_lt 67 count) [
+      | inl more ↦
+          let all : min count 67 ≡ 67 = omega (arith, more) in
+          ap (λ (n : ℕ). take n ahead) all ∙ sym (take-take 67 count ahead (omega (arith, more)))
+      | inr less ↦
+          let all : min count 67 ≡ count = omega (arith, less) in
+          ap (λ (n : ℕ). take n ahead) all ∙ sym (take_all 67 (take count ahead) (omega (arith, less, length-take count ahead)))
+    ] in
+    ahead_first piece at end (min count 67) (omega (arith, few)) ∙ kept
+
 -- ---- reading
 
 -- the first bytes are those of the first bytes of a front
@@ -123,7 +125,7 @@ take_front (suc n) (x ∷ front) rest = ap (λ (xs : List ℕ). x ∷ xs) (take_
 
 module _ (text : List ℕ) (given : List (List ℕ)) (old new : LinesState) (reading : AreLinesSoFar text given old) where
   -- a line is given
-  pub reads_line : (count : ℕ) → Some count ≡ position is_newline old.ahead → new.ahead ≡ drop (suc count) old.ahead
+  pub reads_line : (count : ℕ) → IsFirstByte is_newline old.ahead (Some count) → new.ahead ≡ drop (suc count) old.ahead
       → new.begun ≡ [] → new.line ≡ take 67 (old.begun ++ take count old.ahead)
       → (line : List ℕ) × (new.line ≡ take 67 line) × AreLinesSoFar text (given ++ line ∷ []) new
   reads_line count at ahead begun line = (
@@ -140,7 +142,7 @@ module _ (text : List ℕ) (given : List (List ℕ)) (old new : LinesState) (rea
   )
 
   -- there is none
-  pub reads_none : None ≡ position is_newline old.ahead → new.ahead ≡ [] → new.begun ≡ take 67 (old.begun ++ old.ahead)
+  pub reads_none : IsFirstByte is_newline old.ahead None → new.ahead ≡ [] → new.begun ≡ take 67 (old.begun ++ old.ahead)
       → AreLinesSoFar text given new
   reads_none none ahead begun = record {
     begun = reading.begun ++ old.ahead;

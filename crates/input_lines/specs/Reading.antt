@@ -1,5 +1,5 @@
 -- How far a text is read, line by line.
-use Rattle.std.specs.Prelude.{◌≡◌, ℕ, List, ◌++◌, length, take, slice_range, Option}
+use Rattle.std.specs.Prelude.{◌≡◌, ◌+◌, ◌≤◌, ℕ, suc, List, [], ◌++◌, length, take, drop, slice_range, Option, Some, None}
 use Rattle.std.specs.Io.KnownBytes.{Appends}
 use Rattle.input_lines.specs.Lines.{lines_after, whole_lines}
 
@@ -12,6 +12,21 @@ pub record LinesState : Type 0 where
 -- the same, of a piece that is read from one place to another
 abbrev pub reading : List ℕ → ℕ → ℕ → List ℕ → List ℕ → LinesState
 reading piece at end begun line = record { begun = begun; ahead = slice_range piece at end; line = line }
+
+-- a line stands from one place of a piece to another, or its first bytes do
+abbrev pub StandsIn : List ℕ → ℕ × ℕ → Type 0
+StandsIn piece place = (place.0 ≤ place.1) × (place.1 ≤ length piece) × (place.1 ≤ place.0 + 67)
+
+-- the line at hand: it stands in the piece, or it is kept
+abbrev pub line_at_hand : List ℕ → Option (ℕ × ℕ) → List ℕ → List ℕ
+line_at_hand piece (Some place) kept = slice_range piece place.0 place.1
+line_at_hand piece None kept = kept
+
+-- The line was taken that ends so many bytes ahead, and its newline with it.
+pub record IsLineTaken (count : ℕ) (old new : LinesState) : Type 0 where
+  pub begun : new.begun ≡ []
+  pub ahead : new.ahead ≡ drop (suc count) old.ahead
+  pub line : new.line ≡ take 67 (old.begun ++ take count old.ahead)
 
 -- Of this text these lines were given: whatever comes after it, its other whole lines are those of what was read and of that.
 pub record AreLinesSoFar (text : List ℕ) (given : List (List ℕ)) (lines : LinesState) : Type 0 where

@@ -1,13 +1,16 @@
 //! Whole lines out of pieces.
-ghost use Rattle.std.specs.Prelude.{◌≡◌, ◌↔◌, ◌+◌, ◌≤◌, ◌<◌, ◌++◌, ◌∷◌, [], ℕ, List, Ok, length, take, drop, true, false, position};
+ghost use Rattle.std.specs.Prelude.{◌≡◌, ◌↔◌, ◌+◌, ◌≤◌, ◌<◌, ◌++◌, ◌∷◌, [], ℕ, List, Ok, None, length, take, drop, true, false};
 ghost use Rattle.std.specs.Prelude.{IfOk, IsTrue, OnErr};
+ghost use Rattle.std.specs.Option.{ForSome};
+ghost use Rattle.memchr.specs.Find.{IsFirstByte};
 ghost use Rattle.outside_io.specs.Causes.{HasCause};
 ghost use Rattle.peers.specs.Reads.{IsRead};
 ghost use Rattle.input_lines.specs.Lines.{is_newline};
-ghost use Rattle.input_lines.specs.Reading.{GivesPiece, AreLinesSoFar, reading};
+ghost use Rattle.input_lines.specs.Reading.{GivesPiece, AreLinesSoFar, IsLineTaken, StandsIn, line_at_hand};
 
 use arrayvec::ArrayVec;
 use cell_base::NoMemory;
+use memchr::memchr;
 use outside_io::{Disk, Failed};
 use peers::Peer;
 use std::alloc::Global;
@@ -19,23 +22,26 @@ pub const LINE_KEPT: usize = 67;
 // How many bytes are asked for at a time: as many as a pipe gives at once.
 const PIECE_BYTES: usize = 65_536;
 
-/// The line at hand, the bytes of the line that has begun, and the bytes after these that were read.
+/// The line at hand, the bytes of the line that has begun, and the bytes after these that were read. Most lines stand whole in the piece, and
+/// none of their bytes is copied: `whole` says from where to where. Another one is kept beside it.
 #[derive(Drop)]
 pub struct InputLines {
     piece: Vec<u8>,
     at: usize,
     end: usize,
     begun: ArrayVec<u8, LINE_KEPT>,
+    whole: Option<(usize, usize)>,
     line: ArrayVec<u8, LINE_KEPT>,
     ghost within: { (at ≤ end) × (end ≤ length piece.items) × (0 < length piece.items) },
+    ghost stands: { ForSome whole (StandsIn piece.items) },
 }
 
 impl Model for InputLines {
-    ghost use Rattle.input_lines.specs.Reading.{LinesState, reading};
+    ghost use Rattle.input_lines.specs.Reading.{LinesState, line_at_hand, reading};
 
     ghost Value = { LinesState };
 
-    ghost view = { λ s. reading s.piece.items s.at s.end s.begun.items s.line.items };
+    ghost view = { λ s. reading s.piece.items s.at s.end s.begun.items (line_at_hand s.piece.items s.whole s.line.items) };
 }
 
 impl InputLines {
@@ -49,6 +55,7 @@ impl InputLines {
             at: 0,
             end: 0,
             begun: ArrayVec::new(),
+            whole: None,
             line: ArrayVec::new(),
         })
     }
@@ -71,6 +78,7 @@ impl InputLines {
         ensures cause { HasCause (T.read_faults peer.old) (T.read_faults peer.new) result }
         ensures read { IsRead D.Disk T.Peer disk.now peer.old peer.new }
     {
+        keep_line(self.piece.as_slice(), &mut self.whole, &mut self.line);
         match peer.next_piece(disk, self.piece.as_mut_slice()) {
             Ok(count) => {
                 self.at = 0;
@@ -94,11 +102,12 @@ impl InputLines {
             × ((text : List ℕ) (given : List (List ℕ)) → AreLinesSoFar text given self.old → AreLinesSoFar text given self.new) }
     {
         match first_newline(&self.piece[self.at..self.end]) {
+            Some(count) if self.begun.is_empty() => {
+                self.lend(count);
+                true
+            }
             Some(count) => {
-                self.keep(count);
-                self.at += 1;
-                std::mem::swap(&mut self.line, &mut self.begun);
-                self.begun.clear();
+                self.finish(count);
                 true
             }
             None => {
@@ -112,7 +121,32 @@ impl InputLines {
     pub fn line(&self) -> &[u8]
         ensures { result.now ≡ self.now.line }
     {
-        self.line.as_slice()
+        match self.whole {
+            Some((from, to)) => &self.piece[from..to],
+            None => self.line.as_slice(),
+        }
+    }
+
+    // Takes the line of so many bytes that stands whole in the piece.
+    fn lend(&mut self, count: usize)
+        requires inside { count < length self.old.ahead }
+        requires whole { self.old.begun ≡ [] }
+        ensures { IsLineTaken count self.old self.new }
+    {
+        self.whole = Some((self.at, self.at + count.min(LINE_KEPT)));
+        self.at += count + 1;
+    }
+
+    // Takes the line that has begun, of which so many bytes are ahead.
+    fn finish(&mut self, count: usize)
+        requires { count < length self.old.ahead }
+        ensures { IsLineTaken count self.old self.new }
+    {
+        self.keep(count);
+        self.at += 1;
+        std::mem::swap(&mut self.line, &mut self.begun);
+        self.begun.clear();
+        self.whole = None;
     }
 
     // Moves so many bytes into the line that has begun, which keeps its first bytes.
@@ -123,6 +157,19 @@ impl InputLines {
     {
         keep_first(&mut self.begun, &self.piece[self.at..self.at + count]);
         self.at += count;
+    }
+}
+
+// Copies a line that stands in a piece, before the piece is written over.
+fn keep_line(piece: &[u8], whole: &mut Option<(usize, usize)>, line: &mut ArrayVec<u8, LINE_KEPT>)
+    requires { ForSome whole.old (StandsIn piece.now) }
+    ensures kept { line.new.items ≡ line_at_hand piece.now whole.old line.old.items }
+    ensures none { whole.new ≡ None }
+{
+    if let Some((from, to)) = *whole {
+        line.clear();
+        append(line, &piece[from..to]);
+        *whole = None;
     }
 }
 
@@ -145,7 +192,7 @@ fn append(kept: &mut ArrayVec<u8, LINE_KEPT>, bytes: &[u8])
 
 // Where the first newline stands.
 fn first_newline(bytes: &[u8]) -> Option<usize>
-    ensures { result ≡ position is_newline bytes.now }
+    ensures { IsFirstByte is_newline bytes.now result }
 {
-    bytes.iter().position(|byte| *byte == b'\n')
+    memchr(b'\n', bytes)
 }

@@ -18,8 +18,8 @@ pub const LINE_BYTES: usize = 160;
 /// instructions (28 November 2026).
 #[derive(Drop)]
 pub struct Line {
-    bytes: [u8; LINE_BYTES],
     len: usize,
+    bytes: [u8; LINE_BYTES],
 }
 
 impl Model for Line {
@@ -38,8 +38,8 @@ impl Line {
         ensures { result ≡ [] }
     {
         Line {
-            bytes: [0; LINE_BYTES],
             len: 0,
+            bytes: [0; LINE_BYTES],
         }
     }
 

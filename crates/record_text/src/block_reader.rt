@@ -3,15 +3,18 @@ ghost use Rattle.std.specs.Prelude.{◌≡◌, ◌<◌, ◌++◌, ◌∷◌, [],
 ghost use Rattle.cell_base.specs.Fits.{CellFits};
 ghost use Rattle.record_text.specs.declared.blocks.Block.{Block};
 ghost use Rattle.record_text.specs.BadLines.{IsRecordOf, RefusedAt};
+ghost use Rattle.record_text.specs.Progress.{IsAdvance, LacksStep, on_line, reading_of};
 ghost use Rattle.record_text.specs.Remains.{IsReadTo};
+ghost use Rattle.std.specs.Option.{option_map};
+ghost use Rattle.step_text.specs.Words.{words};
 
 use crate::blocks::Block;
 use crate::record::{MAX_RECORD_BYTES, RecordFault, cut_line};
 use crate::stages::{Advance, Stage, on_line};
-use cell_base::Cell;
+use cell_base::{Cell, NoMemory};
 use std::alloc::Global;
 use std::marker::Model;
-use step_text::IndexedCell;
+use step_text::{IndexedCell, NameIndex};
 
 /// What is left of the bytes of a record. It gives one block after the other, and keeps none of them:
 ///
@@ -24,7 +27,8 @@ use step_text::IndexedCell;
 #[derive(Drop)]
 pub struct BlockReader<'a> {
     alloc: Global,
-    cell: IndexedCell<'a>,
+    cell: &'a Cell,
+    names: NameIndex,
     number: u32,
     rest: &'a [u8],
 }
@@ -37,9 +41,9 @@ impl<'a> Model for BlockReader<'a> {
 
     ghost Value = { Remains };
 
-    ghost view = { λ s. record { cell = s.cell; number = s.number; bytes = s.rest.now } };
+    ghost view = { λ s. record { cell = s.cell.now; number = s.number; bytes = s.rest.now } };
 
-    ghost invariant = { λ s. CellFits s.cell × (s.number + length s.rest.now ≤ MAX_RECORD_BYTES + 1) };
+    ghost invariant = { λ s. CellFits s.cell.now × (s.number + length s.rest.now ≤ MAX_RECORD_BYTES + 1) };
 }
 
 impl<'a> BlockReader<'a> {
@@ -59,7 +63,8 @@ impl<'a> BlockReader<'a> {
         }
         Ok(BlockReader {
             alloc,
-            cell: IndexedCell::new(cell),
+            cell,
+            names: NameIndex::of(cell),
             number: 1,
             rest: bytes,
         })
@@ -87,7 +92,7 @@ impl<'a> BlockReader<'a> {
             let Some(more) = more else {
                 return Err(RecordFault::Bad { line: number });
             };
-            stage = match on_line(self.alloc, &self.cell, number, stage, line)? {
+            stage = match advance(self.alloc, self.cell, &self.names, number, stage, line)? {
                 Some(Advance::Within(next)) => next,
                 Some(Advance::Whole(block)) => {
                     self.number = number + 1;
@@ -100,4 +105,21 @@ impl<'a> BlockReader<'a> {
             rest = more;
         }
     }
+}
+
+// What becomes of a stage on a line, by an index of the cell's names.
+fn advance(
+    alloc: Global,
+    cell: &Cell,
+    names: &NameIndex,
+    number: u32,
+    stage: Stage,
+    line: &[u8],
+) -> Result<Option<Advance>, NoMemory>
+    requires fits { CellFits cell.now }
+    requires stage { LacksStep stage }
+    ensures next { IfOk result (λ found. option_map reading_of found ≡ on_line cell.now number [] stage (words line.now)) }
+    ensures within { IfOk result (λ found. IfSome found IsAdvance) }
+{
+    on_line(alloc, &IndexedCell::over(cell, names), number, stage, line)
 }

@@ -2,12 +2,14 @@
 ghost use Rattle.std.specs.Prelude.{◌≡◌, ◌+◌, ◌<◌, ◌≤◌, ◌⊎◌, true, false, length, Ok, None, IfOk, IfErr, IfSome, List as Items, ℕ};
 ghost use Rattle.record_text.specs.Clauses.{AreRead, AreWellFormed, Between, CellFits, IsRecordOf, LineFits, MAX_RECORD_BYTES, Reading};
 ghost use Rattle.record_text.specs.Clauses.{RefusedAt, Suits, unread, with_line};
+ghost use Rattle.record_text.specs.Turns.{line_at};
+ghost use Rattle.step_text.specs.Words.{words};
 
 use crate::record::{MAX_RECORD_BYTES, RecordFault, cut_line};
 use crate::record_lines::{RecordLine, Turn, line_at, turn_after};
 use cell_base::Cell;
 use std::marker::Model;
-use step_text::IndexedCell;
+use step_text::{IndexedCell, NameIndex};
 
 /// What is left of the bytes of a record. It gives one line after the other, and keeps none of them:
 ///
@@ -19,7 +21,8 @@ use step_text::IndexedCell;
 /// ```
 #[derive(Drop)]
 pub struct LineReader<'a> {
-    cell: IndexedCell<'a>,
+    cell: &'a Cell,
+    names: NameIndex,
     number: u32,
     rest: &'a [u8],
     turn: Turn,
@@ -34,9 +37,9 @@ impl<'a> Model for LineReader<'a> {
 
     ghost Value = { LinesLeft };
 
-    ghost view = { λ s. record { cell = s.cell; number = s.number; bytes = s.rest.now; turn = s.turn } };
+    ghost view = { λ s. record { cell = s.cell.now; number = s.number; bytes = s.rest.now; turn = s.turn } };
 
-    ghost invariant = { λ s. CellFits s.cell × (s.number + length s.rest.now ≤ MAX_RECORD_BYTES + 1) × IsTurn s.turn };
+    ghost invariant = { λ s. CellFits s.cell.now × (s.number + length s.rest.now ≤ MAX_RECORD_BYTES + 1) × IsTurn s.turn };
 }
 
 impl<'a> LineReader<'a> {
@@ -52,7 +55,8 @@ impl<'a> LineReader<'a> {
             return Err(RecordFault::Bad { line: 0 });
         }
         Ok(LineReader {
-            cell: IndexedCell::new(cell),
+            cell,
+            names: NameIndex::of(cell),
             number: 1,
             rest: bytes,
             turn: Turn::Between,
@@ -93,7 +97,7 @@ impl<'a> LineReader<'a> {
         let Some(rest) = rest else {
             return Err(RecordFault::Bad { line: self.number });
         };
-        let Some(found) = line_at(&self.cell, self.turn, line) else {
+        let Some(found) = read_line(self.cell, &self.names, self.turn, line) else {
             return Err(RecordFault::Bad { line: self.number });
         };
         self.turn = turn_after(self.turn, &found);
@@ -109,4 +113,14 @@ impl<'a> LineReader<'a> {
     {
         matches!(self.turn, Turn::Between) && self.rest.is_empty() && self.number > 1
     }
+}
+
+// What a line says in its turn, by an index of the cell's names.
+fn read_line(cell: &Cell, names: &NameIndex, turn: Turn, line: &[u8]) -> Option<RecordLine>
+    requires { CellFits cell.now }
+    ensures said { result ≡ line_at cell.now turn (words line.now) }
+    ensures suits { IfSome result (Suits turn) }
+    ensures fits { IfSome result (LineFits cell.now) }
+{
+    line_at(&IndexedCell::over(cell, names), turn, line)
 }

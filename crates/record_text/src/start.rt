@@ -19,7 +19,7 @@ use crate::record::{RecordFault, cut_line};
 use cell_base::{Cell, JobId, List, Request, TypeId};
 use line_text::Line;
 use std::alloc::Global;
-use step_text::IndexedCell;
+use step_text::{IndexedCell, NameIndex};
 
 /// The most bytes of a start file.
 pub const MAX_START_BYTES: u64 = 262_144;
@@ -38,7 +38,8 @@ pub fn read_start(alloc: Global, cell: &Cell, bytes: &[u8]) -> Result<List<Reque
     if bytes.len() as u64 > MAX_START_BYTES {
         return Err(RecordFault::Bad { line: 0 });
     }
-    read_lines(alloc, &IndexedCell::new(cell), bytes)
+    let names = NameIndex::of(cell);
+    read_lines(alloc, &IndexedCell::over(cell, &names), bytes)
 }
 
 // The requests of all lines.

@@ -1,5 +1,5 @@
 -- What a line asks, by its words.
-use Rattle.std.specs.Prelude.{Result, codes, if◌then◌else◌, is_none}
+use Rattle.std.specs.Prelude.{Result, codes, if◌then◌else◌}
 use Rattle.std.specs.Option.{option_map_or, option_or}
 use Rattle.std.specs.Result.{result_ok}
 use Rattle.std.proofs.Common.{◌≡◌, ℕ, ◌<◌, inl, inr, Bool, false, true, List, [], ◌∷◌, Option}

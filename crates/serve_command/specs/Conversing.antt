@@ -24,7 +24,7 @@ use Rattle.serve_command.specs.Talks.{opened, since, talk_after}
 use Rattle.serve_command.specs.Rounds.{StandsAfter}
 use Rattle.serve_command.specs.Serve.{IsServed, answered_lines}
 use Rattle.serve_command.specs.Serving.{HasCounts}
-use Rattle.serve_command.specs.declared.command.Desk.{Desk}
+use Rattle.serve_command.specs.declared.command.Buffers.{Buffers}
 use Rattle.serve_command.specs.declared.command.TheConstants.{MAX_SERVED}
 use Rattle.serve_command.specs.declared.replies.TheConstants.{MAX_WAITERS}
 use Rattle.serve_command.specs.declared.server.Server.{Server}
@@ -43,12 +43,12 @@ abbrev pub end_lines : {D : Type 0} → Server D → List (List ℕ)
 end_lines server = still_lines server.live.cell server.live.parts server.queue.waiters
     ++ left_in_core (record { cell = server.live.cell; parts = server.live.parts })
 
--- a desk on which nothing lies
-pub record IsDesk (desk : Desk) : Type 0 where
-  pub counts : HasCounts [] desk.counts
-  pub queue : desk.queue ≡ no_waiters
-  pub replies : desk.replies ≡ []
-  pub lines : desk.lines ≡ fresh_lines
+-- nothing is in them yet
+pub record AreFresh (buffers : Buffers) : Type 0 where
+  pub counts : HasCounts [] buffers.counts
+  pub queue : buffers.queue ≡ no_waiters
+  pub replies : buffers.replies ≡ []
+  pub lines : buffers.lines ≡ fresh_lines
 
 module _ {D : Type 0} (reads_as : D → Option (List ℕ)) (may_leave : D → List ℕ → Type 0) (moment : D → ℕ)
     (left_since : D → ℕ → List ℕ → Type 0) (faults : D → ℕ) where

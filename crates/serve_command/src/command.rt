@@ -7,7 +7,7 @@ ghost use Rattle.cell_walks.specs.Observed.{ShowsFile, observed_with};
 ghost use Rattle.cell_walks.specs.Statuses.{early_line};
 ghost use Rattle.cell_texts.specs.Clauses.{CellFits, MAX_CELL_BYTES, known};
 ghost use Rattle.serve_command.specs.Serve.{serve};
-ghost use Rattle.serve_command.specs.Conversing.{IsDesk, IsServedOnJournal};
+ghost use Rattle.serve_command.specs.Conversing.{AreFresh, IsServedOnJournal};
 ghost use Rattle.serve_command.specs.LivesThrough.{LivesOnJournal, LivesThrough, WhereTold};
 
 use crate::beside::finish_beside;
@@ -34,7 +34,7 @@ use wait_queue::WaitQueue;
 pub const MAX_SERVED: u64 = MAX_BEFORE_DRAIN;
 
 // The memory of a conversation, beside that of the live cell.
-struct Desk {
+struct Buffers {
     counts: SessionCounts,
     queue: WaitQueue,
     replies: Replies,
@@ -60,7 +60,7 @@ pub fn run_serve<R: Wait, F: Files, D: Disk, T: Peer<D>>(
 {
     match read_cell(alloc, files, cell) {
         Ok(held) => match reserve(alloc) {
-            Ok(desk) => serve_journal(rt, alloc, held, desk, peer, disk),
+            Ok(buffers) => serve_journal(rt, alloc, held, buffers, peer, disk),
             Err(_) => end_early(peer, EarlyEnd::WantOfMemory, disk),
         },
         Err(end) => end_early(peer, end, disk),
@@ -80,10 +80,10 @@ fn end_early<D: Disk, T: Peer<D>>(peer: &mut T, end: EarlyEnd, disk: D) -> Comma
 }
 
 // No session has a grant or waits, nothing is to be answered, and nothing was read.
-fn reserve(alloc: Global) -> Result<Desk, NoMemory>
-    ensures { IfOk result IsDesk }
+fn reserve(alloc: Global) -> Result<Buffers, NoMemory>
+    ensures { IfOk result AreFresh }
 {
-    Ok(Desk {
+    Ok(Buffers {
         counts: SessionCounts::new(alloc)?,
         queue: WaitQueue::with_room(alloc, MAX_WAITERS)?,
         replies: Replies::with_room(alloc)?,
@@ -96,25 +96,25 @@ fn serve_journal<R: Wait, D: Disk, T: Peer<D>>(
     rt: &R,
     alloc: Global,
     held: CellFile,
-    desk: Desk,
+    buffers: Buffers,
     peer: &mut T,
     disk: D,
 ) -> CommandEnd<D>
     requires fits { CellFits held.cell }
     requires short { length held.text.items ≤ MAX_CELL_BYTES }
-    requires desk { IsDesk desk }
+    requires buffers { AreFresh buffers }
     ensures served { let disk = disk_told D.reads_as D.may_leave D.moment D.left_since D.faults disk result.disk in
         IsServedOnJournal disk (peer_gave T.Peer peer.old peer.new) (peer_took T.Peer peer.old peer.new) (known held) result.status }
     ensures moments { WhereTold D.Disk T.Peer disk peer.old (λ given before file.
         LivesOnJournal D.Disk T.Peer (known held) given before file disk peer.old result.disk peer.new) }
 {
     let CellFile { cell, text } = held;
-    let Desk {
+    let Buffers {
         counts,
         queue,
         replies,
         lines,
-    } = desk;
+    } = buffers;
     let names = NameIndex::of(&cell);
     match LiveCell::open(alloc, cell, &text, disk, MAX_SERVED, MAX_REPLIES, counts) {
         Ok(OpenedLive { live, kept: counts }) => {

@@ -83,13 +83,7 @@ impl<D: Disk> Server<D> {
         ensures { NotesGrant self.old session request.now self.new }
     {
         self.count_grant(session, request);
-        let line = told_line(
-            self.live.core().cell(),
-            session,
-            request,
-            Told::Answered(Reply::Granted),
-        );
-        self.keep(line);
+        self.tell(session, request, Told::Answered(Reply::Granted));
         self.queue.note(request);
     }
 
@@ -150,15 +144,7 @@ impl<D: Disk> Server<D> {
             Refusal::Saturated { at, .. } if may_wait => {
                 self.wait_for_room(session, request, why, at);
             }
-            _ => {
-                let line = told_line(
-                    self.live.core().cell(),
-                    session,
-                    request,
-                    Told::Answered(Reply::Refused(why)),
-                );
-                self.keep(line);
-            }
+            _ => self.tell(session, request, Told::Answered(Reply::Refused(why))),
         }
     }
 
@@ -182,6 +168,7 @@ impl<D: Disk> Server<D> {
     }
 
     // A session waits from now on, for a request that was refused for the neighborhood of this resource.
+    #[inline(never)]
     fn begin_wait(&mut self, session: u16, request: &Request, why: Refusal, at: ResId)
         requires ready { IsOpen self.old }
         requires room { length self.old.queue.waiters < MAX_WAITERS }
@@ -204,7 +191,27 @@ impl<D: Disk> Server<D> {
         self.keep(line);
     }
 
+    // Keeps what a session is told of its request.
+    fn tell(&mut self, session: u16, request: &Request, told: Told)
+        requires fits { EntryFits self.old.live.cell (entry_of session request.now told) }
+        requires short { length self.old.replies < MAX_REPLIES }
+        ensures waiters { KeepsWaiters self.old → KeepsWaiters self.new }
+        ensures kept { self.new ≡ record self.old {
+          replies = self.old.replies ++ line_of (step_words self.old.live.cell session request.now told) ∷ [];
+          asked = line_number (self.old.asked + 1);
+        } }
+    {
+        let entry = Entry {
+            session,
+            request: *request,
+            told,
+        };
+        self.replies.push_entry(self.live.core().cell(), &entry);
+        self.asked = self.asked.saturating_add(1);
+    }
+
     // Answers a request that is not decided.
+    #[inline(never)]
     fn turn_away(&mut self, session: u16, request: &Request, why: &[u8])
         requires fits { RequestFits self.old.live.cell request.now }
         requires brief { length why.now ≤ 15 }

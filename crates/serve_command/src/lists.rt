@@ -14,6 +14,7 @@ use refusal_reason::leads;
 
 impl<D: Disk> Server<D> {
     /// Answers where all parts stand.
+    #[inline(never)]
     pub fn list_parts(&mut self)
         requires waiters { KeepsWaiters self.old }
         requires short { length self.old.replies + length self.old.live.parts < MAX_REPLIES }
@@ -44,6 +45,7 @@ impl<D: Disk> Server<D> {
     }
 
     /// Answers which parts stand in the way of a step: those that are counted in the neighborhood for which it is refused.
+    #[inline(never)]
     pub fn list_jobs(&mut self, request: &Request)
         requires fits { IsStep self.old.live.cell request.now }
         requires waiters { KeepsWaiters self.old }

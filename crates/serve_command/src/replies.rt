@@ -1,8 +1,10 @@
 //! The answers of a group, which wait until its grants are stable.
-ghost use Rattle.std.specs.Prelude.{◌≡◌, ◌<◌, ◌∷◌, ◌++◌, [], length, IfOk};
+ghost use Rattle.std.specs.Prelude.{◌≡◌, ◌<◌, ◌≤◌, ◌∷◌, ◌++◌, [], length, take, vec_capacity, IfOk};
+ghost use Rattle.record_text.specs.Fitting.{EntryFits};
+ghost use Rattle.record_text.specs.Lines.{entry_words, line_of};
 
-use cell_base::NoMemory;
-use record_text::Line;
+use cell_base::{Cell, Entry, NoMemory};
+use record_text::{Line, write_entry};
 use std::alloc::Global;
 use std::marker::Model;
 
@@ -17,19 +19,22 @@ pub const MAX_WAITERS: u16 = 4_096;
 pub const MAX_REPLIES: u64 = 9_216;
 
 /// Answers in their order, with room for those of a group. Contracts see them as lines.
+///
+/// An answer is written in its place, in which one of an earlier group may stand: a line of 160 bytes is neither cleared nor copied.
 #[derive(Drop)]
 pub struct Replies {
     lines: Vec<Line>,
+    count: usize,
 }
 
 impl Model for Replies {
-    ghost use Rattle.std.specs.Prelude.{List, ℕ, ◌≤◌, vec_capacity};
+    ghost use Rattle.std.specs.Prelude.{List, ℕ, ◌≤◌, length, take, vec_capacity};
 
     ghost Value = { List (List ℕ) };
 
-    ghost view = { λ s. s.lines.items };
+    ghost view = { λ s. take s.count s.lines.items };
 
-    ghost invariant = { λ s. 9216 ≤ vec_capacity s.lines };
+    ghost invariant = { λ s. (9216 ≤ vec_capacity s.lines) × (s.count ≤ length s.lines.items) };
 }
 
 impl Replies {
@@ -38,7 +43,7 @@ impl Replies {
         ensures { IfOk result (λ replies. replies ≡ []) }
     {
         let lines = Vec::with_capacity(alloc, MAX_REPLIES as usize)?;
-        Ok(Replies { lines })
+        Ok(Replies { lines, count: 0 })
     }
 
     /// Appends an answer. It takes no memory.
@@ -46,27 +51,54 @@ impl Replies {
         requires { length self.old < MAX_REPLIES }
         ensures { self.new ≡ self.old ++ line ∷ [] }
     {
-        self.lines.push_reserved(line);
+        make_place(&mut self.lines, self.count);
+        self.lines[self.count] = line;
+        self.count += 1;
+    }
+
+    /// Appends the line of an entry. It takes no memory.
+    pub fn push_entry(&mut self, cell: &Cell, entry: &Entry)
+        requires short { length self.old < MAX_REPLIES }
+        requires fits { EntryFits cell.now entry.now }
+        ensures { self.new ≡ self.old ++ line_of (entry_words cell.now entry.now) ∷ [] }
+    {
+        make_place(&mut self.lines, self.count);
+        write_entry(&mut self.lines[self.count], cell, entry);
+        self.count += 1;
     }
 
     /// How many answers there are.
     pub fn len(&self) -> usize
         ensures { result ≡ length self.now }
     {
-        self.lines.len()
+        self.count
     }
 
     /// The answers.
     pub fn as_slice(&self) -> &[Line]
         ensures { result.now ≡ self.now }
     {
-        self.lines.as_slice()
+        &self.lines[..self.count]
     }
 
     /// Takes all answers out. The room stays.
     pub fn clear(&mut self)
         ensures { self.new ≡ [] }
     {
-        self.lines.clear();
+        self.count = 0;
+    }
+}
+
+// A line stands behind so many.
+fn make_place(lines: &mut Vec<Line>, count: usize)
+    requires short { count < MAX_REPLIES }
+    requires room { MAX_REPLIES ≤ vec_capacity lines.old }
+    requires inside { count ≤ length lines.old.items }
+    ensures place { count < length lines.new.items }
+    ensures same { take count lines.new.items ≡ take count lines.old.items }
+    ensures room { MAX_REPLIES ≤ vec_capacity lines.new }
+{
+    if count == lines.len() {
+        lines.push_reserved(Line::new());
     }
 }

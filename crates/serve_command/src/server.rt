@@ -1,6 +1,6 @@
 //! A live cell that answers asks, in groups.
 ghost use Rattle.std.specs.Prelude.{◌≡◌, ◌<◌, ◌+◌, ◌++◌, ◌∷◌, [], length, codes, IfSome, OnOk, OnErr};
-ghost use Rattle.record_text.specs.Lines.{line_of, told_words};
+ghost use Rattle.record_text.specs.Lines.{left_words, line_of, told_words};
 ghost use Rattle.step_text.specs.Steps.{request_words};
 ghost use Rattle.serve_command.specs.Clauses.{Answered, AskFits, IsAskAnswered, IsJournalFull, IsOpen, IsStep, KeepsWaiters, MAX_REPLIES};
 ghost use Rattle.serve_command.specs.Clauses.{RequestFits, StandsAt, TakesOneLine, Talk, count_of, last_of, last_words, line_number, reply_to};
@@ -78,7 +78,7 @@ impl<D: Disk> Server<D> {
                 self.keep(line);
             }
             Ask::Left => {
-                let line = left_line(self.live.core().parts_left());
+                let line = self.left();
                 self.keep(line);
             }
             Ask::Parts => self.list_parts(),
@@ -91,7 +91,16 @@ impl<D: Disk> Server<D> {
         Ok(())
     }
 
+    // The line of how many parts are left.
+    #[inline(never)]
+    fn left(&self) -> Line
+        ensures { result ≡ line_of (left_words (length self.now.live.parts)) }
+    {
+        left_line(self.live.core().parts_left())
+    }
+
     // The line of what a step would be told. Nothing changes.
+    #[inline(never)]
     fn look(&self, request: &Request) -> Line
         requires { IsStep self.now.live.cell request.now }
         ensures { let reply = reply_to self.now.live.cell self.now.live.parts request.now in

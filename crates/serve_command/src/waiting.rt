@@ -31,6 +31,7 @@ impl<D: Disk> Server<D> {
     }
 
     // Ends a wait: its request is decided, and its session is told so.
+    #[inline(never)]
     fn end_wait(&mut self, waiter: &Waiter)
         requires request { RequestFits self.old.live.cell waiter.now.request }
         requires runs { self.old.live.is_halted ≡ false }
@@ -74,6 +75,7 @@ impl<D: Disk> Server<D> {
     }
 
     // Keeps the answer to a session that waits no longer: its step, or that it had none.
+    #[inline(never)]
     fn tell_cancel(&mut self, session: u16, request: Option<Request>)
         requires fits { IfSome request (RequestFits self.old.live.cell) }
         requires short { length self.old.replies < MAX_REPLIES }

@@ -10,19 +10,12 @@ use crate::names::{are_same, resource_of, type_of};
 use cell_base::Cell;
 use std::marker::Model;
 
-/// A cell with an index of its names. No two types and no two resources have one name, so a guess that has the name is right, and any other
-/// costs time alone. Contracts see it as the cell.
+/// A cell beside an index of its names. No two types and no two resources have one name, so a guess that has the name is right, and any
+/// other costs time alone. Contracts see it as the cell.
 #[derive(Drop)]
 pub struct IndexedCell<'a> {
     cell: &'a Cell,
-    names: Names<'a>,
-}
-
-// An index of its own, or one that was made before.
-#[derive(Drop)]
-enum Names<'a> {
-    Own(NameIndex),
-    Lent(&'a NameIndex),
+    names: &'a NameIndex,
 }
 
 impl<'a> Model for IndexedCell<'a> {
@@ -37,26 +30,13 @@ impl<'a> Model for IndexedCell<'a> {
 }
 
 impl<'a> IndexedCell<'a> {
-    /// This cell, indexed.
-    pub fn new(cell: &'a Cell) -> IndexedCell<'a>
-        requires { CellFits cell.now }
-        ensures { result ≡ cell.now }
-    {
-        IndexedCell {
-            cell,
-            names: Names::Own(NameIndex::of(cell)),
-        }
-    }
-
-    /// The same by an index that was made before, for whoever can't keep the cell borrowed from one step to the next.
+    /// This cell, by an index that was made of it. Both are lent, so this takes no time, and may be made anew for each text.
+    #[inline(always)]
     pub fn over(cell: &'a Cell, names: &'a NameIndex) -> IndexedCell<'a>
         requires { CellFits cell.now }
         ensures { result ≡ cell.now }
     {
-        IndexedCell {
-            cell,
-            names: Names::Lent(names),
-        }
+        IndexedCell { cell, names }
     }
 
     /// The same with no index, for one step: that of a large cell takes longer than a look through its names.
@@ -99,19 +79,12 @@ impl<'a> IndexedCell<'a> {
         }
     }
 
-    fn names(&self) -> &NameIndex {
-        match &self.names {
-            Names::Own(names) => names,
-            Names::Lent(names) => names,
-        }
-    }
-
     // The number of the type of a name, where the guess is right.
     fn guessed_type(&self, name: &[u8]) -> Option<u16>
         ensures name { IfSome result (λ number. type_name self.now number ≡ name.now) }
         ensures within { IfSome result (λ number. number < length self.now.types) }
     {
-        let guess = self.names().guessed_type(name);
+        let guess = self.names.guessed_type(name);
         match self.cell.types.as_slice().get(usize::from(guess)) {
             Some(job_type) if are_same(name, job_type.name.bytes()) => Some(u16::from(guess)),
             _ => None,
@@ -123,7 +96,7 @@ impl<'a> IndexedCell<'a> {
         ensures name { IfSome result (λ number. resource_name self.now number ≡ name.now) }
         ensures within { IfSome result (λ number. number < length self.now.resources) }
     {
-        let guess = self.names().guessed_resource(name);
+        let guess = self.names.guessed_resource(name);
         match self.cell.resources.as_slice().get(usize::from(guess)) {
             Some(resource) if are_same(name, resource.name.bytes()) => Some(u16::from(guess)),
             _ => None,

@@ -2,8 +2,9 @@
 //!
 //! A grant touches the waiters of its own job, and a request asks whether its own session waits: mostly there is none. A table tells so
 //! without a look at any of them. The place of a key is the key modulo the number of places, and has the number of waiters whose keys
-//! share it. There are sixteen places and more for each waiter, so that keys in turn share none, and of keys at random one in sixteen at
-//! most.
+//! share it. There is a place for each number of a session, so that no two sessions share one, and of up to 4,096 waiters with jobs at
+//! random one in sixteen at most does. The number of places is a power of two, since a division by another one takes as long as a hundred
+//! instructions (1 December 2026).
 ghost use Rattle.std.specs.Prelude.{◌≡◌, ◌<◌, ◌%◌, ◌==◌, ℕ, [], ◌∷◌, ◌++◌, not, length, get_or, slice_index, IfOk, Option as Maybe};
 ghost use Rattle.std.specs.Prelude.{List as Sequence};
 ghost use Rattle.std.specs.List.{remove};
@@ -15,8 +16,8 @@ use cell_base::{JobId, NoMemory, Request};
 use std::alloc::Global;
 use std::marker::Model;
 
-/// Places for each waiter.
-const PLACES_EACH: usize = 16;
+/// How many places there are.
+const PLACES: usize = 65_536;
 
 /// For each place the number of waiters whose keys share it. Contracts see these numbers.
 #[derive(Drop)]
@@ -25,24 +26,23 @@ pub struct KeyCounts {
 }
 
 impl Model for KeyCounts {
-    ghost use Rattle.std.specs.Prelude.{ℕ, ◌<◌, length, List as Sequence};
+    ghost use Rattle.std.specs.Prelude.{ℕ, ◌≡◌, length, List as Sequence};
 
     ghost Value = { Sequence ℕ };
 
     ghost view = { λ s. s.counts.items };
 
-    ghost invariant = { λ s. 0 < length s.counts.items };
+    ghost invariant = { λ s. length s.counts.items ≡ 65536 };
 }
 
 impl KeyCounts {
-    /// Nobody waits, and there are places for so many.
-    pub fn for_waiters(alloc: Global, room: u16) -> Result<KeyCounts, NoMemory>
+    /// Nobody waits.
+    pub fn new(alloc: Global) -> Result<KeyCounts, NoMemory>
         ensures counted { (key_of : Waiter → Maybe ℕ) → IfOk result (λ counts. AreCounted key_of counts []) }
         ensures places { IfOk result (λ counts. 0 < length counts) }
     {
-        Ok(KeyCounts {
-            counts: vec![in alloc; 0; room as usize * PLACES_EACH + 1]?,
-        })
+        let counts = zeros(alloc, PLACES)?;
+        Ok(KeyCounts { counts })
     }
 
     /// One waiter more, of this key, or of none.
@@ -83,8 +83,18 @@ impl KeyCounts {
         ensures place { result ≡ key % length self.now }
         ensures within { result < length self.now }
     {
-        key as usize % self.counts.len()
+        let _ = &self.counts;
+        key as usize % PLACES
     }
+}
+
+// So many zeros.
+fn zeros(alloc: Global, count: usize) -> Result<Vec<u16>, NoMemory>
+    ensures long { IfOk result (λ counts. length counts.items ≡ count) }
+    ensures each { IfOk result (λ counts. (place : ℕ) → place < count → slice_index counts.items place ≡ 0) }
+{
+    let counts = vec![in alloc; 0u16; count]?;
+    Ok(counts)
 }
 
 /// The number of the job whose part a request changes.

@@ -53,8 +53,8 @@ impl WaitQueue {
         Ok(WaitQueue {
             waiters: InTurn::with_room(alloc, room)?,
             watches: InTurn::with_room(alloc, room)?,
-            jobs: KeyCounts::for_waiters(alloc, room)?,
-            sessions: KeyCounts::for_waiters(alloc, room)?,
+            jobs: KeyCounts::new(alloc)?,
+            sessions: KeyCounts::new(alloc)?,
             watched: 0,
             is_stale: false,
             room,

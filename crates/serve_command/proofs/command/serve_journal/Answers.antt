@@ -48,9 +48,9 @@ returns-in-Ok-clause-served g c =
             (sym (ap (λ (l : LiveState _). l.cell) after.state)) after.due.fit;
         parts = ap (λ (l : LiveState _). l.parts) after.state
             ∙ ap (λ (cell : Cell). replay cell opening) (sym (ap (λ (l : LiveState _). l.cell) after.state));
-        counts = after.taken.1 c.requires.desk.counts (omega (arith, after.few));
+        counts = after.taken.1 c.requires.buffers.counts (omega (arith, after.few));
         number = omega (arith, ap (λ (l : LiveState _). l.len) after.state, ap (λ (l : LiveState _). length l.pending) after.state);
-        waiters = ap (λ (q : QueueState). q.waiters) c.requires.desk.queue;
+        waiters = ap (λ (q : QueueState). q.waiters) c.requires.buffers.queue;
       };
       disk = opened.stands;
     }))
@@ -120,9 +120,9 @@ returns-in-Ok-clause-moments g c = λ given before given_is put_is clock.
             (sym (ap (λ (l : LiveState _). l.cell) after.state)) after.due.fit;
         parts = ap (λ (l : LiveState _). l.parts) after.state
             ∙ ap (λ (cell : Cell). replay cell opening) (sym (ap (λ (l : LiveState _). l.cell) after.state));
-        counts = after.taken.1 c.requires.desk.counts (omega (arith, after.few));
+        counts = after.taken.1 c.requires.buffers.counts (omega (arith, after.few));
         number = omega (arith, ap (λ (l : LiveState _). l.len) after.state, ap (λ (l : LiveState _). length l.pending) after.state);
-        waiters = ap (λ (q : QueueState). q.waiters) c.requires.desk.queue;
+        waiters = ap (λ (q : QueueState). q.waiters) c.requires.buffers.queue;
       };
       disk = opened.stands;
     }) opened c.serve_live.ensures.lives))

@@ -30,7 +30,7 @@ loop-more-init c =
       shorter = omega (arith, ap (λ (left : Remains). length left.bytes) c.self.view_is);
       read =
           subst (λ (left : Remains). IsReadOn left.cell left.number left.bytes here.number ([], Between) here.rest.now) c.self.view_is
-          (none_read here.cell here.number here.rest.now);
+          (none_read here.cell.now here.number here.rest.now);
     }
 
 pub invariant_of-self : goal.invariant_of-self

@@ -8,7 +8,7 @@ use Rattle.record_text.proofs.block_reader.BlockReader.next.Given as goal
 
 abbrev pub invariant-loop-more : goal.invariant-loop-more
 invariant-loop-more l = record {
-  cell : l.self-inside.cell ≡ l.fn.self.cell;
+  cell : l.self-inside.cell.now ≡ l.fn.self.cell;
   from : l.self-inside.number ≡ l.fn.self.number;
   bytes : l.self-inside.rest.now ≡ l.fn.self.bytes;
   fits : CellFits l.fn.self.cell;

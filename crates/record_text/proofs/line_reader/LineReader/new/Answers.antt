@@ -5,4 +5,4 @@ use Rattle.record_text.proofs.line_reader.LineReader.new.Goals as goal
 
 pub returns-clause-begun : goal.returns-clause-begun
 returns-clause-begun c =
-    rw c.new.ensures (none_read c.args.cell.now c.args.bytes.now (omega (arith, c.if-bytes-gt-MAX_RECORD_BYTES.false)))
+    none_read c.args.cell.now c.args.bytes.now (omega (arith, c.if-bytes-gt-MAX_RECORD_BYTES.false))

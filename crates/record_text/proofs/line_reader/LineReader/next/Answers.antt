@@ -22,7 +22,7 @@ returns-then-is_at_end-clause-formed c = λ bytes so_far is ended.
 pub returns-in_default-clause-refused : goal.returns-in_default-clause-refused
 returns-in_default-clause-refused c = λ bytes so_far is.
     let here = c.self.inside in
-    let left : LinesLeft = record { cell = here.cell; number = here.number; bytes = here.rest.now; turn = here.turn } in
+    let left : LinesLeft = record { cell = here.cell.now; number = here.number; bytes = here.rest.now; turn = here.turn } in
     let same : left ≡ c.args.self.now = c.self.view_is in
     subst (λ (left : LinesLeft). RefusedAt left.cell bytes (Bad here.number)) same
     (refused_end left bytes so_far (subst (λ (left : LinesLeft). AreRead left bytes so_far) (sym same) is) c.self.invariant.0
@@ -30,27 +30,27 @@ returns-in_default-clause-refused c = λ bytes so_far is.
     (subst (λ (left : LinesLeft). left.turn ≡ turns.Between → (0 < length left.bytes) ⊎ (left.number ≤ 1)) (sym same)
     (c.is_at_end.ensures.goes_on c.if-is_at_end.false)))
 
-pub returns-in_default-line_at-clause-refused : goal.returns-in_default-line_at-clause-refused
-returns-in_default-line_at-clause-refused c = λ bytes so_far is.
+pub returns-in_default-read_line-clause-refused : goal.returns-in_default-read_line-clause-refused
+returns-in_default-read_line-clause-refused c = λ bytes so_far is.
     let here = c.self.inside in
-    let left : LinesLeft = record { cell = here.cell; number = here.number; bytes = here.rest.now; turn = here.turn } in
+    let left : LinesLeft = record { cell = here.cell.now; number = here.number; bytes = here.rest.now; turn = here.turn } in
     let same : left ≡ c.args.self.now = c.self.view_is in
     subst (λ (left : LinesLeft). RefusedAt left.cell bytes (Bad here.number)) same
     (refused_line left bytes so_far (subst (λ (left : LinesLeft). AreRead left bytes so_far) (sym same) is) c.self.invariant.0
     c.cut_line.result.0.now c.in-Some.rest.now (rw c.in-Some.is at c.cut_line.ensures.pieces)
-    (rw c.in_default-line_at.is at c.line_at.ensures.said))
+    (rw c.in_default-read_line.is at c.read_line.ensures.said))
 
 pub returns-clause-line : goal.returns-clause-line
 returns-clause-line c = λ bytes so_far is.
     let here = c.self.inside in
-    let left : LinesLeft = record { cell = here.cell; number = here.number; bytes = here.rest.now; turn = here.turn } in
+    let left : LinesLeft = record { cell = here.cell.now; number = here.number; bytes = here.rest.now; turn = here.turn } in
     let same : left ≡ c.args.self.now = c.self.view_is in
-    let said = c.in-Some-line_at.found in
+    let said = c.in-Some-read_line.found in
     let after = c.turn_after-self-inside in
     subst (λ (number : ℕ). AreRead (record { cell = left.cell; number = left.number + 1; bytes = c.in-Some.rest.now; turn = after.result })
     bytes (with_line number so_far.0 so_far.1 said)) (ap (λ (left : LinesLeft). left.number) same)
     (subst (λ (turn : Turn). AreRead (record { cell = left.cell; number = left.number + 1; bytes = c.in-Some.rest.now; turn = turn }) bytes
     (with_line left.number so_far.0 so_far.1 said)) (sym after.ensures.next)
     (line_read left bytes so_far (subst (λ (left : LinesLeft). AreRead left bytes so_far) (sym same) is)
-    c.cut_line.result.0.now c.in-Some.rest.now said c.self.invariant.2 (rw c.in-Some-line_at.is at c.line_at.ensures.suits)
-    (rw c.in-Some.is at c.cut_line.ensures.pieces) (rw c.in-Some-line_at.is at c.line_at.ensures.said)))
+    c.cut_line.result.0.now c.in-Some.rest.now said c.self.invariant.2 (rw c.in-Some-read_line.is at c.read_line.ensures.suits)
+    (rw c.in-Some.is at c.cut_line.ensures.pieces) (rw c.in-Some-read_line.is at c.read_line.ensures.said)))

@@ -1,5 +1,5 @@
 -- The place of the key has one waiter more.
-use Rattle.std.proofs.Common.{◌≡◌, ℕ, ◌+◌, ◌%◌, ◌<◌, List, [], ◌∷◌, ◌++◌, length, slice_set, ap, sym, subst, ◌∙◌}
+use Rattle.std.proofs.Common.{arith, ◌≡◌, ℕ, ◌+◌, ◌%◌, ◌<◌, List, [], ◌∷◌, ◌++◌, length, slice_set, ap, sym, subst, ◌∙◌}
 use Rattle.std.specs.List.{slice_index}
 use Rattle.std.proofs.lemmas.List.{get_or_default}
 use Rattle.wait_queue.specs.Counting.{AreCounted}
@@ -16,7 +16,7 @@ returns-in-Some-clause-counted c key_of waiters waiter own counted =
     let is_n : n ≡ slice_index xs (key % length xs) =
     c.index_mut.ensures.value ∙ get_or_default xs c.place_of-place.result n 0 inside ∙ ap (slice_index xs) is_place in
     subst (λ (p : ℕ). AreCounted key_of (slice_set xs p (n + 1)) (waiters ++ waiter ∷ [])) (sym is_place)
-    (counted-added key_of xs waiters n waiter key (own ∙ c.in-Some.is) c.self.invariant is_n held)
+    (counted-added key_of xs waiters n waiter key (own ∙ c.in-Some.is) (omega (arith, c.self.invariant)) is_n held)
 
 pub returns-in_default-clause-counted : goal.returns-in_default-clause-counted
 returns-in_default-clause-counted c key_of waiters waiter own counted =

@@ -1,5 +1,5 @@
 -- The place of the key has one waiter fewer.
-use Rattle.std.proofs.Common.{◌≡◌, ℕ, ◌-◌, ◌%◌, ◌<◌, List, length, slice_set, ap, sym, subst, ◌∙◌}
+use Rattle.std.proofs.Common.{arith, ◌≡◌, ℕ, ◌-◌, ◌%◌, ◌<◌, List, length, slice_set, ap, sym, subst, ◌∙◌}
 use Rattle.std.specs.List.{remove, slice_index}
 use Rattle.std.proofs.lemmas.List.{get_or_default}
 use Rattle.wait_queue.specs.Counting.{AreCounted}
@@ -16,7 +16,7 @@ returns-in-Some-clause-counted c key_of waiters at waiter own within is counted 
     let is_n : n ≡ slice_index xs (key % length xs) =
     c.index_mut.ensures.value ∙ get_or_default xs c.place_of-place.result n 0 inside ∙ ap (slice_index xs) is_place in
     subst (λ (p : ℕ). AreCounted key_of (slice_set xs p (n - 1)) (remove waiters at)) (sym is_place)
-    (counted-removed key_of xs waiters at n waiter key (own ∙ c.in-Some.is) c.self.invariant within is is_n held)
+    (counted-removed key_of xs waiters at n waiter key (own ∙ c.in-Some.is) (omega (arith, c.self.invariant)) within is is_n held)
 
 pub returns-in_default-clause-counted : goal.returns-in_default-clause-counted
 returns-in_default-clause-counted c key_of waiters at waiter own within is counted =

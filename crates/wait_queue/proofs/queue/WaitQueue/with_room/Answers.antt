@@ -10,12 +10,12 @@ invariant_of-result c =
     let none = ap (λ (s : Shelved Waiter). s.items) c.in_ok-with_room.ensures in
     record {
       pairs = search rules;
-      job_places = c.in_ok-for_waiters.ensures.places;
-      session_places = c.in_ok-for_waiters-2.ensures.places;
-      jobs_counted = subst (λ (ws : List Waiter). AreCounted job_key c.in_ok-for_waiters.field-0 ws) (sym none)
-          (c.in_ok-for_waiters.ensures.counted job_key);
-      sessions_counted = subst (λ (ws : List Waiter). AreCounted session_key c.in_ok-for_waiters-2.field-0 ws) (sym none)
-          (c.in_ok-for_waiters-2.ensures.counted session_key);
+      job_places = c.in_ok-new.ensures.places;
+      session_places = c.in_ok-new-2.ensures.places;
+      jobs_counted = subst (λ (ws : List Waiter). AreCounted job_key c.in_ok-new.field-0 ws) (sym none)
+          (c.in_ok-new.ensures.counted job_key);
+      sessions_counted = subst (λ (ws : List Waiter). AreCounted session_key c.in_ok-new-2.field-0 ws) (sym none)
+          (c.in_ok-new-2.ensures.counted session_key);
       covered = search rules;
       fresh = search rules;
       waiters_room = search rules;
