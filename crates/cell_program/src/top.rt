@@ -4,10 +4,11 @@ ghost use Rattle.cell_walks.specs.Clauses.{Ends, disk_seen, files_seen, observed
 ghost use Rattle.std.specs.String.{string_bytes};
 ghost use Rattle.command_words.specs.Words.{Begin as BeginTask, Drain as DrainTask, Follow as FollowTask, Run as RunTask};
 ghost use Rattle.command_words.specs.Words.{Task, journal_of, serve_words, task_in, words_of};
-ghost use Rattle.cell_program.specs.Walks.{no_command, walk_of};
+ghost use Rattle.command_words.specs.Calls.{PromisesAt, no_command};
+ghost use Rattle.cell_program.specs.Walks.{walk_of};
 ghost use Rattle.cell_program.specs.Causes.{Causes};
 ghost use Rattle.cell_program.specs.Headline.{Begun, Drained, Headline};
-ghost use Rattle.cell_program.specs.Promised.{FollowsAll, PromisesAt};
+ghost use Rattle.cell_program.specs.Promised.{FollowsAll};
 ghost use Rattle.standby_commands.specs.FollowTold.{FollowTells};
 
 use carry_commands::{Begin, Carry};
@@ -15,7 +16,7 @@ use cell_commands::{Check, Drain, Plan, Show, Why};
 use cell_driver::drive;
 use cell_texts::{CommandEnd, print_usage};
 use cell_walks::{leaves_only_now, reads_an_image};
-use command_words::{Command, command_of, usage};
+use command_words::{Command, Ended, command_of, usage};
 use hybrid_command::HybridShift;
 use look_commands::{Grants, Parts};
 use make_command::run_make;
@@ -29,13 +30,6 @@ use standby_commands::{Follow, run_feed};
 use std::alloc::Global;
 use std::sync::Wait;
 use std::thread::Threads;
-
-/// How a call ended: the exit status, and the disk that was handed in.
-#[derive(Drop)]
-pub struct Ended<D> {
-    pub status: u8,
-    pub disk: D,
-}
 
 /// Runs one command. The words are matched by their number and the first one; the tests come in the order of the command's walk.
 /// A sink that failed gives status 8 whatever else happened.

@@ -9,7 +9,9 @@
 #![tactic(auto)]
 
 mod commands;
+mod ended;
 mod served;
 
 pub use commands::{Command, Journal, command_of, journal_in, usage};
+pub use ended::Ended;
 pub use served::{Served, served_in};

@@ -3,10 +3,11 @@
 //! be seen of a line that `serve` refuses; whoever calls it is told there of a journal that is not there.
 #![tactic(auto)]
 
-use cell_program::{Journal, cell_main, journal_in, serve_main, served_in, usage};
+use cell_program::{Journal, cell_main, journal_in, served_in, usage};
 use journal_disk::{FileDisk, Purpose};
 use outside_io::{Disk, Pace};
 use real_outside::{DirFiles, InSource, OutSink, RestPace, SeenSink, out_writer, words_after_name};
+use serve_program::serve_main;
 use std::fs::File;
 use std::io::{IsTerminal, Write};
 use std::process::ExitCode;
