@@ -1,18 +1,19 @@
 //! `begin CELL START JOURNAL`: the requests of a start that the journal does not hold yet, asked one by one, each grant written to it.
 ghost use Rattle.std.specs.Prelude.{◌≡◌, ◌≤◌, length, IfOk};
 ghost use Rattle.std.specs.List.{All};
-ghost use Rattle.cell_walks.specs.Clauses.{IsTaken, disk_seen};
+ghost use Rattle.cell_walks.specs.Clauses.{Ends, IsTaken, disk_seen, files_seen, observed, sink_seen};
 ghost use Rattle.printer.specs.Printing.{Prints};
 ghost use Rattle.cell_texts.specs.Clauses.{CellFits, MAX_CELL_BYTES, known};
 ghost use Rattle.journal_texts.specs.Clauses.{EntriesFit, recorded_outcome};
 ghost use Rattle.carry_commands.specs.BeginClauses.{IsBegunOnJournal, IsGrantedStart, IsPlacing, MAX_START_LINES};
+ghost use Rattle.carry_commands.specs.Begin.{begin};
 
 use crate::asking::begin_opened;
 use crate::compared::Compared;
 use crate::starts::{check_start, read_start_file};
 use cell_base::Request;
-use cell_driver::Command;
-use cell_texts::{Answered, CellFile, Made};
+use cell_driver::{Command, drive};
+use cell_texts::{Answered, CellFile, CommandEnd, Made};
 use cell_walks::Status;
 use durable_cell::{Heard, MAX_ROOM};
 use journal_texts::{Recorded, open_journal_with, print_record};
@@ -20,6 +21,21 @@ use outside_io::{Disk, Files, Sink};
 use printer::Printer;
 use record_text::MAX_START_LINES;
 use std::alloc::Global;
+
+/// Runs `begin CELL START JOURNAL`.
+pub fn run_begin<F: Files, K: Sink, D: Disk>(
+    alloc: Global,
+    files: &mut F,
+    out: &mut K,
+    cell: &str,
+    start: &str,
+    disk: D,
+) -> CommandEnd<D>
+    ensures { Ends (observed (files_seen F.Files files.old files.new) (disk_seen D.Disk disk result.disk))
+        (sink_seen K.Sink out.old out.new) (begin cell.now start.now) result.status }
+{
+    drive(&Begin { start }, alloc, files, out, cell, disk)
+}
 
 /// The command `begin`, with the name of the start file. All requests are asked before the first line is printed.
 #[derive(Drop)]

@@ -1,23 +1,39 @@
 //! `carry CELL1 JOURNAL CELL2`: the start file of the parts after the grants of the journal, carried to the second cell.
 ghost use Rattle.std.specs.Prelude.{◌≡◌, ◌≤◌, length, map, IfOk, IfErr};
 ghost use Rattle.std.specs.List.{All};
-ghost use Rattle.cell_walks.specs.Clauses.{IsOnlyRead, IsTaken, disk_seen};
+ghost use Rattle.cell_walks.specs.Clauses.{Ends, IsOnlyRead, IsTaken, disk_seen, files_seen, observed, sink_seen};
 ghost use Rattle.cell_walks.specs.declared.status.Status.TheVariants.{Done};
 ghost use Rattle.cell_texts.specs.Clauses.{MAX_CELL_BYTES, known};
 ghost use Rattle.journal_texts.specs.Clauses.{to_read};
 ghost use Rattle.printer.specs.Printing.{Prints};
 ghost use Rattle.carry_commands.specs.CarryClauses.{CellFits, EndsAfter, HasCarriedAfter, IsPlacing, carry_outcome, place_line};
+ghost use Rattle.carry_commands.specs.Carry.{carry};
 
 use crate::carrying::{Carried, carry_parts};
 use cell_base::{Cell, Request};
-use cell_driver::Command;
-use cell_texts::{Answered, CellFile, Made, read_cell};
+use cell_driver::{Command, drive};
+use cell_texts::{Answered, CellFile, CommandEnd, Made, read_cell};
 use cell_walks::Status;
 use journal_texts::read_journal;
 use outside_io::{Disk, Files, Sink};
 use printer::Printer;
 use record_text::place_line;
 use std::alloc::Global;
+
+/// Runs `carry CELL1 JOURNAL CELL2`.
+pub fn run_carry<F: Files, K: Sink, D: Disk>(
+    alloc: Global,
+    files: &mut F,
+    out: &mut K,
+    cell: &str,
+    other: &str,
+    disk: D,
+) -> CommandEnd<D>
+    ensures { Ends (observed (files_seen F.Files files.old files.new) (disk_seen D.Disk disk result.disk))
+        (sink_seen K.Sink out.old out.new) (carry cell.now other.now) result.status }
+{
+    drive(&Carry { other }, alloc, files, out, cell, disk)
+}
 
 /// The command `carry`, with the name of the second cell's file.
 #[derive(Drop)]

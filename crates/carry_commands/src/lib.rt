@@ -2,10 +2,8 @@
 //! journal of a start file. The walk of each stands in `specs/`, and `cell_driver::drive` goes it.
 //!
 //! ```text
-//! let carry = Carry { other: "new-cell.toml" };
-//! let CommandEnd { status, disk } = drive(&carry, alloc, &mut files, &mut out, "cell.toml", disk);
-//! let begin = Begin { start: "start" };
-//! let CommandEnd { status, disk } = drive(&begin, alloc, &mut files, &mut out, "new-cell.toml", new_disk);
+//! let CommandEnd { status, disk } = run_carry(alloc, &mut files, &mut out, "cell.toml", "new-cell.toml", disk);
+//! let CommandEnd { status, disk } = run_begin(alloc, &mut files, &mut out, "new-cell.toml", "start", new_disk);
 //! ```
 #![tactic(auto)]
 
@@ -19,6 +17,6 @@ mod placing;
 mod refusals;
 mod starts;
 
-pub use begin::Begin;
-pub use carry::Carry;
+pub use begin::{Begin, run_begin};
+pub use carry::{Carry, run_carry};
 pub use refusals::{CarryFault, StartFault, Uncarried};

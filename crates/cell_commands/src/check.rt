@@ -1,17 +1,33 @@
 //! `check CELL RECORD`: whether a record is right, or the first line that isn't, and why.
 ghost use Rattle.std.specs.Prelude.{◌≡◌};
-ghost use Rattle.cell_walks.specs.Clauses.{IsTaken};
+ghost use Rattle.cell_walks.specs.Clauses.{Ends, IsTaken, disk_seen, files_seen, observed, sink_seen};
 ghost use Rattle.printer.specs.Printing.{Prints};
-ghost use Rattle.cell_commands.specs.Check.{verdict_outcome, verdict_status};
+ghost use Rattle.cell_commands.specs.Check.{check, verdict_outcome, verdict_status};
 
 use crate::verdicts::{check_record, verdict_line};
-use cell_driver::Command;
-use cell_texts::{Answered, CellFile, Made};
+use cell_driver::{Command, drive};
+use cell_texts::{Answered, CellFile, CommandEnd, Made};
 use cell_walks::Status;
 use outside_io::{Disk, Files, Sink};
 use printer::Printer;
 use shift_checker::Verdict;
 use std::alloc::Global;
+
+/// Runs `check CELL RECORD`.
+pub fn run_check<F: Files, K: Sink, D: Disk>(
+    alloc: Global,
+    files: &mut F,
+    out: &mut K,
+    cell: &str,
+    record_file: &str,
+    disk: D,
+) -> CommandEnd<D>
+    ensures ends { Ends (observed (files_seen F.Files files.old files.new) (disk_seen D.Disk disk result.disk))
+        (sink_seen K.Sink out.old out.new) (check cell.now record_file.now) result.status }
+    ensures same { result.disk ≡ disk }
+{
+    drive(&Check { record_file }, alloc, files, out, cell, disk)
+}
 
 /// The command `check`, with the name of the record.
 #[derive(Drop)]

@@ -1,12 +1,13 @@
 //! `drain CELL JOURNAL`: the steps of the plan after the grants of the journal, asked one by one, each grant written to it.
 ghost use Rattle.std.specs.Prelude.{◌≡◌};
-ghost use Rattle.cell_walks.specs.Clauses.{disk_seen};
+ghost use Rattle.cell_walks.specs.Clauses.{Ends, disk_seen, files_seen, observed, sink_seen};
 ghost use Rattle.journal_texts.specs.Clauses.{EntriesFit, IsFresh, recorded_outcome};
 ghost use Rattle.cell_commands.specs.Draining.{AreDue, IsAdmitted, IsDrained, IsDrainedIn, KeepsHistory, StandsForAdded, first_parts};
 ghost use Rattle.cell_commands.specs.declared.drain.TheConstants.{MAX_PLAN};
+ghost use Rattle.cell_commands.specs.Drain.{drain};
 
-use cell_driver::Command;
-use cell_texts::{Answered, CellFile, Made};
+use cell_driver::{Command, drive};
+use cell_texts::{Answered, CellFile, CommandEnd, Made};
 use cell_walks::Status;
 use durable_cell::{Durable, MAX_ROOM, Recalled, durable_law};
 use journal_texts::{Recorded, open_journal_with, print_record, record_of};
@@ -17,6 +18,20 @@ use std::alloc::Global;
 
 /// The most steps of a plan: 128 for each of the 4,096 units of a cell.
 const MAX_PLAN: u64 = 524_288;
+
+/// Runs `drain CELL JOURNAL`.
+pub fn run_drain<F: Files, K: Sink, D: Disk>(
+    alloc: Global,
+    files: &mut F,
+    out: &mut K,
+    cell: &str,
+    disk: D,
+) -> CommandEnd<D>
+    ensures { Ends (observed (files_seen F.Files files.old files.new) (disk_seen D.Disk disk result.disk))
+        (sink_seen K.Sink out.old out.new) (drain cell.now) result.status }
+{
+    drive(&Drain, alloc, files, out, cell, disk)
+}
 
 /// The command `drain`.
 pub struct Drain;

@@ -1,7 +1,7 @@
 //! The commands that need no session, one module each: its walk stands in `specs/`, and `cell_driver::drive` goes it.
 //!
 //! ```text
-//! let CommandEnd { status, disk } = drive(&Plan, alloc, &mut files, &mut out, "cell.toml", disk);
+//! let CommandEnd { status, disk } = run_plan(alloc, &mut files, &mut out, "cell.toml", disk);
 //! ```
 #![tactic(auto)]
 
@@ -12,8 +12,8 @@ mod show;
 mod verdicts;
 mod why;
 
-pub use check::Check;
-pub use drain::Drain;
-pub use plan::Plan;
-pub use show::Show;
-pub use why::Why;
+pub use check::run_check;
+pub use drain::run_drain;
+pub use plan::run_plan;
+pub use show::run_show;
+pub use why::run_why;

@@ -1,12 +1,29 @@
 //! `plan CELL JOURNAL`: the plan that empties the cell after the grants of the journal.
-use cell_driver::Command;
-use cell_texts::{Answered, CellFile};
+ghost use Rattle.cell_walks.specs.Clauses.{Ends, disk_seen, files_seen, observed, sink_seen};
+ghost use Rattle.cell_commands.specs.Plan.{plan};
+
+use cell_driver::{Command, drive};
+use cell_texts::{Answered, CellFile, CommandEnd};
 use cell_walks::Status;
 use journal_texts::{AfterGrants, read_journal};
 use outside_io::{Disk, Files, Sink};
 use printer::Printer;
 use record_printer::records::print_block;
 use std::alloc::Global;
+
+/// Runs `plan CELL JOURNAL`.
+pub fn run_plan<F: Files, K: Sink, D: Disk>(
+    alloc: Global,
+    files: &mut F,
+    out: &mut K,
+    cell: &str,
+    disk: D,
+) -> CommandEnd<D>
+    ensures { Ends (observed (files_seen F.Files files.old files.new) (disk_seen D.Disk disk result.disk))
+        (sink_seen K.Sink out.old out.new) (plan cell.now) result.status }
+{
+    drive(&Plan, alloc, files, out, cell, disk)
+}
 
 /// The command `plan`.
 pub struct Plan;

@@ -1,14 +1,15 @@
 //! `show CELL`: the resources of a cell, each with the stages of its neighborhood.
 ghost use Rattle.std.specs.Prelude.{◌≡◌, IfOk};
+ghost use Rattle.cell_walks.specs.Clauses.{Ends, disk_seen, files_seen, observed, sink_seen};
 ghost use Rattle.cell_base.specs.Fits.{CellFits};
 ghost use Rattle.refusal_reason.specs.Shown.{show_lines};
 ghost use Rattle.printer.specs.Printing.{Prints};
-ghost use Rattle.cell_commands.specs.Show.{IsShown};
+ghost use Rattle.cell_commands.specs.Show.{IsShown, show};
 
 use admission_core::Core;
 use cell_base::{Cell, List, NoMemory};
-use cell_driver::Command;
-use cell_texts::{Answered, CellFile, Made};
+use cell_driver::{Command, drive};
+use cell_texts::{Answered, CellFile, CommandEnd, Made};
 use cell_walks::{EarlyEnd, Status};
 use outside_io::{Disk, Files, Sink};
 use printer::Printer;
@@ -16,6 +17,21 @@ use record_text::cut_line;
 use refusal_reason::laws::show_lines_are_lines;
 use refusal_reason::show_text;
 use std::alloc::Global;
+
+/// Runs `show CELL`.
+pub fn run_show<F: Files, K: Sink, D: Disk>(
+    alloc: Global,
+    files: &mut F,
+    out: &mut K,
+    cell: &str,
+    disk: D,
+) -> CommandEnd<D>
+    ensures ends { Ends (observed (files_seen F.Files files.old files.new) (disk_seen D.Disk disk result.disk))
+        (sink_seen K.Sink out.old out.new) (show cell.now) result.status }
+    ensures same { result.disk ≡ disk }
+{
+    drive(&Show, alloc, files, out, cell, disk)
+}
 
 /// The command `show`.
 pub struct Show;

@@ -1,18 +1,18 @@
 //! `why CELL JOURNAL STEP`: what a step would be told after the grants of the journal, and which jobs stand in its way.
 ghost use Rattle.std.specs.Prelude.{◌≡◌, ◌≤◌, length, map, IfOk, IfErr};
 ghost use Rattle.record_text.specs.Fitting.{ToldFits};
-ghost use Rattle.cell_walks.specs.Clauses.{IsNotOpened, IsOnlyRead, IsTaken, disk_seen};
+ghost use Rattle.cell_walks.specs.Clauses.{Ends, IsNotOpened, IsOnlyRead, IsTaken, disk_seen, files_seen, observed, sink_seen};
 ghost use Rattle.cell_walks.specs.declared.status.Status.TheVariants.{Done};
 ghost use Rattle.cell_walks.specs.declared.early_end.EarlyEnd.TheVariants.{WantOfMemory};
 ghost use Rattle.cell_texts.specs.Clauses.{Answered, CellFits, MAX_CELL_BYTES, RequestFits, job_line, known};
 ghost use Rattle.journal_texts.specs.Clauses.{to_read};
 ghost use Rattle.printer.specs.Printing.{Prints};
-ghost use Rattle.cell_commands.specs.Why.{IsAnswerAfter, IsAnswerOf, answer_lines};
+ghost use Rattle.cell_commands.specs.Why.{IsAnswerAfter, IsAnswerOf, answer_lines, why};
 
 use admission_core::Core;
 use cell_base::{JobId, List, Reply, Request};
-use cell_driver::Command;
-use cell_texts::{Answered, CellFile, Made, at_step_fault, job_line};
+use cell_driver::{Command, drive};
+use cell_texts::{Answered, CellFile, CommandEnd, Made, at_step_fault, job_line};
 use cell_walks::{EarlyEnd, Status};
 use journal_texts::read_journal;
 use outside_io::{Disk, Files, Sink};
@@ -22,6 +22,21 @@ use refusal_reason::explain;
 use refusal_reason::laws::refusal_is_present;
 use std::alloc::Global;
 use step_text::read_step;
+
+/// Runs `why CELL JOURNAL STEP`.
+pub fn run_why<F: Files, K: Sink, D: Disk>(
+    alloc: Global,
+    files: &mut F,
+    out: &mut K,
+    cell: &str,
+    step: &str,
+    disk: D,
+) -> CommandEnd<D>
+    ensures { Ends (observed (files_seen F.Files files.old files.new) (disk_seen D.Disk disk result.disk))
+        (sink_seen K.Sink out.old out.new) (why cell.now step.now) result.status }
+{
+    drive(&Why { step }, alloc, files, out, cell, disk)
+}
 
 /// The command `why`, with the step that is asked about.
 #[derive(Drop)]

@@ -1,17 +1,14 @@
 -- What the command of the words promises.
-use Rattle.std.proofs.Common.{◌≡◌, ℕ, List, [], ◌∷◌, refl, subst, sym}
+use Rattle.std.proofs.Common.{◌≡◌, ℕ, List, subst, sym}
 use Rattle.outside_io.specs.Puts.{SinkTold}
-use Rattle.cell_walks.specs.DiskTold.{IsUntouched}
 use Rattle.cell_walks.specs.Observed.{Observed}
-use Rattle.cell_walks.specs.Outcomes.{IsDelivered, printed}
 use Rattle.cell_walks.specs.Promises.{Ends}
 use Rattle.cell_walks.specs.Walks.{Walk}
 use Rattle.cell_walks.specs.declared.status.Status.{Status}
-use Rattle.cell_walks.specs.declared.status.Status.TheVariants.{NoCommand}
 use Rattle.command_words.specs.Words.{Task, task_in, usage_text, words_of}
 use Rattle.command_words.specs.declared.commands.Command.{Command}
 use Rattle.command_words.proofs.Written.{one_task}
-use Rattle.cell_program.specs.Walks.{no_command, walk_of}
+use Rattle.cell_program.specs.Walks.{walk_of}
 
 module _ (seen : Observed) (sink : SinkTold) (status : Status) where
   -- a command that was run goes its walk, whatever command the words are
@@ -23,11 +20,6 @@ module _ (seen : Observed) (sink : SinkTold) (status : Status) where
   pub goes_as : (command is : Command) → command ≡ is → Ends seen sink (walk_of (task_in is)) status
       → Ends seen sink (walk_of (task_in command)) status
   goes_as command is same ends = subst (λ (c : Command). Ends seen sink (walk_of (task_in c)) status) (sym same) ends
-
-  -- the commands with their words were printed
-  pub ends_at_none : IsUntouched seen.disk → IsDelivered sink (printed NoCommand (usage_text ∷ [])) status → Ends seen sink no_command status
-  ends_at_none still delivered =
-      record { outcome = printed NoCommand (usage_text ∷ []); allowed = (refl, still); delivered = delivered }
 
   -- a walk that prints the line of the commands, which was handed in
   pub by_listed : (walk : List ℕ → Walk) (line : List ℕ) → line ≡ usage_text → Ends seen sink (walk line) status

@@ -1,10 +1,7 @@
 -- The walk of each command, one line each.
-use Rattle.std.specs.Prelude.{◌≡◌, [], ◌∷◌}
 use Rattle.command_words.specs.Words.{Task, Solo, Run, Plan, Drain, Why, Check, Show, Make, Carry, Begin, Hybrid}
 use Rattle.command_words.specs.Words.{Queue, Advise, Arrange, Grants, Parts, Feed, Follow, usage_text}
-use Rattle.cell_walks.specs.Outcomes.{printed}
-use Rattle.cell_walks.specs.Walks.{Answers, Walk}
-use Rattle.cell_walks.specs.declared.status.Status.TheVariants.{NoCommand}
+use Rattle.cell_walks.specs.Walks.{Walk}
 use Rattle.cell_commands.specs.Check.{check}
 use Rattle.cell_commands.specs.Drain.{drain}
 use Rattle.cell_commands.specs.Plan.{plan}
@@ -43,7 +40,3 @@ walk_of (Grants cell journal) = grants cell
 walk_of (Parts cell journal) = parts cell
 walk_of (Feed cell journal from) = feed usage_text cell from
 walk_of (Follow cell frames journal) = follow cell frames
-
--- of words that no command is written as: the commands with their words are printed, status 2
-abbrev pub no_command : Walk
-no_command = Answers λ input outcome. outcome ≡ printed NoCommand (usage_text ∷ [])

@@ -3,7 +3,7 @@
 //! `cell_main` is the top call. It answers a status and hands back the disk. What it promises stands in `cell_walks`, once for every
 //! command: of the walk of the command that the words are. Which that is says `command_words`, and its walk `specs/Walks`, one line each. What
 //! that says of the commands that add to a journal is told fact by fact in `specs/Headline`, and why a command ends with each status in
-//! `specs/Causes`. `serve_main` is the top call of `serve`, which alone has an input.
+//! `specs/Causes`. `serve`, which alone has an input, has a top call of its own, in `serve_program`.
 //!
 //! ```rust
 //! let mut files = files_of(rt, words)?;
@@ -13,9 +13,9 @@
 //! ```
 #![tactic(auto)]
 
-mod serving;
 mod top;
 
-pub use command_words::{Command, Journal, Served, command_of, journal_in, served_in, usage};
-pub use serving::serve_main;
-pub use top::{Ended, cell_main};
+pub use command_words::{
+    Command, Ended, Journal, Served, command_of, journal_in, served_in, usage,
+};
+pub use top::cell_main;

@@ -4,38 +4,31 @@ ghost use Rattle.cell_walks.specs.Clauses.{Ends, disk_seen, files_seen, observed
 ghost use Rattle.std.specs.String.{string_bytes};
 ghost use Rattle.command_words.specs.Words.{Begin as BeginTask, Drain as DrainTask, Follow as FollowTask, Run as RunTask};
 ghost use Rattle.command_words.specs.Words.{Task, journal_of, serve_words, task_in, words_of};
-ghost use Rattle.cell_program.specs.Walks.{no_command, walk_of};
+ghost use Rattle.command_words.specs.Calls.{PromisesAt, no_command};
+ghost use Rattle.cell_program.specs.Walks.{walk_of};
 ghost use Rattle.cell_program.specs.Causes.{Causes};
 ghost use Rattle.cell_program.specs.Headline.{Begun, Drained, Headline};
-ghost use Rattle.cell_program.specs.Promised.{FollowsAll, PromisesAt};
+ghost use Rattle.cell_program.specs.Promised.{FollowsAll};
 ghost use Rattle.standby_commands.specs.FollowTold.{FollowTells};
 
-use carry_commands::{Begin, Carry};
-use cell_commands::{Check, Drain, Plan, Show, Why};
-use cell_driver::drive;
+use carry_commands::{run_begin, run_carry};
+use cell_commands::{run_check, run_drain, run_plan, run_show, run_why};
 use cell_texts::{CommandEnd, print_usage};
 use cell_walks::{leaves_only_now, reads_an_image};
-use command_words::{Command, command_of, usage};
-use hybrid_command::HybridShift;
-use look_commands::{Grants, Parts};
+use command_words::{Command, Ended, command_of, usage};
+use hybrid_command::run_hybrid;
+use look_commands::{run_grants, run_parts};
 use make_command::run_make;
 use order_advisor::Weighing;
-use order_commands::BestOrders;
+use order_commands::run_orders;
 use outside_io::{Disk, Files, Pace, Sink};
-use queue_command::Queue;
+use queue_command::run_queue;
 use run_command::run_on_journal;
 use solo_command::run_solo;
-use standby_commands::{Follow, run_feed};
+use standby_commands::{run_feed, run_follow};
 use std::alloc::Global;
 use std::sync::Wait;
 use std::thread::Threads;
-
-/// How a call ended: the exit status, and the disk that was handed in.
-#[derive(Drop)]
-pub struct Ended<D> {
-    pub status: u8,
-    pub disk: D,
-}
 
 /// Runs one command. The words are matched by their number and the first one; the tests come in the order of the command's walk.
 /// A sink that failed gives status 8 whatever else happened.
@@ -159,39 +152,36 @@ fn run_command<R: Threads + Wait + Sync, F: Files, K: Sink, D: Disk + Send, P: P
         Command::Run { cell, shift, .. } => run_on_journal(
             rt, alloc, files, out, cell, shift, disk, pace,
         ),
-        Command::Plan { cell, .. } => drive(&Plan, alloc, files, out, cell, disk),
-        Command::Drain { cell, .. } => drive(&Drain, alloc, files, out, cell, disk),
-        Command::Why { cell, step, .. } => { drive(&Why { step }, alloc, files, out, cell, disk) }
-        Command::Check { cell, record_file } => {
-            drive(&Check { record_file }, alloc, files, out, cell, disk)
-        }
-        Command::Show { cell } => drive(&Show, alloc, files, out, cell, disk),
+        Command::Plan { cell, .. } => run_plan(alloc, files, out, cell, disk),
+        Command::Drain { cell, .. } => run_drain(alloc, files, out, cell, disk),
+        Command::Why { cell, step, .. } => run_why(alloc, files, out, cell, step, disk),
+        Command::Check { cell, record_file } => run_check(
+            alloc,
+            files,
+            out,
+            cell,
+            record_file,
+            disk,
+        ),
+        Command::Show { cell } => run_show(alloc, files, out, cell, disk),
         Command::Make { number } => run_make(alloc, files, out, number, usage(), disk),
-        Command::Carry { cell, other, .. } => {
-            drive(&Carry { other }, alloc, files, out, cell, disk)
-        }
-        Command::Begin { cell, start, .. } => {
-            drive(&Begin { start }, alloc, files, out, cell, disk)
-        }
-        Command::Hybrid { cell, shift } => {
-            drive(&HybridShift { shift }, alloc, files, out, cell, disk)
-        }
-        Command::Queue { cell, shift } => { drive(&Queue { shift }, alloc, files, out, cell, disk) }
+        Command::Carry { cell, other, .. } => run_carry(alloc, files, out, cell, other, disk),
+        Command::Begin { cell, start, .. } => run_begin(alloc, files, out, cell, start, disk),
+        Command::Hybrid { cell, shift } => run_hybrid(alloc, files, out, cell, shift, disk),
+        Command::Queue { cell, shift } => run_queue(alloc, files, out, cell, shift, disk),
         Command::Advise { cell } => {
             let weighing = Weighing::Alike;
-            drive(&BestOrders { weighing }, alloc, files, out, cell, disk)
+            run_orders(alloc, files, out, cell, weighing, disk)
         }
         Command::Arrange { cell } => {
             let weighing = Weighing::ByCapacity;
-            drive(&BestOrders { weighing }, alloc, files, out, cell, disk)
+            run_orders(alloc, files, out, cell, weighing, disk)
         }
-        Command::Grants { cell, .. } => drive(&Grants, alloc, files, out, cell, disk),
-        Command::Parts { cell, .. } => drive(&Parts, alloc, files, out, cell, disk),
+        Command::Grants { cell, .. } => run_grants(alloc, files, out, cell, disk),
+        Command::Parts { cell, .. } => run_parts(alloc, files, out, cell, disk),
         Command::Feed { cell, from, .. } => {
             run_feed(alloc, files, out, cell, from, usage(), disk)
         }
-        Command::Follow { cell, frames, .. } => {
-            drive(&Follow { frames }, alloc, files, out, cell, disk)
-        }
+        Command::Follow { cell, frames, .. } => run_follow(alloc, files, out, cell, frames, disk),
     }
 }

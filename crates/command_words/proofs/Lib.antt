@@ -1,2 +1,3 @@
 -- Lemmas, grouped by subject.
+pub mod Calls
 pub mod Written

@@ -1,21 +1,38 @@
 //! `hybrid CELL SHIFT`: a shift on the empty cell under the hybrid policy, its sessions in rounds on one thread.
 ghost use Rattle.std.specs.Prelude.{◌≡◌, IfOk};
-ghost use Rattle.cell_walks.specs.Clauses.{IsTaken};
+ghost use Rattle.cell_walks.specs.Clauses.{Ends, IsTaken, disk_seen, files_seen, observed, sink_seen};
 ghost use Rattle.cell_walks.specs.declared.status.Status.TheVariants.{Done};
 ghost use Rattle.printer.specs.Printing.{Prints};
 ghost use Rattle.hybrid_command.specs.Clauses.{CellFits, HistoryFits, IsHybridRun, ShiftFits, lines_of_run};
+ghost use Rattle.hybrid_command.specs.Hybrid.{hybrid};
 
 use crate::printing::print_block;
 use banker_check::Hybrid;
 use cell_base::{Cell, NoMemory, Shelf, Shift};
-use cell_driver::Command;
-use cell_texts::{Answered, CellFile, Made, read_shift};
+use cell_driver::{Command, drive};
+use cell_texts::{Answered, CellFile, CommandEnd, Made, read_shift};
 use cell_walks::{EarlyEnd, Status};
 use hybrid_rounds::{HybridEntry, ask_in_rounds};
 use outside_io::{Disk, Files, Sink};
 use printer::Printer;
 use solo_rounds::steps_of;
 use std::alloc::Global;
+
+/// Runs `hybrid CELL SHIFT`.
+pub fn run_hybrid<F: Files, K: Sink, D: Disk>(
+    alloc: Global,
+    files: &mut F,
+    out: &mut K,
+    cell: &str,
+    shift: &str,
+    disk: D,
+) -> CommandEnd<D>
+    ensures ends { Ends (observed (files_seen F.Files files.old files.new) (disk_seen D.Disk disk result.disk))
+        (sink_seen K.Sink out.old out.new) (hybrid cell.now shift.now) result.status }
+    ensures same { result.disk ≡ disk }
+{
+    drive(&HybridShift { shift }, alloc, files, out, cell, disk)
+}
 
 /// The command `hybrid`, with the name of the shift. All memory is taken before the first session asks.
 #[derive(Drop)]

@@ -4,8 +4,7 @@
 //! in the place of a saturation has the reason `blocked`. The command is a walk in `specs/Hybrid`, which `cell_driver::drive` goes.
 //!
 //! ```text
-//! let hybrid = HybridShift { shift: "shift.toml" };
-//! let CommandEnd { status, disk } = drive(&hybrid, alloc, &mut files, &mut out, "cell.toml", disk);
+//! let CommandEnd { status, disk } = run_hybrid(alloc, &mut files, &mut out, "cell.toml", "shift.toml", disk);
 //! ```
 #![tactic(auto)]
 
@@ -14,4 +13,4 @@ mod lines;
 mod planning;
 mod printing;
 
-pub use command::{HybridRun, HybridShift};
+pub use command::run_hybrid;

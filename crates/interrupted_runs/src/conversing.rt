@@ -3,9 +3,10 @@
 use crate::call::{CallEnd, files_with, owned};
 use anyhow::{Context, Result, bail};
 use cell_base::List;
-use cell_program::{Ended, serve_main};
+use cell_program::Ended;
 use outside_io::{CallKind, DiskCall, MemDisk, MemSource};
 use peers::{MemPeer, Peer, Silent};
+use serve_program::serve_main;
 use std::alloc::Global;
 use std::sync::Wait;
 use test_fixtures::TornSink;

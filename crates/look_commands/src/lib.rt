@@ -3,7 +3,7 @@
 //! Each is a walk in `specs/`, which `cell_driver::drive` goes. `laws` says that `check` finds right what `grants` prints.
 //!
 //! ```text
-//! let CommandEnd { status, disk } = drive(&Grants, alloc, &mut files, &mut out, "cell.toml", disk);
+//! let CommandEnd { status, disk } = run_grants(alloc, &mut files, &mut out, "cell.toml", disk);
 //! ```
 #![tactic(auto)]
 
@@ -13,5 +13,5 @@ mod listing;
 mod locating;
 mod parts;
 
-pub use grants::Grants;
-pub use parts::Parts;
+pub use grants::run_grants;
+pub use parts::run_parts;

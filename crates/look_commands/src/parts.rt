@@ -1,18 +1,33 @@
 //! `parts CELL JOURNAL`: where the parts stand after the grants of the journal, and how many each neighborhood counts.
 ghost use Rattle.std.specs.Prelude.{◌≡◌, IfOk, IfErr};
+ghost use Rattle.cell_walks.specs.Clauses.{Ends, disk_seen, files_seen, observed, sink_seen};
 ghost use Rattle.cell_walks.specs.declared.early_end.EarlyEnd.TheVariants.{WantOfMemory};
-ghost use Rattle.look_commands.specs.Parts.{parts_lines};
+ghost use Rattle.look_commands.specs.Parts.{parts, parts_lines};
 
 use crate::locating::print_parts;
 use admission_core::Core;
 use cell_base::{List, Part};
-use cell_driver::Command;
-use cell_texts::{Answered, CellFile, Made};
+use cell_driver::{Command, drive};
+use cell_texts::{Answered, CellFile, CommandEnd, Made};
 use cell_walks::{EarlyEnd, Status};
 use journal_texts::read_journal;
 use outside_io::{Disk, Files, Sink};
 use printer::Printer;
 use std::alloc::Global;
+
+/// Runs `parts CELL JOURNAL`.
+pub fn run_parts<F: Files, K: Sink, D: Disk>(
+    alloc: Global,
+    files: &mut F,
+    out: &mut K,
+    cell: &str,
+    disk: D,
+) -> CommandEnd<D>
+    ensures { Ends (observed (files_seen F.Files files.old files.new) (disk_seen D.Disk disk result.disk))
+        (sink_seen K.Sink out.old out.new) (parts cell.now) result.status }
+{
+    drive(&Parts, alloc, files, out, cell, disk)
+}
 
 /// The command `parts`.
 pub struct Parts;

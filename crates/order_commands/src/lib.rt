@@ -6,8 +6,7 @@
 //! the cell with the printed orders.
 //!
 //! ```text
-//! let arrange = BestOrders { weighing: Weighing::ByCapacity };
-//! let CommandEnd { status, disk } = drive(&arrange, alloc, &mut files, &mut out, "cell.toml", disk);
+//! let CommandEnd { status, disk } = run_orders(alloc, &mut files, &mut out, "cell.toml", Weighing::ByCapacity, disk);
 //! ```
 #![tactic(auto)]
 
@@ -15,4 +14,4 @@ pub mod laws;
 mod lines;
 mod orders;
 
-pub use orders::BestOrders;
+pub use orders::run_orders;

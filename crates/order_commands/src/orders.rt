@@ -2,22 +2,39 @@
 ghost use Rattle.std.specs.Prelude.{◌≡◌, ◌≤◌, length, IfOk, IfErr};
 ghost use Rattle.order_advisor.specs.declared.advice.TheConstants.{ARRANGED};
 ghost use Rattle.printer.specs.Printing.{Prints};
-ghost use Rattle.cell_walks.specs.Clauses.{end_with};
+ghost use Rattle.cell_walks.specs.Clauses.{Ends, disk_seen, end_with, files_seen, observed, sink_seen};
 ghost use Rattle.cell_walks.specs.declared.early_end.Subject.TheVariants.{Cell as OfCell};
 ghost use Rattle.cell_texts.specs.Clauses.{CellFits};
 ghost use Rattle.order_commands.specs.Advised.{HasNoAdvice, IsAdviceOn, IsComplete};
 ghost use Rattle.order_commands.specs.Lines.{advice_lines, order_lines};
-ghost use Rattle.order_commands.specs.Orders.{fault_line, limit_of};
+ghost use Rattle.order_commands.specs.Orders.{best_orders, fault_line, limit_of};
+ghost use Rattle.cell_driver.specs.Driving.{on_cell};
 
 use crate::lines::{order_line, too_many_line, weight_line};
 use cell_base::{Cell, ResId};
-use cell_driver::Command;
-use cell_texts::{Answered, CellFile, Made};
+use cell_driver::{Command, drive};
+use cell_texts::{Answered, CellFile, CommandEnd, Made};
 use cell_walks::{EarlyEnd, Refusal, Status, Subject};
 use order_advisor::{ADVISED, ARRANGED, Advice, AdviceFault, Weighing, best_within};
 use outside_io::{Disk, Files, Sink};
 use printer::Printer;
 use std::alloc::Global;
+
+/// Runs `advise CELL` or `arrange CELL`, whichever weighs so.
+pub fn run_orders<F: Files, K: Sink, D: Disk>(
+    alloc: Global,
+    files: &mut F,
+    out: &mut K,
+    cell: &str,
+    weighing: Weighing,
+    disk: D,
+) -> CommandEnd<D>
+    ensures ends { Ends (observed (files_seen F.Files files.old files.new) (disk_seen D.Disk disk result.disk))
+        (sink_seen K.Sink out.old out.new) (on_cell cell.now (best_orders weighing)) result.status }
+    ensures same { result.disk ≡ disk }
+{
+    drive(&BestOrders { weighing }, alloc, files, out, cell, disk)
+}
 
 /// The command `advise`, where each membership weighs 1, or `arrange`, where it weighs 1,000 divided by the capacity of the resource,
 /// rounded down. All memory is taken before the first line is printed.

@@ -7,4 +7,4 @@ mod lines;
 mod printing;
 mod queue;
 
-pub use queue::Queue;
+pub use queue::run_queue;

@@ -1,16 +1,17 @@
 //! `queue CELL SHIFT`: a shift on the empty cell, its sessions in rounds on one thread, over a board on which saturated requests wait.
 ghost use Rattle.std.specs.Prelude.{◌≡◌, IfOk};
-ghost use Rattle.cell_walks.specs.Clauses.{IsTaken};
+ghost use Rattle.cell_walks.specs.Clauses.{Ends, IsTaken, disk_seen, files_seen, observed, sink_seen};
 ghost use Rattle.cell_walks.specs.declared.status.Status.TheVariants.{Done};
 ghost use Rattle.printer.specs.Printing.{Prints};
 ghost use Rattle.queue_command.specs.Clauses.{BoardFits, CellFits, IsQueueRun, ShiftFits, board_lines};
+ghost use Rattle.queue_command.specs.Queue.{queue};
 
 use crate::printing::print_board;
 use admission_core::Core;
 use board_rounds::ask_in_rounds;
 use cell_base::{Cell, MAX_ASKS, NoMemory, Shift};
-use cell_driver::Command;
-use cell_texts::{Answered, CellFile, Made, read_shift};
+use cell_driver::{Command, drive};
+use cell_texts::{Answered, CellFile, CommandEnd, Made, read_shift};
 use cell_walks::{EarlyEnd, Status};
 use outside_io::{Disk, Files, Sink};
 use printer::Printer;
@@ -20,6 +21,22 @@ use wait_board::laws::board_law;
 
 /// The room of the board: an ask has two entries at most, one where it waits and one at the end of its wait.
 const ROOM: u64 = 2 * MAX_ASKS;
+
+/// Runs `queue CELL SHIFT`.
+pub fn run_queue<F: Files, K: Sink, D: Disk>(
+    alloc: Global,
+    files: &mut F,
+    out: &mut K,
+    cell: &str,
+    shift: &str,
+    disk: D,
+) -> CommandEnd<D>
+    ensures ends { Ends (observed (files_seen F.Files files.old files.new) (disk_seen D.Disk disk result.disk))
+        (sink_seen K.Sink out.old out.new) (queue cell.now shift.now) result.status }
+    ensures same { result.disk ≡ disk }
+{
+    drive(&Queue { shift }, alloc, files, out, cell, disk)
+}
 
 /// The command `queue`, with the name of the shift. All memory is taken before the first session asks.
 #[derive(Drop)]

@@ -7,7 +7,7 @@
 //!
 //! ```text
 //! let mut files = DirFiles::new(&rt, false);
-//! let mut out = OutSink::new(io::writer(&rt));
+//! let mut out = OutSink::new(out_writer(&rt, rt.alloc()));
 //! let pace = RestPace::new(&rt);
 //! let ended = cell_main(&rt, rt.alloc(), &words, &mut files, &mut out, NullDisk, &pace);
 //! ```
@@ -26,7 +26,7 @@ mod words;
 pub use dir_files::DirFiles;
 pub use failure::Failure;
 pub use in_source::InSource;
-pub use out_sink::{OUT_BUFFER, OutSink};
+pub use out_sink::{OutSink, out_writer};
 pub use progress::Progress;
 pub use regular_files::RegularFiles;
 pub use rest_pace::RestPace;

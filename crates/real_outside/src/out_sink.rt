@@ -5,10 +5,19 @@ ghost use Rattle.real_outside.specs.OutSink.{write_faults};
 
 use crate::failure::Failure;
 use outside_io::{Failed, Sink};
-use std::io::{self, Write};
+use std::alloc::Global;
+use std::io::{self, BufWriter, Write};
 
 /// The bytes that standard output gathers for one write.
-pub const OUT_BUFFER: usize = 65536;
+const OUT_BUFFER: usize = 65536;
+
+/// Standard output as a writer. A buffer makes one write of many lines; where there is no memory for it, each line is a write.
+pub fn out_writer<R: Print>(rt: &R, alloc: Global) -> BufWriter<io::Printer<'_, R>> {
+    match BufWriter::with_capacity(alloc, OUT_BUFFER, io::writer(rt)) {
+        Ok(writer) => writer,
+        Err(_) => BufWriter::with_capacity(alloc, 0, io::writer(rt)).unwrap(),
+    }
+}
 
 /// A writer that takes the program's lines. It tells nothing of what it took; `faults` counts the calls that failed, and
 /// stays at its last value.

@@ -8,20 +8,15 @@ mod asked;
 mod top;
 
 use outside_io::NullDisk;
-use real_outside::{DirFiles, OUT_BUFFER, OutSink, words_after_name};
-use std::io::{self, BufWriter, Write};
+use real_outside::{DirFiles, OutSink, out_writer, words_after_name};
+use std::io::Write;
 use std::process::ExitCode;
 use std::rt::{Clock, Files};
 use top::solo_main;
 
-// A buffer makes one write of many lines. Where there is no memory for it, each line is a write.
 fn main(rt: HostRuntime) -> ExitCode {
     let words = words_after_name(&rt);
-    let status = match BufWriter::with_capacity(rt.alloc(), OUT_BUFFER, io::writer(&rt)) {
-        Ok(writer) => run_over(&rt, &words, writer),
-        Err(_) => run_over(&rt, &words, io::writer(&rt)),
-    };
-    ExitCode::from(status)
+    ExitCode::from(run_over(&rt, &words, out_writer(&rt, rt.alloc())))
 }
 
 // Plays the shift, and answers the status, or 8 where what was printed could not be written.

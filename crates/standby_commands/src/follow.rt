@@ -1,9 +1,10 @@
 //! `follow CELL FRAMES JOURNAL`: frames that a standby takes in turn, the grant of each next one written to its journal.
 ghost use Rattle.std.specs.Prelude.{◌≡◌, ◌≤◌, [], length, IfOk};
-ghost use Rattle.cell_walks.specs.Clauses.{IsTaken, disk_seen};
+ghost use Rattle.cell_walks.specs.Clauses.{Ends, IsTaken, disk_seen, files_seen, observed, sink_seen};
 ghost use Rattle.cell_texts.specs.Clauses.{CellFits, MAX_CELL_BYTES, known};
 ghost use Rattle.printer.specs.Printing.{Prints};
 ghost use Rattle.standby_commands.specs.Clauses.{AreDue, HasFollowedOn, IsFollowedOnJournal, IsFresh, StopFits, end_outcome, follow_outcome, frames_in};
+ghost use Rattle.standby_commands.specs.Follow.{follow};
 
 use crate::following::{Stop, take_frames};
 use crate::frames::{FRAME_BYTES, read_frames};
@@ -12,8 +13,8 @@ use crate::refusals::follow_refused;
 use admission_core::Core;
 use admission_core::laws::core_law;
 use cell_base::{NoMemory, Shelf};
-use cell_driver::Command;
-use cell_texts::{Answered, CellFile, Made};
+use cell_driver::{Command, drive};
+use cell_texts::{Answered, CellFile, CommandEnd, Made};
 use cell_walks::{EarlyEnd, Status};
 use durable_cell::{Durable, Finished, MAX_ROOM, durable_law};
 use journal_texts::{give_back, open_journal};
@@ -22,6 +23,21 @@ use printer::Printer;
 use record_text::left_line;
 use standby_link::{Follower, TakeFault};
 use std::alloc::Global;
+
+/// Runs `follow CELL FRAMES JOURNAL`.
+pub fn run_follow<F: Files, K: Sink, D: Disk>(
+    alloc: Global,
+    files: &mut F,
+    out: &mut K,
+    cell: &str,
+    frames: &str,
+    disk: D,
+) -> CommandEnd<D>
+    ensures { Ends (observed (files_seen F.Files files.old files.new) (disk_seen D.Disk disk result.disk))
+        (sink_seen K.Sink out.old out.new) (follow cell.now frames.now) result.status }
+{
+    drive(&Follow { frames }, alloc, files, out, cell, disk)
+}
 
 /// The command `follow`, with the name of the frames. All frames are taken before the first answer is printed.
 #[derive(Drop)]

@@ -4,8 +4,7 @@
 //! repeated or in another order, are all taken.
 //!
 //! ```text
-//! let follow = Follow { frames: "frames" };
-//! let CommandEnd { status, disk } = drive(&follow, alloc, &mut files, &mut out, "cell.toml", disk);
+//! let CommandEnd { status, disk } = run_follow(alloc, &mut files, &mut out, "cell.toml", "frames", disk);
 //! ```
 #![tactic(auto)]
 
@@ -17,4 +16,4 @@ mod printing;
 mod refusals;
 
 pub use feed::run_feed;
-pub use follow::Follow;
+pub use follow::{Follow, run_follow};

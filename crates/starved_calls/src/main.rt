@@ -8,9 +8,10 @@
 
 use anyhow::{Context, Result, bail};
 use cell_base::List;
-use cell_program::{Ended, cell_main, serve_main, served_in};
+use cell_program::{Ended, cell_main, served_in};
 use outside_io::{FreePace, MemDisk, MemFiles, MemSink, MemSource};
 use peers::Silent;
+use serve_program::serve_main;
 use std::io::{ErrorKind, Read};
 use std::process::ExitCode;
 use std::rt::{Env, Files};

@@ -3,29 +3,19 @@
 //! be seen of a line that `serve` refuses; whoever calls it is told there of a journal that is not there.
 #![tactic(auto)]
 
-mod absence;
-mod gathered;
-mod hinting;
-mod manner;
-mod watched;
-
-use absence::absence_line;
-use cell_program::{Journal, cell_main, journal_in, serve_main, served_in};
-use gathered::Gathered;
-use hinting::{Fails, failure_of, tell};
+use cell_program::{Journal, cell_main, journal_in, served_in, usage};
 use journal_disk::{FileDisk, Purpose};
-use manner::Manner;
 use outside_io::{Disk, Pace};
-use real_outside::{DirFiles, InSource, OUT_BUFFER, OutSink, RestPace, SeenSink, words_after_name};
+use real_outside::{DirFiles, InSource, OutSink, RestPace, SeenSink, out_writer, words_after_name};
+use serve_program::serve_main;
 use std::fs::File;
-use std::io::{self, BufWriter, IsTerminal, Write};
+use std::io::{IsTerminal, Write};
 use std::process::ExitCode;
 use std::rt::{Clock, Files};
 use std::sync::Wait;
 use std::thread::Threads;
-use watched::Watched;
+use terminal::{Fails, Gathered, Manner, Watched, absence_line, failure_of, tell};
 
-// A buffer makes one write of many lines. Where there is no memory for it, each line is a write.
 fn main(rt: HostRuntime) -> ExitCode {
     let words = words_after_name(&rt);
     let manner = Manner::of(&rt, rt.stderr().is_terminal());
@@ -40,17 +30,12 @@ fn main(rt: HostRuntime) -> ExitCode {
     let disk = FileDisk::new(&rt, rt.alloc(), name, purpose, shows_progress).telling(
         absence.as_ref().map(String::as_str),
     );
-    if is_served {
-        let status = match BufWriter::with_capacity(rt.alloc(), OUT_BUFFER, io::writer(&rt)) {
-            Ok(writer) => serve(&rt, &words, writer, disk, manner),
-            Err(_) => serve(&rt, &words, io::writer(&rt), disk, manner),
-        };
-        return ExitCode::from(status);
-    }
-    let pace = RestPace::new(&rt);
-    let status = match BufWriter::with_capacity(rt.alloc(), OUT_BUFFER, io::writer(&rt)) {
-        Ok(writer) => run_over(&rt, &words, writer, disk, &pace, manner),
-        Err(_) => run_over(&rt, &words, io::writer(&rt), disk, &pace, manner),
+    let writer = out_writer(&rt, rt.alloc());
+    let status = if is_served {
+        serve(&rt, &words, writer, disk, manner)
+    } else {
+        let pace = RestPace::new(&rt);
+        run_over(&rt, &words, writer, disk, &pace, manner)
     };
     ExitCode::from(status)
 }
@@ -71,7 +56,7 @@ fn serve<
     let ended = serve_main(rt, alloc, words, &mut files, &mut peer, disk);
     if manner.gives_hints {
         let failure = failure_of(ended.status, &files, &ended.disk, peer.sink.inner());
-        tell(rt, words, ended.status, peer.sink.line(), failure);
+        tell(rt, usage(), words, ended.status, peer.sink.line(), failure);
     }
     ended.status
 }
@@ -93,7 +78,7 @@ fn run_over<
     };
     if manner.gives_hints {
         let failure = failure_of(status, &files, &ended.disk, out.inner());
-        tell(rt, words, status, out.line(), failure);
+        tell(rt, usage(), words, status, out.line(), failure);
     }
     status
 }

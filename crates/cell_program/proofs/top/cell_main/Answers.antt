@@ -8,7 +8,8 @@ use Rattle.command_words.specs.Words.{Begin, Drain, Follow, Run}
 use Rattle.command_words.proofs.Written.{no_task}
 use Rattle.standby_commands.proofs.FollowTold.{completes, follow_tells}
 use Rattle.cell_program.proofs.Statuses.{causes, numbered}
-use Rattle.cell_program.specs.Walks.{no_command, walk_of}
+use Rattle.command_words.specs.Calls.{no_command}
+use Rattle.cell_program.specs.Walks.{walk_of}
 use Rattle.cell_program.proofs.top.cell_main.Goals as goal
 
 pub returns-clause-command : goal.returns-clause-command

@@ -2,7 +2,8 @@
 use Rattle.std.proofs.Common.{sym, ◌∙◌}
 use Rattle.cell_texts.proofs.Disks.{untouched}
 use Rattle.command_words.specs.Words.{task_in}
-use Rattle.cell_program.proofs.Promised.{ends_as, ends_at_none}
+use Rattle.command_words.proofs.Calls.{ends_at_none}
+use Rattle.cell_program.proofs.Promised.{ends_as}
 use Rattle.cell_program.proofs.top.run_words.Goals as goal
 
 pub returns-in-Some-clause-command : goal.returns-in-Some-clause-command

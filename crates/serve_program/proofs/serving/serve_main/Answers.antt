@@ -2,8 +2,8 @@
 use Rattle.cell_walks.proofs.Promising.{promises}
 use Rattle.serve_command.proofs.Completing.{serves_all}
 use Rattle.serve_command.specs.Serve.{serve}
-use Rattle.cell_program.specs.Walks.{no_command}
-use Rattle.cell_program.proofs.serving.serve_main.Goals as goal
+use Rattle.command_words.specs.Calls.{no_command}
+use Rattle.serve_program.proofs.serving.serve_main.Goals as goal
 
 pub returns-clause-promises : goal.returns-clause-promises
 returns-clause-promises g c cell journal so = (

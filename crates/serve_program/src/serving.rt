@@ -7,14 +7,12 @@ ghost use Rattle.peers.specs.Meanings.{peer_gave, peer_took};
 ghost use Rattle.serve_command.specs.LivesThrough.{LivesThrough, WhereTold};
 ghost use Rattle.serve_command.specs.Serve.{serve};
 ghost use Rattle.serve_command.specs.ServesAll.{ServesAll};
-ghost use Rattle.cell_program.specs.Promised.{PromisesAt};
+ghost use Rattle.command_words.specs.Calls.{PromisesAt, no_command};
 ghost use Rattle.command_words.specs.Words.{serve_words};
-ghost use Rattle.cell_program.specs.Walks.{no_command};
 
-use crate::top::Ended;
 use cell_texts::CommandEnd;
 use cell_walks::{leaves_only_now, reads_an_image};
-use command_words::{served_in, usage};
+use command_words::{Ended, served_in, usage};
 use outside_io::{Disk, Files};
 use peers::Peer;
 use serve_command::{print_usage_beside, run_serve};

@@ -1,17 +1,15 @@
 -- The cell is the one that the words name, or the commands are printed.
-use Rattle.std.proofs.Common.{List, ℕ, refl, subst, sym, ◌∙◌, ◌∷◌, []}
+use Rattle.std.proofs.Common.{List, ℕ, subst, sym, ◌∙◌}
 use Rattle.cell_walks.specs.DiskTold.{disk_told}
 use Rattle.cell_walks.specs.Observed.{ShowsFile, files_told, observed_with}
-use Rattle.cell_walks.specs.Outcomes.{printed}
 use Rattle.cell_walks.specs.Promises.{Ends}
-use Rattle.cell_walks.specs.declared.status.Status.TheVariants.{NoCommand}
 use Rattle.cell_texts.proofs.Disks.{untouched}
 use Rattle.peers.specs.Meanings.{peer_gave, peer_took}
 use Rattle.serve_command.specs.LivesThrough.{LivesThrough, WhereTold}
 use Rattle.serve_command.specs.Serve.{serve}
-use Rattle.command_words.specs.Words.{usage_text}
+use Rattle.command_words.proofs.Calls.{ends_at_none}
 use Rattle.command_words.proofs.Written.{one_cell}
-use Rattle.cell_program.proofs.serving.serve_or_say.Goals as goal
+use Rattle.serve_program.proofs.serving.serve_or_say.Goals as goal
 
 pub returns-in-Some-clause-ends : goal.returns-in-Some-clause-ends
 returns-in-Some-clause-ends g c = λ cell journal so.
@@ -33,12 +31,8 @@ returns-in-Some-clause-moments g c = λ cell journal so.
     c.run_serve.ensures.moments
 
 pub returns-in-None-clause-none : goal.returns-in-None-clause-none
-returns-in-None-clause-none g c = λ none. record {
-  outcome = printed NoCommand (usage_text ∷ []);
-  allowed = (
-    refl,
-    untouched g.D.Disk.reads_as g.D.Disk.may_leave g.D.Disk.moment g.D.Disk.left_since g.D.Disk.faults c.args.disk
-        c.leaves_only_now.ensures,
-  );
-  delivered = rw c.usage.ensures at c.print_usage_beside.ensures;
-}
+returns-in-None-clause-none g c = λ none.
+    ends_at_none _ _ c.print_usage_beside.result
+    (untouched g.D.Disk.reads_as g.D.Disk.may_leave g.D.Disk.moment g.D.Disk.left_since g.D.Disk.faults c.args.disk
+    c.leaves_only_now.ensures)
+    (rw c.usage.ensures at c.print_usage_beside.ensures)

@@ -1,5 +1,4 @@
 //! The line on standard error after a refusal.
-use cell_program::usage;
 use hints::{Ended, hint};
 use journal_disk::FileDisk;
 use real_outside::{DirFiles, Failure, OutSink, RegularFiles};
@@ -36,13 +35,14 @@ pub fn failure_of<'a, R: Files + Clock + Eprint, D: Fails, W: Write>(
 /// Tells a person why a command ended with this status, in one line. Where no line can be made nothing is told.
 pub fn tell<'a, R: AllocGlobal + Files + Clock + Eprint>(
     rt: &R,
+    usage: &'a [u8],
     words: &'a [String],
     status: u8,
     line: &'a [u8],
     failure: Option<Failure<'a>>,
 ) {
     let ended = Ended {
-        usage: usage(),
+        usage,
         words,
         status,
         line,
