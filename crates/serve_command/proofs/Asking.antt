@@ -1,23 +1,25 @@
 -- What a line asks, by its words.
-use Rattle.std.specs.Prelude.{Result, codes, if◌then◌else◌}
+use Rattle.std.specs.Prelude.{Result, Ok, Err, codes, if◌then◌else◌}
 use Rattle.std.specs.Option.{option_map_or, option_or}
 use Rattle.std.specs.Result.{result_ok}
 use Rattle.std.proofs.Common.{◌≡◌, ℕ, ◌<◌, inl, inr, Bool, false, true, List, [], ◌∷◌, Option}
-use Rattle.std.proofs.Common.{None, Some, refl, length, take, sym, ap, ◌∙◌, arith}
-use Rattle.std.proofs.lemmas.Bool.{cases_lt, lt-leb}
+use Rattle.std.proofs.Common.{None, Some, refl, length, take, sym, ap, subst, ◌∙◌, arith}
+use Rattle.std.proofs.lemmas.Bool.{cases_lt, false_from_ne_true, lt-leb}
 use Rattle.std.proofs.lemmas.List.{length-take, take_all}
+use Rattle.std.proofs.lemmas.Slice.Eq.{bytes_eq-Decides}
 use Rattle.cell_base.specs.declared.cells.Cell.{Cell}
 use Rattle.cell_base.specs.declared.requests.Request.{Request}
 use Rattle.record_text.specs.Reading.{placing_of}
 use Rattle.step_text.specs.declared.faults.StepFault.{StepFault}
-use Rattle.step_text.specs.Steps.{step_of, step_of_words}
+use Rattle.step_text.specs.declared.faults.StepFault.TheVariants.{BadStep}
+use Rattle.step_text.specs.Steps.{step_of, step_of_three, step_of_two, step_of_words}
 use Rattle.step_text.specs.Words.{words}
 use Rattle.step_text.proofs.Cuts.{words_some}
 use Rattle.serve_command.specs.Asks.{ask_of, ask_of_session, ask_of_several, ask_of_words, job_asked, request_of, step_asked}
 use Rattle.serve_command.specs.Asks.{wait_asked}
 use Rattle.std.specs.Str.{bytes_eq}
 use Rattle.serve_command.specs.declared.asks.Ask.{Ask}
-use Rattle.serve_command.specs.declared.asks.Ask.TheVariants.{Cancel, Count, Last, Nothing}
+use Rattle.serve_command.specs.declared.asks.Ask.TheVariants.{Cancel, Count, Last, Nothing, Step}
 
 too_long : (cell : Cell) (text : List ℕ) → 66 < length text → ask_of cell text ≡ Nothing
 unfolding ask_of
@@ -91,3 +93,28 @@ pub step_first : (cell : Cell) (text : List ℕ) (read : Result Request StepFaul
     → option_or (result_ok read) (placing_of cell (words text)) ≡ request_of cell (words text)
 step_first cell text read is =
     ap (λ (r : Result Request StepFault). option_or (result_ok r) (placing_of cell (words text))) (is ∙ step_is cell text)
+
+-- no step begins with the word that waits
+no_step : (cell : Cell) (next : List ℕ) (rest : List (List ℕ)) (request : Request)
+    → step_of_words cell (codes "wait" ∷ next ∷ rest) ≡ Ok request → ⊥
+unfolding step_of_two step_of_three
+no_step cell next [] request is = let wrong : Err BadStep ≡ Ok request = is in absurd cc
+no_step cell next (last ∷ []) request is = let wrong : Err BadStep ≡ Ok request = is in absurd cc
+no_step cell next (last ∷ more ∷ others) request is = let wrong : Err BadStep ≡ Ok request = is in absurd cc
+
+-- a session that sends the words of a step asks for it
+words_of_session : (cell : Cell) (session : ℕ) (ws : List (List ℕ)) (request : Request) → step_of_words cell ws ≡ Ok request
+    → Step session request ≡ ask_of_session cell session ws
+words_of_session cell session [] request is = let wrong : Err BadStep ≡ Ok request = is in absurd cc
+words_of_session cell session (first ∷ []) request is = let wrong : Err BadStep ≡ Ok request = is in absurd cc
+words_of_session cell session (first ∷ next ∷ rest) request is =
+    let all : List (List ℕ) = first ∷ next ∷ rest in
+    let goes : bytes_eq first (codes "wait") ≡ false = false_from_ne_true _ (λ same. no_step cell next rest request
+    (subst (λ (word : List ℕ). step_of_words cell (word ∷ next ∷ rest) ≡ Ok request) ((bytes_eq-Decides first (codes "wait")).0 same) is)) in
+    sym (ap (λ (waits : Bool). if waits then wait_asked cell session (next ∷ rest) else step_asked cell session all) goes
+    ∙ ap (λ (read : Result Request StepFault). option_map_or (Step session) (option_or (result_ok read) (placing_of cell all)) Nothing) is)
+
+-- the same of its text
+pub step_of_session : (cell : Cell) (session : ℕ) (text : List ℕ) (request : Request) → step_of cell text ≡ Ok request
+    → Step session request ≡ ask_of_session cell session (words text)
+step_of_session cell session text request is = words_of_session cell session (words text) request (sym (step_is cell text) ∙ is)

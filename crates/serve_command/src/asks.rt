@@ -176,7 +176,19 @@ fn job_of_word(word: &[u8]) -> Ask
     }
 }
 
+// Most lines ask for a step, so the text is read as one before its words are cut.
 fn ask_of_session(cell: &IndexedCell<'_>, session: u16, text: &[u8]) -> Ask
+    ensures ask { result ≡ ask_of_session cell.now session (words text.now) }
+    ensures fits { AskFits cell.now result }
+{
+    match cell.read(text) {
+        Ok(request) => Ask::Step { session, request },
+        Err(_) => other_of_session(cell, session, text),
+    }
+}
+
+// The same, whatever the text is.
+fn other_of_session(cell: &IndexedCell<'_>, session: u16, text: &[u8]) -> Ask
     ensures ask { result ≡ ask_of_session cell.now session (words text.now) }
     ensures fits { AskFits cell.now result }
 {
