@@ -1,6 +1,4 @@
 //! The lines that answer questions. They change nothing.
-//!
-//! None of them is made inline: a step would clear the bytes of each before it came to its own line (1 December 2026).
 ghost use Rattle.std.specs.Prelude.{◌≡◌, ◌≤◌, ◌+◌, ◌∷◌, ◌++◌, [], codes, length, IfSome, None, Some};
 ghost use Rattle.std.specs.Fmt.{decimal};
 ghost use Rattle.cell_base.specs.declared.cells.Cell.{Cell};
@@ -14,7 +12,6 @@ use cell_base::{Cell, JobId, Part, Request};
 use record_text::{Line, add_request, add_resource, add_type, done_word};
 
 /// How many grants a session has.
-#[inline(never)]
 pub fn count_line(session: u16, count: u32) -> Line
     ensures { result ≡ line_of (decimal session ∷ codes "grants" ∷ decimal count ∷ []) }
 {
@@ -26,7 +23,6 @@ pub fn count_line(session: u16, count: u32) -> Line
 }
 
 /// How many grants a session has, and the request of the last of them.
-#[inline(never)]
 pub fn last_line(cell: &Cell, session: u16, count: u32, last: Option<Request>) -> Line
     requires { IfSome last (RequestFits cell.now) }
     ensures { result ≡ line_of (last_words cell.now session count last) }
@@ -40,7 +36,6 @@ pub fn last_line(cell: &Cell, session: u16, count: u32, last: Option<Request>) -
 }
 
 /// The next step of the plan that empties a cell.
-#[inline(never)]
 pub fn next_line(core: &Core) -> Line
     ensures { result ≡ line_of (codes "next" ∷ step_or_none core.now.cell (plan_step core.now.cell core.now.parts)) }
 {
@@ -64,7 +59,6 @@ pub fn add_step(line: &mut Line, cell: &Cell, step: Option<Request>)
 }
 
 /// Where the part of a job stands.
-#[inline(never)]
 pub fn job_line(core: &Core, job: JobId) -> Line
     ensures { result ≡ line_of (job_words core.now.cell job (part_of core.now.parts job)) }
 {
@@ -121,7 +115,6 @@ pub fn jobs_line(cell: &Cell, request: &Request, count: u32) -> Line
 }
 
 /// For how many grants more the journal has room.
-#[inline(never)]
 pub fn room_line(grants: u64) -> Line
     ensures { result ≡ line_of (codes "room" ∷ decimal grants ∷ []) }
 {
@@ -131,7 +124,6 @@ pub fn room_line(grants: u64) -> Line
 }
 
 /// The line of this number asks nothing.
-#[inline(never)]
 pub fn refused_line(number: u64) -> Line
     ensures { result ≡ line_of (codes "line" ∷ codes "refused" ∷ decimal number ∷ []) }
 {

@@ -1,6 +1,6 @@
 //! A live cell that answers asks, in groups.
 ghost use Rattle.std.specs.Prelude.{◌≡◌, ◌<◌, ◌+◌, ◌++◌, ◌∷◌, [], length, codes, IfSome, OnOk, OnErr};
-ghost use Rattle.record_text.specs.Lines.{left_words, line_of, told_words};
+ghost use Rattle.record_text.specs.Lines.{line_of, told_words};
 ghost use Rattle.step_text.specs.Steps.{request_words};
 ghost use Rattle.serve_command.specs.Clauses.{Answered, AskFits, IsAskAnswered, IsJournalFull, IsOpen, IsStep, KeepsWaiters, MAX_REPLIES};
 ghost use Rattle.serve_command.specs.Clauses.{RequestFits, StandsAt, TakesOneLine, Talk, count_of, last_of, last_words, line_number, reply_to};
@@ -50,6 +50,26 @@ impl<D: Disk> Server<D> {
         ensures same { OnErr result (self.new ≡ self.old) }
     {
         match ask {
+            Ask::Step { session, request } => self.answer_request(*session, request, false),
+            Ask::Wait { session, request } => self.answer_request(*session, request, true),
+            _ => self.answer_any(ask),
+        }
+    }
+
+    // The same of any ask. It is no part of what answers a step, which would clear the bytes of each line that is made here first, 88
+    // instructions (1 December 2026).
+    #[inline(never)]
+    fn answer_any(&mut self, ask: &Ask) -> Result<(), JournalFull>
+        requires fits { AskFits self.old.live.cell ask.now }
+        requires ready { IsOpen self.old }
+        ensures answered { (talk : Talk) → StandsAt talk self.old
+            → OnOk result (IsAskAnswered self.old.live.cell talk self.old ask.now self.new) }
+        ensures goes_on { OnOk result (TakesOneLine self.old self.new) }
+        ensures waiters { OnOk result (KeepsWaiters self.new) }
+        ensures full { (talk : Talk) → StandsAt talk self.old → OnErr result (IsJournalFull self.old.live.cell talk ask.now) }
+        ensures same { OnErr result (self.new ≡ self.old) }
+    {
+        match ask {
             Ask::Step { session, request } => return self.answer_request(*session, request, false),
             Ask::Wait { session, request } => return self.answer_request(*session, request, true),
             Ask::Cancel { session } => self.cancel(*session),
@@ -78,7 +98,7 @@ impl<D: Disk> Server<D> {
                 self.keep(line);
             }
             Ask::Left => {
-                let line = self.left();
+                let line = left_line(self.live.core().parts_left());
                 self.keep(line);
             }
             Ask::Parts => self.list_parts(),
@@ -91,16 +111,7 @@ impl<D: Disk> Server<D> {
         Ok(())
     }
 
-    // The line of how many parts are left.
-    #[inline(never)]
-    fn left(&self) -> Line
-        ensures { result ≡ line_of (left_words (length self.now.live.parts)) }
-    {
-        left_line(self.live.core().parts_left())
-    }
-
     // The line of what a step would be told. Nothing changes.
-    #[inline(never)]
     fn look(&self, request: &Request) -> Line
         requires { IsStep self.now.live.cell request.now }
         ensures { let reply = reply_to self.now.live.cell self.now.live.parts request.now in

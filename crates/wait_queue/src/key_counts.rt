@@ -3,8 +3,7 @@
 //! A grant touches the waiters of its own job, and a request asks whether its own session waits: mostly there is none. A table tells so
 //! without a look at any of them. The place of a key is the key modulo the number of places, and has the number of waiters whose keys
 //! share it. There is a place for each number of a session, so that no two sessions share one, and of up to 4,096 waiters with jobs at
-//! random one in sixteen at most does. The number of places is a power of two, since a division by another one takes as long as a hundred
-//! instructions (1 December 2026).
+//! random one in sixteen at most does. The number of places is a power of two, so that a key of any size is found without a division.
 ghost use Rattle.std.specs.Prelude.{◌≡◌, ◌<◌, ◌%◌, ◌==◌, ℕ, [], ◌∷◌, ◌++◌, not, length, get_or, slice_index, IfOk, Option as Maybe};
 ghost use Rattle.std.specs.Prelude.{List as Sequence};
 ghost use Rattle.std.specs.List.{remove};

@@ -1,5 +1,5 @@
 -- A question changes nothing of who waits.
-use Rattle.serve_command.proofs.server.Server.answer.Goals as goal
+use Rattle.serve_command.proofs.server.Server.answer_any.Goals as goal
 
 pub returns-in-Count-clause-waiters : goal.returns-in-Count-clause-waiters
 returns-in-Count-clause-waiters g c = c.keep.ensures.waiters c.requires.ready.waiters
