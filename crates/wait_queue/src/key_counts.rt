@@ -82,9 +82,16 @@ impl KeyCounts {
         ensures place { result ≡ key % length self.now }
         ensures within { result < length self.now }
     {
-        let _ = &self.counts;
+        places_law(self);
         key as usize % PLACES
     }
+}
+
+// There are so many places.
+fn places_law(counts: &KeyCounts)
+    ensures { length counts.now ≡ 65536 }
+{
+    let _counts = &counts.counts;
 }
 
 // So many zeros.
