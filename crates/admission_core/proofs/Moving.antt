@@ -120,3 +120,10 @@ none_found test xs e = at (list_any test xs) refl
         let some = find_some test xs found.0 found.1 found.2 in
         absurd (none-some some.0 (sym e ∙ some.1))
     at false any = refl
+
+pub not_any : {X : Type 0} (test : X → Bool) (xs : List X) → list_any test xs ≡ false → find test xs ≡ None
+not_any test xs e = at (find test xs) refl
+  where
+    at : (o : Option _) → find test xs ≡ o → o ≡ None
+    at None is = refl
+    at (Some x) is = absurd (cc (any_found test xs x is, e))

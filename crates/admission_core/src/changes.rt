@@ -1,6 +1,7 @@
 //! The changes of granted requests. A part that comes, goes on or leaves changes four things in step: the table of parts, the counts of the
 //! neighborhoods by the masks of its stages, the steps that all parts need together, and the marks of the resources that are occupied.
 ghost use Rattle.std.specs.Prelude.{◌≡◌, ◌<◌, ◌++◌, ◌∷◌, [], length, Some, None};
+ghost use Rattle.std.specs.List.{list_any};
 ghost use Rattle.cell_base.specs.Policy.{first_over};
 ghost use Rattle.cell_base.specs.Outcomes.{finish_first, is_waiting_on, outcome_of_entry, outcome_of_move, without};
 ghost use Rattle.admission_core.specs.Clauses.{CellFits, Granted, IsStage, Process, RequestFits, part_of, reply_to, stage_of, state_after};
@@ -27,7 +28,9 @@ pub fn apply(table: &StageMasks, tally: &mut Tally, occupied: &mut Occupied, req
 {
     match *request {
         Request::Load { job, kind } => come_in(table, tally, occupied, table.entry(job, kind)),
-        Request::Process { machine } => finish_first_on(table, tally, machine),
+        Request::Process { machine } => {
+            let _ = finish_first_on(table, tally, machine);
+        }
         Request::Move { job, branch } => move_job(table, tally, occupied, job, branch),
         Request::Unload { job } => leave(table, tally, occupied, job),
         Request::Place {
@@ -50,7 +53,8 @@ pub fn apply(table: &StageMasks, tally: &mut Tally, occupied: &mut Occupied, req
 }
 
 /// A part that is granted to enter comes to its resource.
-fn come_in(table: &StageMasks, tally: &mut Tally, occupied: &mut Occupied, part: Part)
+#[inline(always)]
+pub fn come_in(table: &StageMasks, tally: &mut Tally, occupied: &mut Occupied, part: Part)
     requires sound { IsSound table.now tally.old }
     requires marked { IsMarked table.now tally.old.parts.parts occupied.old }
     requires stage { IsStage table.now (stage_of part) }
@@ -65,6 +69,7 @@ fn come_in(table: &StageMasks, tally: &mut Tally, occupied: &mut Occupied, part:
 }
 
 /// A part that is granted to enter.
+#[inline(always)]
 fn enter(table: &StageMasks, tally: &mut Tally, part: Part, there: Row)
     requires sound { IsSound table.now tally.old }
     requires stage { IsStage table.now (stage_of part) }
@@ -78,15 +83,19 @@ fn enter(table: &StageMasks, tally: &mut Tally, part: Part, there: Row)
     tally.work += there.work(part.done);
 }
 
-/// The work on the first part that waits on the machine.
-pub fn finish_first_on(table: &StageMasks, tally: &mut Tally, machine: ResId)
+/// The work on the first part that waits on the machine. Tells whether there is one.
+pub fn finish_first_on(table: &StageMasks, tally: &mut Tally, machine: ResId) -> bool
     requires sound { IsSound table.now tally.old }
     requires machine { RequestFits table.now (Process machine) }
+    ensures waits { result ≡ list_any (is_waiting_on table.now machine.0) tally.old.parts.parts }
     ensures parts { tally.new.parts.parts ≡ finish_first (is_waiting_on table.now machine.0) tally.old.parts.parts }
     ensures tallied { IsTallied table.now tally.new }
 {
     if let Some(_) = tally.parts.finish_first(machine) {
         tally.work -= 1;
+        true
+    } else {
+        false
     }
 }
 
@@ -153,6 +162,7 @@ fn move_between(
 }
 
 /// A resource that a part has left is marked no longer where no other part stands there.
+#[inline(always)]
 fn unmark_free(table: &StageMasks, tally: &Tally, occupied: &mut Occupied, from: ResId)
     requires fits { CellFits table.now }
     requires from { from.0 < length table.now.resources }
@@ -204,6 +214,7 @@ fn leave(table: &StageMasks, tally: &mut Tally, occupied: &mut Occupied, job: Jo
 }
 
 /// The part that was found leaves the cell.
+#[inline(always)]
 pub fn send_out(table: &StageMasks, tally: &mut Tally, occupied: &mut Occupied, found: Found)
     requires sound { IsSound table.now tally.old }
     requires marked { IsMarked table.now tally.old.parts.parts occupied.old }
@@ -218,6 +229,7 @@ pub fn send_out(table: &StageMasks, tally: &mut Tally, occupied: &mut Occupied, 
 }
 
 /// A part leaves the cell.
+#[inline(always)]
 fn take_out(table: &StageMasks, tally: &mut Tally, found: Found, here: Row)
     requires sound { IsSound table.now tally.old }
     requires here { IsRowOf table.now (stage_of found.part) here }

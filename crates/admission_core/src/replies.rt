@@ -49,12 +49,12 @@ pub fn reply_to(table: &StageMasks, tally: &Tally, request: &Request) -> Reply
 
 /// The reply to a part that comes new into the cell.
 #[inline(always)]
-fn reply_to_entry(table: &StageMasks, tally: &Tally, part: Part) -> Reply
+pub fn reply_to_entry(table: &StageMasks, tally: &Tally, part: Part) -> Reply
     requires sound { IsSound table.now tally.now }
     requires stage { IsStage table.now (stage_of part) }
     ensures { result ≡ (outcome_of_entry table.now tally.now.parts.parts part).0 }
 {
-    match tally.parts.get(part.job) {
+    match tally.parts.find(part.job) {
         Some(_) => Reply::Refused(Refusal::JobLoaded),
         None => reply_at(table, tally, table.mask(part)),
     }

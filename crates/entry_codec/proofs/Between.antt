@@ -33,7 +33,7 @@ two a b p q zero = p
 two a b p q (suc zero) = q
 two a b p q (suc (suc i)) = omega arith
 
-four : (a b c d : ℕ) → a < 256 → b < 256 → c < 256 → d < 256 → (i : ℕ) → get_or (a ∷ b ∷ c ∷ d ∷ []) i 0 < 256
+pub four : (a b c d : ℕ) → a < 256 → b < 256 → c < 256 → d < 256 → (i : ℕ) → get_or (a ∷ b ∷ c ∷ d ∷ []) i 0 < 256
 four a b c d p q r s zero = p
 four a b c d p q r s (suc i) = three i
   where

@@ -1,4 +1,5 @@
 -- What the contracts cite.
 pub mod Decoding
+mod Numbers
 pub mod RecordLaws
 pub mod Records

@@ -12,11 +12,12 @@
 //! | 14 to 15 | for place the place |
 //!
 //! No other bytes are a record. A journal writes each record after a gate, which is one byte.
-ghost use Rattle.std.specs.Prelude.{◌≡◌, ◌++◌, Some};
+ghost use Rattle.std.specs.Prelude.{◌≡◌, ℕ, ◌++◌, Some};
 ghost use Rattle.std.specs.Int.{to_be_bytes, w16, w32};
 ghost use Rattle.cell_base.specs.declared.shifts.Grant.{Grant};
-ghost use Rattle.entry_codec.specs.Records.{fields, record_of, HasRecord, IsInRange};
+ghost use Rattle.entry_codec.specs.Records.{record_by, record_of, HasRecord, IsInRange, RequestIsInRange};
 ghost use Rattle.entry_codec.specs.Decoding.{grant_of};
+ghost use Rattle.entry_codec.specs.Numbers.{record_with};
 
 use cell_base::{Grant, Request};
 
@@ -36,45 +37,64 @@ fn record_for(grant: Grant) -> [u8; 16]
     ensures record { result ≡ record_of grant }
     ensures in_range { IsInRange grant }
 {
-    match grant.request {
-        Request::Load { job, kind } => record(1, 0, &grant, job.0, number(kind.0)),
-        Request::Process { machine } => record(2, 0, &grant, 0, number(machine.0)),
-        Request::Move { job, branch } => record(3, 0, &grant, job.0, number(branch)),
-        Request::Unload { job } => record(4, 0, &grant, job.0, number(0)),
+    record(&numbers_of(grant.request), &grant)
+}
+
+// What a record has beside its session and its shift. The bytes are made of it in one place, so that each number is stored whole.
+#[derive(Clone, Copy)]
+struct Numbers {
+    kind: u8,
+    flag: u8,
+    job: u32,
+    argument: u32,
+}
+
+fn numbers_of(request: Request) -> Numbers
+    ensures numbers { (session shift : ℕ) → record_with result session shift ≡ record_by session shift request }
+    ensures in_range { RequestIsInRange request }
+{
+    let (kind, flag, job, argument) = match request {
+        Request::Load { job, kind } => (1, 0, job.0, u32::from(kind.0)),
+        Request::Process { machine } => (2, 0, 0, u32::from(machine.0)),
+        Request::Move { job, branch } => (3, 0, job.0, u32::from(branch)),
+        Request::Unload { job } => (4, 0, job.0, 0),
         Request::Place {
             job,
             kind,
             place,
             done,
-        } => record(5, u8::from(done), &grant, job.0, pair(kind.0, place)),
+        } => (5, u8::from(done), job.0, pair(kind.0, place)),
+    };
+    Numbers {
+        kind,
+        flag,
+        job,
+        argument,
     }
 }
 
-fn record(kind: u8, flag: u8, grant: &Grant, job: u32, argument: [u8; 4]) -> [u8; 16]
-    ensures { result ≡ fields kind flag grant.now.session grant.now.shift job argument }
+fn record(numbers: &Numbers, grant: &Grant) -> [u8; 16]
+    ensures { result ≡ record_with numbers.now grant.now.session grant.now.shift }
 {
-    let [session_0, session_1] = grant.session.to_be_bytes();
-    let [shift_0, shift_1, shift_2, shift_3] = grant.shift.to_be_bytes();
-    let [job_0, job_1, job_2, job_3] = job.to_be_bytes();
-    let [argument_0, argument_1, argument_2, argument_3] = argument;
-    [
-        kind, flag, session_0, session_1, shift_0, shift_1, shift_2, shift_3, job_0, job_1, job_2,
-        job_3, argument_0, argument_1, argument_2, argument_3,
-    ]
-}
-
-// The argument that is one number.
-fn number(n: u16) -> [u8; 4]
-    ensures { result ≡ to_be_bytes w32 n }
-{
-    u32::from(n).to_be_bytes()
+    let Numbers {
+        kind,
+        flag,
+        job,
+        argument,
+    } = *numbers;
+    let mut record = [0; 16];
+    record[0] = kind;
+    record[1] = flag;
+    record[2..4].copy_from_slice(&grant.session.to_be_bytes());
+    record[4..8].copy_from_slice(&grant.shift.to_be_bytes());
+    record[8..12].copy_from_slice(&job.to_be_bytes());
+    record[12..].copy_from_slice(&argument.to_be_bytes());
+    record
 }
 
 // The argument that is two numbers.
-fn pair(high: u16, low: u16) -> [u8; 4]
-    ensures { result ≡ to_be_bytes w16 high ++ to_be_bytes w16 low }
+fn pair(high: u16, low: u16) -> u32
+    ensures { to_be_bytes w32 result ≡ to_be_bytes w16 high ++ to_be_bytes w16 low }
 {
-    let [high_0, high_1] = high.to_be_bytes();
-    let [low_0, low_1] = low.to_be_bytes();
-    [high_0, high_1, low_0, low_1]
+    u32::from(high) * 65_536 + u32::from(low)
 }

@@ -29,8 +29,8 @@ pub struct InputLines {
     piece: Vec<u8>,
     at: usize,
     end: usize,
-    begun: ArrayVec<u8, LINE_KEPT>,
     whole: Option<(usize, usize)>,
+    begun: ArrayVec<u8, LINE_KEPT>,
     line: ArrayVec<u8, LINE_KEPT>,
     ghost within: { (at ≤ end) × (end ≤ length piece.items) × (0 < length piece.items) },
     ghost stands: { ForSome whole (StandsIn piece.items) },
@@ -54,8 +54,8 @@ impl InputLines {
             piece,
             at: 0,
             end: 0,
-            begun: ArrayVec::new(),
             whole: None,
+            begun: ArrayVec::new(),
             line: ArrayVec::new(),
         })
     }
@@ -93,14 +93,19 @@ impl InputLines {
         }
     }
 
-    /// Takes the next whole line. Where there is none, all bytes that were read are in the line that has begun.
+    /// Takes the next whole line. Where there is none, all bytes that were read are in the line that has begun, and no line is at hand.
     pub fn next_line(&mut self) -> bool
         ensures whole { result ≡ true → (text : List ℕ) (given : List (List ℕ)) → AreLinesSoFar text given self.old
             → (line : List ℕ) × (self.new.line ≡ take LINE_KEPT line) × AreLinesSoFar text (given ++ line ∷ []) self.new }
         ensures shorter { result ≡ true → length self.new.ahead < length self.old.ahead }
         ensures none { result ≡ false → (self.new.ahead ≡ [])
             × ((text : List ℕ) (given : List (List ℕ)) → AreLinesSoFar text given self.old → AreLinesSoFar text given self.new) }
+        ensures no_line { result ≡ false → self.new.line ≡ [] }
     {
+        if self.is_spent() {
+            self.put_away();
+            return false;
+        }
         match first_newline(&self.piece[self.at..self.end]) {
             Some(count) if self.begun.is_empty() => {
                 self.lend(count);
@@ -112,6 +117,7 @@ impl InputLines {
             }
             None => {
                 self.keep(self.end - self.at);
+                self.put_away();
                 false
             }
         }
@@ -125,6 +131,14 @@ impl InputLines {
             Some((from, to)) => &self.piece[from..to],
             None => self.line.as_slice(),
         }
+    }
+
+    // No line is at hand any more, and none is copied when the piece is written over.
+    fn put_away(&mut self)
+        ensures { self.new ≡ record self.old { line = [] } }
+    {
+        self.whole = None;
+        self.line.clear();
     }
 
     // Takes the line of so many bytes that stands whole in the piece.

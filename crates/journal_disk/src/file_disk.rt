@@ -8,7 +8,6 @@ use outside_io::{Disk, Failed};
 use real_outside::{Failure, Progress};
 use std::alloc::Global;
 use std::fs::File;
-use std::io;
 use std::rt::{Clock, Files as HostFiles};
 
 /// A file by its path, for one purpose. It tells nothing of what it holds; `faults` counts the calls that failed, and stays at its
@@ -16,12 +15,11 @@ use std::rt::{Clock, Files as HostFiles};
 #[derive(Drop)]
 pub struct FileDisk<'a, R> {
     file: JournalFile<'a, R>,
-    faults: u64,
-    failed: Option<Failure<'a>>,
-    progress: Progress<'a, R>,
     absence: Option<&'a str>,
+    progress: Progress<'a, R>,
     bytes: u64,
     grants: GrantCount,
+    faults: u64,
 }
 
 impl<'a, R: HostFiles<File = File> + Clock + Eprint> FileDisk<'a, R> {
@@ -36,12 +34,11 @@ impl<'a, R: HostFiles<File = File> + Clock + Eprint> FileDisk<'a, R> {
     ) -> FileDisk<'a, R> {
         FileDisk {
             file: JournalFile::new(rt, alloc, name, purpose),
-            faults: 0,
-            failed: None,
-            progress: Progress::new(rt, shows),
             absence: None,
+            progress: Progress::new(rt, shows),
             bytes: 0,
             grants: GrantCount::default(),
+            faults: 0,
         }
     }
 
@@ -58,19 +55,30 @@ impl<'a, R: HostFiles<File = File> + Clock + Eprint> FileDisk<'a, R> {
 
     /// The last call that failed.
     pub fn failure(&self) -> Option<Failure<'a>> {
-        self.failed
+        self.file.failure()
     }
 
-    // What was written is stable.
-    fn count_stable(&mut self)
-        ensures { self.new.faults ≡ self.old.faults }
+    // The answer of a call, and one fault more where it is one. What few calls do is no part of their code: a server makes four for each
+    // group of grants, and after its wait for the group each line of code is read in anew.
+    #[inline(always)]
+    fn counted<T>(&mut self, answer: Result<T, Failed>) -> Result<T, Failed>
+        ensures { HasCause self.old.faults self.new.faults result }
     {
-        if let Some(grants) = self.grants.sync() {
-            self.progress.show_grants(grants);
+        if self.absence.is_some() {
+            self.tell_absence();
+        }
+        match answer {
+            Ok(value) => Ok(value),
+            Err(failed) => {
+                self.faults = self.faults.saturating_add(1);
+                Err(failed)
+            }
         }
     }
 
     // The first call that came to the open file tells where it was not there.
+    #[cold]
+    #[inline(never)]
     fn tell_absence(&mut self)
         ensures { self.new.faults ≡ self.old.faults }
     {
@@ -83,20 +91,14 @@ impl<'a, R: HostFiles<File = File> + Clock + Eprint> FileDisk<'a, R> {
         }
     }
 
-    // The answer of a call, and one fault more where it is one. A call that did not come to the open file failed to open it.
-    fn counted<T>(&mut self, call: &'static str, answer: io::Result<T>) -> Result<T, Failed>
-        ensures { HasCause self.old.faults self.new.faults result }
+    // What was written is stable, which is shown.
+    #[cold]
+    #[inline(never)]
+    fn show_stable(&mut self)
+        ensures { self.new.faults ≡ self.old.faults }
     {
-        self.tell_absence();
-        match answer {
-            Ok(value) => Ok(value),
-            Err(error) => {
-                let call = if self.file.is_found() { call } else { "open" };
-                let name = self.file.name();
-                self.failed = Some(Failure { call, name, error });
-                self.faults = self.faults.saturating_add(1);
-                Err(Failed)
-            }
+        if let Some(grants) = self.grants.sync() {
+            self.progress.show_grants(grants);
         }
     }
 }
@@ -121,27 +123,31 @@ impl<R: HostFiles<File = File> + Clock + Eprint> Disk for FileDisk<'_, R> {
     fn len(&mut self) -> Result<u64, Failed> {
         let length = self.file.len();
         self.bytes = *length.as_ref().unwrap_or(&0);
-        self.counted("look at", length)
+        self.counted(length)
     }
 
     fn read_at(&mut self, at: u64, out: &mut [u8]) -> Result<(), Failed> {
         let read = self.file.read_at(at, out);
         let end = at.saturating_add(out.len() as u64);
         self.progress.show_read(self.file.name(), end, self.bytes);
-        self.counted("read", read)
+        self.counted(read)
     }
 
+    #[inline(always)]
     fn write_at(&mut self, at: u64, bytes: &[u8]) -> Result<(), Failed> {
         let written = self.file.write_at(at, bytes);
-        self.grants.write(at, bytes.len() as u64);
-        self.counted("write", written)
+        if self.progress.is_on() {
+            self.grants.write(at, bytes.len() as u64);
+        }
+        self.counted(written)
     }
 
+    #[inline(always)]
     fn sync(&mut self) -> Result<(), Failed> {
         let synced = self.file.sync();
-        if synced.is_ok() {
-            self.count_stable();
+        if self.progress.is_on() && synced.is_ok() {
+            self.show_stable();
         }
-        self.counted("sync", synced)
+        self.counted(synced)
     }
 }

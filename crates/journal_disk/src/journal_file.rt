@@ -9,6 +9,8 @@
 //! To read it, neither the file nor its folder is changed, and no lock is taken. A file that isn't there is blank. A read-only medium
 //! may know no syncs, and needs none: nobody can write there.
 use crate::look::Look;
+use outside_io::Failed;
+use real_outside::Failure;
 use std::alloc::Global;
 use std::fs::{File, Metadata, OpenOptions, TryLockError};
 use std::io::{self, Error, ErrorKind};
@@ -33,9 +35,10 @@ pub enum Purpose {
     ToAdd,
 }
 
-/// A name, and what stands under it from the first call on.
+/// A name, and what stands under it from the first call on; and the last call that failed.
 #[derive(Drop)]
 pub struct JournalFile<'a, R> {
+    failed: Option<Failure<'a>>,
     rt: &'a R,
     alloc: Global,
     name: &'a str,
@@ -58,6 +61,7 @@ impl<'a, R: Files<File = File> + Clock> JournalFile<'a, R> {
     /// The file of this name, not yet opened.
     pub fn new(rt: &'a R, alloc: Global, name: &'a str, purpose: Purpose) -> JournalFile<'a, R> {
         JournalFile {
+            failed: None,
             rt,
             alloc,
             name,
@@ -85,61 +89,113 @@ impl<'a, R: Files<File = File> + Clock> JournalFile<'a, R> {
         }
     }
 
+    /// The last call that failed.
+    pub fn failure(&self) -> Option<Failure<'a>> {
+        self.failed
+    }
+
     /// The number of bytes.
-    pub fn len(&mut self) -> io::Result<u64> {
-        match self.found()? {
+    pub fn len(&mut self) -> Result<u64, Failed> {
+        let length = match self.found()? {
             Found::Nothing => Ok(0),
             Found::Looked(look) => look.len(),
-            Found::Locked { file, .. } => Ok(file.metadata()?.len()),
-        }
+            Found::Locked { file, .. } => file.metadata().map(|found| found.len()),
+        };
+        self.noted("look at", length)
     }
 
     /// Fills `out` with the bytes from `at` on. An end that is met before `out` is full is an error.
-    pub fn read_at(&mut self, at: u64, out: &mut [u8]) -> io::Result<()> {
-        match self.found()? {
+    pub fn read_at(&mut self, at: u64, out: &mut [u8]) -> Result<(), Failed> {
+        let read = match self.found()? {
             Found::Nothing if out.is_empty() => Ok(()),
             Found::Nothing => Err(Error::from(ErrorKind::UnexpectedEof)),
             Found::Looked(look) => look.read_at(at, out),
             Found::Locked { file, .. } => file.read_exact_at(out, at),
-        }
+        };
+        self.noted("read", read)
     }
 
     /// Writes all the bytes from `at` on. A write that takes nothing of what is left is an error, and so is any to a file that was
     /// opened to be read.
-    pub fn write_at(&mut self, at: u64, bytes: &[u8]) -> io::Result<()> {
+    #[inline(always)]
+    pub fn write_at(&mut self, at: u64, bytes: &[u8]) -> Result<(), Failed> {
         match self.found()? {
-            Found::Nothing | Found::Looked(_) => Err(Error::from(ErrorKind::PermissionDenied)),
-            Found::Locked { file, .. } => file.write_all_at(bytes, at),
+            Found::Nothing | Found::Looked(_) => {
+                self.noted("write", Err(Error::from(ErrorKind::PermissionDenied)))
+            }
+            Found::Locked { file, .. } => {
+                let written = file.write_all_at(bytes, at);
+                self.noted("write", written)
+            }
         }
     }
 
     /// Makes the bytes and the length stable; times of access need not be.
-    pub fn sync(&mut self) -> io::Result<()> {
+    #[inline(always)]
+    pub fn sync(&mut self) -> Result<(), Failed> {
         let (rt, name) = (self.rt, self.name);
         match self.found()? {
             Found::Nothing => Ok(()),
-            Found::Looked(look) => match look.sync(rt, name) {
-                Err(error) if error.kind() == ErrorKind::InvalidInput => {
-                    error_unless_read_only(rt, name, error)
-                }
-                synced => synced,
-            },
-            Found::Locked { file, .. } => file.sync_data(),
+            Found::Looked(look) => {
+                let synced = sync_look(rt, name, look);
+                self.noted("sync", synced)
+            }
+            Found::Locked { file, .. } => {
+                let synced = file.sync_data();
+                self.noted("sync", synced)
+            }
         }
     }
 
     // What stands under the name, opened where it isn't yet.
-    fn found(&mut self) -> io::Result<&mut Found> {
+    #[inline(always)]
+    fn found(&mut self) -> Result<&mut Found, Failed> {
         match self.found {
             Some(ref mut found) => Ok(found),
-            None => {
-                let found = match self.purpose {
-                    Purpose::ToRead => open_to_read(self.rt, self.name)?,
-                    Purpose::ToAdd => open_to_add(self.rt, self.alloc, self.name)?,
-                };
-                Ok(self.found.insert(found))
-            }
+            None => self.open(),
         }
+    }
+
+    // Opens what stands under the name.
+    #[cold]
+    #[inline(never)]
+    fn open(&mut self) -> Result<&mut Found, Failed> {
+        let opened = match self.purpose {
+            Purpose::ToRead => open_to_read(self.rt, self.name),
+            Purpose::ToAdd => open_to_add(self.rt, self.alloc, self.name),
+        };
+        let found = self.noted("open", opened)?;
+        Ok(self.found.insert(found))
+    }
+
+    // The answer of a call, which is noted where it failed.
+    #[inline(always)]
+    fn noted<T>(&mut self, call: &'static str, answer: io::Result<T>) -> Result<T, Failed> {
+        match answer {
+            Ok(value) => Ok(value),
+            Err(error) => Err(self.note(call, error)),
+        }
+    }
+
+    // Notes a call that failed.
+    #[cold]
+    #[inline(never)]
+    fn note(&mut self, call: &'static str, error: Error) -> Failed {
+        let name = self.name;
+        self.failed = Some(Failure { call, name, error });
+        Failed
+    }
+}
+
+// Makes what a look has read stable.
+#[cold]
+#[inline(never)]
+fn sync_look<R: Files<File = File>>(rt: &R, name: &str, look: &Look) -> io::Result<()> {
+    match look.sync(rt, name) {
+        Err(error) if error.kind() == ErrorKind::InvalidInput => {
+            error_unless_read_only(rt, name, error)
+        }
+        synced => synced,
     }
 }
 

@@ -133,7 +133,7 @@ impl<D: Disk> LiveCell<D> {
         ensures granted { OnErr result (reply_to self.old.cell self.old.parts request.now ≡ Granted) }
         ensures same { OnErr result (self.new ≡ self.old) }
     {
-        if self.journal.len() + self.group.grants().len() as u64 >= self.room {
+        if self.journal.len() + self.group.len() >= self.room {
             return match self.core.decide(request) {
                 Reply::Granted => Err(JournalFull),
                 Reply::Refused(why) => Ok(Reply::Refused(why)),
@@ -174,7 +174,7 @@ impl<D: Disk> LiveCell<D> {
             → IfSome (D.reads_as self.old.disk) (λ _.
             LeavesOnly D.moment D.left_since self.old.disk self.new.disk (IsBeforeOrAfterAll text grants self.old.pending)) }
     {
-        if self.group.grants().is_empty() {
+        if self.group.is_empty() {
             return Ok(());
         }
         match self.journal.append_all(&self.group) {
@@ -190,14 +190,14 @@ impl<D: Disk> LiveCell<D> {
     pub fn spare(&self) -> u64
         ensures { result ≡ self.now.spare }
     {
-        self.most - self.group.grants().len() as u64
+        self.most - self.group.len()
     }
 
     /// How many grants more the journal may have, beside those that are pending.
     pub fn room_left(&self) -> u64
         ensures { result + self.now.len + length self.now.pending ≡ self.now.room }
     {
-        self.room - self.journal.len() - self.group.grants().len() as u64
+        self.room - self.journal.len() - self.group.len()
     }
 
     /// The number of grants on the disk.

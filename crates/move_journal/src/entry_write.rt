@@ -85,6 +85,15 @@ pub(crate) fn with_gates(bytes: &[u8; 16]) -> [u8; 18]
     piece
 }
 
+/// The record after an open gate.
+pub(crate) fn with_gate(bytes: &[u8; 16]) -> [u8; 17]
+    ensures { result ≡ 1 ∷ bytes.now }
+{
+    let mut piece = [1; 17];
+    piece[1..].copy_from_slice(bytes);
+    piece
+}
+
 // Opens the gate before records that are stable.
 fn open_gate<D: Disk>(disk: &mut D, gate: u64) -> Result<(), Failed>
     requires { ForSome (D.reads_as disk.old) (λ file. gate ≤ length file) }

@@ -144,7 +144,7 @@ impl<D: Disk> Journal<D> {
         if self.is_halted {
             return Err(AppendFault::Halted { after: self.len });
         }
-        let count = group.grants().len() as u64;
+        let count = group.len();
         match write_entries(&mut self.disk, self.gate, group.bytes()) {
             Ok(()) => {
                 self.gate += ENTRY_SIZE * count;

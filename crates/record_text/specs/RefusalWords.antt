@@ -1,11 +1,10 @@
 -- The word by which a line says why a request is refused.
-use Rattle.std.specs.Prelude.{codes, ℕ, List, Option}
+use Rattle.std.specs.Prelude.{codes, ℕ, List, [], ◌∷◌, Option}
 use Rattle.std.specs.List.{find}
 use Rattle.std.specs.Str.{bytes_eq}
 use Rattle.cell_base.specs.declared.requests.Refusal.{Refusal}
 use Rattle.cell_base.specs.declared.requests.Refusal.TheVariants.{JobLoaded, NoSuchJob, NotProcessed, AtLast}
 use Rattle.cell_base.specs.declared.requests.Refusal.TheVariants.{NotLast, Idle, Saturated, NoBranch}
-use Rattle.record_text.specs.declared.refusal_words.TheConstants.{PLAIN_REFUSALS}
 
 -- the word of a refusal
 abbrev pub refusal_word : Refusal → List ℕ
@@ -18,6 +17,10 @@ refusal_word Idle = codes "idle"
 refusal_word NoBranch = codes "no-branch"
 refusal_word (Saturated at count capacity) = codes "saturated"
 
--- the refusal of a word after which nothing stands
+-- the refusals after whose word nothing stands
+abbrev pub plain_refusals : List Refusal
+plain_refusals = JobLoaded ∷ NoSuchJob ∷ NotProcessed ∷ AtLast ∷ NotLast ∷ Idle ∷ NoBranch ∷ []
+
+-- the one of a word
 unfoldable pub plain_refusal : List ℕ → Option Refusal
-plain_refusal word = find (λ why. bytes_eq word (refusal_word why)) PLAIN_REFUSALS
+plain_refusal word = find (λ why. bytes_eq word (refusal_word why)) plain_refusals

@@ -33,7 +33,7 @@ use Rattle.serve_command.specs.Talks.{said_none, said_to, scanned, session_grant
 use Rattle.serve_command.specs.Waits.{IsOpen, NotesGrant, Settles}
 use Rattle.serve_command.specs.declared.asks.Ask.TheVariants.{Step}
 use Rattle.serve_command.specs.declared.command.TheConstants.{MAX_SERVED}
-use Rattle.serve_command.specs.declared.server.FirstGrant.{FirstGrant}
+use Rattle.serve_command.specs.FirstGrants.{FirstGrant}
 use Rattle.serve_command.specs.declared.server.Server.{Server}
 use Rattle.serve_command.proofs.Refusing.{refusal_leaves}
 use Rattle.serve_command.proofs.Settled.{granted-adds}

@@ -8,7 +8,7 @@ use Rattle.serve_command.specs.Answers.{answer, answers, halted_line, line_numbe
 use Rattle.serve_command.specs.Serving.{TakesOneLine, IsAskAnswered, IsFirstGrant, IsAnsweredGroup, StandsAt, first_after}
 use Rattle.serve_command.specs.Talks.{Talk, added_by, since, talk_after, talk_after_one}
 use Rattle.serve_command.specs.declared.asks.Ask.{Ask}
-use Rattle.serve_command.specs.declared.server.FirstGrant.{FirstGrant}
+use Rattle.serve_command.specs.FirstGrants.{FirstGrant}
 use Rattle.serve_command.specs.declared.server.Server.{Server}
 
 module _ (cell : Cell) where

@@ -1,5 +1,6 @@
 pub mod Answered
 pub mod Answering
+pub mod AskTexts
 pub mod Asking
 pub mod Boards
 pub mod Closing

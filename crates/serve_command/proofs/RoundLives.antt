@@ -30,7 +30,7 @@ use Rattle.serve_command.specs.Serving.{IsFirstGrant, Stays}
 use Rattle.serve_command.specs.Talks.{Talk, added_by, since, talk_after}
 use Rattle.serve_command.specs.declared.asks.Ask.{Ask}
 use Rattle.serve_command.specs.declared.command.TheConstants.{MAX_SERVED}
-use Rattle.serve_command.specs.declared.server.FirstGrant.{FirstGrant}
+use Rattle.serve_command.specs.FirstGrants.{FirstGrant}
 use Rattle.serve_command.specs.declared.server.Server.{Server}
 use Rattle.serve_command.proofs.Grouping.{answers-append, answers-known, granted-after, talk-append}
 use Rattle.serve_command.proofs.Living.{answers_run, group_runs, halts_run, last_run, put_more, grants_more, sent_part}

@@ -30,7 +30,7 @@ use Rattle.serve_command.specs.Serve.{FailedDevice, FailedSink, FullJournal, Sto
 use Rattle.serve_command.specs.Serving.{HasCounts, IsFirstGrant, IsAnsweredGroup, HasNoGroup, KeepsWaiters, StandsAt, Stays}
 use Rattle.serve_command.specs.Talks.{Talk, since, talk_after}
 use Rattle.serve_command.specs.declared.asks.Ask.{Ask}
-use Rattle.serve_command.specs.declared.server.FirstGrant.{FirstGrant}
+use Rattle.serve_command.specs.FirstGrants.{FirstGrant}
 use Rattle.serve_command.specs.declared.server.Server.{Server}
 use Rattle.serve_command.proofs.Delivering.{same_delivered}
 use Rattle.serve_command.proofs.Grouping.{answers-append, granted-after, since-append}

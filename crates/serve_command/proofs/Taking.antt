@@ -8,7 +8,7 @@ use Rattle.serve_command.specs.Asks.{ask_of}
 use Rattle.serve_command.specs.Serving.{TakesOneLine, IsAskAnswered, IsFirstGrant, IsJournalFull, IsAnsweredGroup, HasNoGroup, StandsAt, Stays}
 use Rattle.serve_command.specs.Talks.{Talk, talk_after}
 use Rattle.serve_command.specs.declared.asks.Ask.{Ask}
-use Rattle.serve_command.specs.declared.server.FirstGrant.{FirstGrant}
+use Rattle.serve_command.specs.FirstGrants.{FirstGrant}
 use Rattle.serve_command.specs.declared.server.Server.{Server}
 use Rattle.serve_command.proofs.Grouping.{group_goes}
 

@@ -1,6 +1,7 @@
 -- What a line asks.
-use Rattle.std.specs.Prelude.{codes, ℕ, Bool, false, if◌then◌else◌, nat_le, List, []}
+use Rattle.std.specs.Prelude.{codes, ◌≡◌, ◌≤◌, ℕ, Bool, false, if◌then◌else◌, nat_le, List, []}
 use Rattle.std.specs.Prelude.{◌∷◌, length, map, Option, Some, None, Result, Ok, Err, ⊤}
+use Rattle.std.specs.Fmt.{decimal}
 use Rattle.std.specs.Option.{option_map_or, option_or}
 use Rattle.std.specs.Result.{result_ok}
 use Rattle.std.specs.Str.{bytes_eq}
@@ -9,9 +10,10 @@ use Rattle.cell_base.specs.declared.requests.Request.{Request}
 use Rattle.cell_base.specs.Fits.{RequestFits}
 use Rattle.input_lines.specs.Lines.{whole_lines}
 use Rattle.step_text.specs.declared.faults.StepFault.{StepFault}
-use Rattle.step_text.specs.Steps.{IsStep, step_of_words}
-use Rattle.step_text.specs.Words.{number_of, words}
+use Rattle.step_text.specs.Steps.{IsStep, request_words, step_of_words}
+use Rattle.step_text.specs.Words.{joined, number_of, words}
 use Rattle.serve_command.specs.declared.asks.Ask.{Ask}
+use Rattle.serve_command.specs.declared.session_request.SessionRequest.{SessionRequest}
 use Rattle.record_text.specs.Reading.{placing_of}
 use Rattle.serve_command.specs.declared.asks.Ask.TheVariants.{Step, Wait, Cancel, Count, Last, Why, Job, Next, Room, Left, Nothing, Parts, Jobs}
 use Rattle.serve_command.specs.declared.asks.TheConstants.{MAX_ASK_BYTES, MAX_JOB, MAX_SESSION}
@@ -132,3 +134,33 @@ AskFits cell (Wait session request) = RequestFits cell request
 AskFits cell (Why request) = IsStep cell request
 AskFits cell (Jobs request) = IsStep cell request
 AskFits cell _ = ⊤
+
+-- the ask is answered by one line, and changes nothing
+abbrev pub IsQuestion : Ask → Type 0
+IsQuestion (Step session request) = ⊥
+IsQuestion (Wait session request) = ⊥
+IsQuestion (Cancel session) = ⊥
+IsQuestion Parts = ⊥
+IsQuestion (Jobs request) = ⊥
+IsQuestion _ = ⊤
+
+-- ---- the text of a request
+
+-- a session and the words of its request, as one text
+abbrev pub asked_text : Cell → ℕ → Request → List ℕ
+asked_text cell session request = joined (decimal session ∷ request_words cell request)
+
+-- The text is that of a session's request, and so short that its answer has room on a line.
+pub record IsTextOf (cell : Cell) (session : ℕ) (request : Request) (text : List ℕ) : Type 0 where
+  pub is : text ≡ asked_text cell session request
+  pub short : length text ≤ 76
+
+-- A line that asks for a step is the text of it.
+abbrev pub SaysAsk : Cell → List ℕ → Ask → Type 0
+SaysAsk cell line (Step session request) = IsTextOf cell session request line
+SaysAsk cell line _ = ⊤
+
+-- The request fits the cell, and this is its text.
+pub record IsAsked (cell : Cell) (asked : SessionRequest) : Type 0 where
+  pub fits : RequestFits cell asked.request
+  pub text : IsTextOf cell asked.session asked.request asked.text.now

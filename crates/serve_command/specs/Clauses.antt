@@ -9,10 +9,10 @@ pub use Rattle.cell_base.specs.Plans.{plan_step}
 pub use Rattle.cell_base.specs.Stages.{IsStage, stage_of}
 pub use Rattle.step_text.specs.Steps.{IsStep}
 pub use Rattle.serve_command.specs.Answers.{asked_words, count_of, end_words, halted_line, item_line, job_words, jobs_words, last_of, last_words, line_number, reason_words}
-pub use Rattle.serve_command.specs.Answers.{part_words, step_or_none, step_words, still_line, still_lines}
-pub use Rattle.serve_command.specs.Asks.{AskFits}
-pub use Rattle.serve_command.specs.Serving.{CountsGrant, TakesOneLine, IsAskAnswered, IsJournalFull, IsSaid, KeepsWaiters, StandsAt}
-pub use Rattle.serve_command.specs.Talks.{Talk, asked_for, entry_of, reply_told, waiting_told}
+pub use Rattle.serve_command.specs.Answers.{part_words, reply_words, step_or_none, step_words, still_line, still_lines}
+pub use Rattle.serve_command.specs.Asks.{AskFits, IsAsked, IsQuestion, IsTextOf, SaysAsk}
+pub use Rattle.serve_command.specs.Serving.{CountsGrant, FindsFull, HasAnswered, IsAskAnswered, IsSaid, KeepsWaiters, StandsAt, TakesOneLine}
+pub use Rattle.serve_command.specs.Talks.{Talk, asked_for, reply_told, waiting_told}
 pub use Rattle.serve_command.specs.Waits.{BeginsWait, EndsWait, FullAt, IsDecided, IsOpen, NotesGrant, Settles}
 pub use Rattle.serve_command.specs.declared.asks.Ask.TheVariants.{Step, Wait, Cancel, Parts, Jobs}
 pub use Rattle.serve_command.specs.declared.command.TheConstants.{MAX_SERVED}

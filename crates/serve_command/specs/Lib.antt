@@ -4,6 +4,7 @@ pub mod BoardLaws
 pub mod Clauses
 pub mod Conversing
 pub mod ExactlyOnce
+pub mod FirstGrants
 pub mod Laws
 pub mod Lives
 pub mod LivesThrough

@@ -14,7 +14,7 @@ use Rattle.serve_command.specs.declared.asks.Ask.{Ask}
 use Rattle.serve_command.specs.declared.asks.Ask.TheVariants.{Step}
 use Rattle.serve_command.specs.declared.command.TheConstants.{MAX_SERVED}
 use Rattle.serve_command.specs.declared.replies.TheConstants.{MAX_REPLIES, MAX_WAITERS}
-use Rattle.serve_command.specs.declared.server.FirstGrant.{FirstGrant}
+use Rattle.serve_command.specs.FirstGrants.{FirstGrant}
 use Rattle.serve_command.specs.declared.server.Server.{Server}
 
 -- each session has so many of these grants, and this is the last of them
@@ -85,6 +85,17 @@ pub record TakesOneLine {D : Type 0} (old new : Server D) : Type 0 where
 -- An ask would be granted after this talk, and the journal has no room for its grant and one of each session that waits.
 abbrev pub IsJournalFull : Cell → Talk → Ask → Type 0
 IsJournalFull cell talk ask = (0 < length (added_by cell talk ask)) × (MAX_SERVED < length talk.granted + length talk.waiters + 1)
+
+-- An ask was answered, whichever talk the server stood after.
+pub record HasAnswered {D : Type 0} (old : Server D) (ask : Ask) (new : Server D) : Type 0 where
+  pub said : (talk : Talk) → StandsAt talk old → IsAskAnswered old.live.cell talk old ask new
+  pub goes_on : TakesOneLine old new
+  pub waiters : KeepsWaiters new
+
+-- An ask found the journal full, whichever talk the server stood after, and changed nothing.
+pub record FindsFull {D : Type 0} (old : Server D) (ask : Ask) (new : Server D) : Type 0 where
+  pub full : (talk : Talk) → StandsAt talk old → IsJournalFull old.live.cell talk ask
+  pub same : new ≡ old
 
 -- ---- a group
 

@@ -2,7 +2,7 @@
 ghost use Rattle.std.specs.Prelude.{◌≡◌, ◌∷◌, [], Ok, Err, IfSome};
 ghost use Rattle.cell_base.specs.declared.cells.Cell.{Cell};
 ghost use Rattle.cell_base.specs.Fits.{RequestFits};
-ghost use Rattle.serve_command.specs.Asks.{AskFits, ask_of, ask_of_one, ask_of_several, ask_of_session, ask_of_words};
+ghost use Rattle.serve_command.specs.Asks.{AskFits, SaysAsk, ask_of, ask_of_one, ask_of_several, ask_of_session, ask_of_words};
 ghost use Rattle.serve_command.specs.Asks.{job_asked, jobs_asked, request_of, step_asked, wait_asked, why_asked};
 ghost use Rattle.step_text.specs.Words.{words};
 
@@ -72,11 +72,12 @@ pub enum Ask {
     Nothing,
 }
 
-/// What a line asks. What it asks for fits the cell.
+/// What a line asks. What it asks for fits the cell, and where that is a step, the line is the text of it.
 #[tactic(auto, unfolding(crate::specs::Asks::ask_of))]
 pub fn read_ask(cell: &IndexedCell<'_>, line: &[u8]) -> Ask
     ensures ask { result ≡ ask_of cell.now line.now }
     ensures fits { AskFits cell.now result }
+    ensures says { SaysAsk cell.now line.now result }
 {
     if line.len() > MAX_ASK_BYTES {
         return Ask::Nothing;

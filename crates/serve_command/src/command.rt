@@ -12,6 +12,7 @@ ghost use Rattle.serve_command.specs.LivesThrough.{LivesOnJournal, LivesThrough,
 
 use crate::beside::finish_beside;
 use crate::counts::SessionCounts;
+use crate::first_grant::FirstOfGroup;
 use crate::replies::{MAX_REPLIES, MAX_WAITERS, Replies};
 use crate::server::Server;
 use crate::serving::serve_live;
@@ -124,7 +125,7 @@ fn serve_journal<R: Wait, D: Disk, T: Peer<D>>(
                 queue,
                 asked: 0,
                 replies,
-                first: None,
+                first: FirstOfGroup::none(),
                 names,
             };
             serve_live(rt, server, lines, peer)

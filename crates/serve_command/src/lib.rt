@@ -21,6 +21,7 @@ mod beside;
 mod command;
 mod counts;
 mod deciding;
+mod first_grant;
 pub mod laws;
 mod lists;
 mod questions;
@@ -29,6 +30,7 @@ mod rounds;
 mod said_lines;
 mod server;
 mod serving;
+mod session_request;
 mod waiting;
 
 pub use asks::{Ask, MAX_ASK_BYTES, MAX_SESSION, read_ask};

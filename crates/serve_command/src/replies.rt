@@ -1,10 +1,10 @@
 //! The answers of a group, which wait until its grants are stable.
 ghost use Rattle.std.specs.Prelude.{◌≡◌, ◌<◌, ◌≤◌, ◌∷◌, ◌++◌, [], length, take, vec_capacity, IfOk};
-ghost use Rattle.record_text.specs.Fitting.{EntryFits};
-ghost use Rattle.record_text.specs.Lines.{entry_words, line_of};
+ghost use Rattle.record_text.specs.Fitting.{ToldFits};
+ghost use Rattle.record_text.specs.Lines.{line_after, told_words};
 
-use cell_base::{Cell, Entry, NoMemory};
-use record_text::{Line, write_entry};
+use cell_base::{Cell, NoMemory, Told};
+use record_text::{Line, write_told};
 use std::alloc::Global;
 use std::marker::Model;
 
@@ -56,14 +56,16 @@ impl Replies {
         self.count += 1;
     }
 
-    /// Appends the line of an entry. It takes no memory.
-    pub fn push_entry(&mut self, cell: &Cell, entry: &Entry)
+    /// Appends the line that begins with this text, and then says what was told. It takes no memory.
+    #[inline(always)]
+    pub fn push_told(&mut self, text: &[u8], cell: &Cell, told: &Told)
         requires short { length self.old < MAX_REPLIES }
-        requires fits { EntryFits cell.now entry.now }
-        ensures { self.new ≡ self.old ++ line_of (entry_words cell.now entry.now) ∷ [] }
+        requires brief { length text.now ≤ 76 }
+        requires known { ToldFits cell.now told.now }
+        ensures { self.new ≡ self.old ++ line_after text.now (told_words cell.now told.now) ∷ [] }
     {
         make_place(&mut self.lines, self.count);
-        write_entry(&mut self.lines[self.count], cell, entry);
+        write_told(&mut self.lines[self.count], text, cell, told);
         self.count += 1;
     }
 

@@ -46,8 +46,9 @@ impl<D: Disk> Server<D> {
                 return false;
             }
             let indexed = IndexedCell::over(self.live.core().cell(), &self.names);
-            let ask = read_ask(&indexed, lines.line());
-            if let Err(_) = self.answer(&ask) {
+            let line = lines.line();
+            let ask = read_ask(&indexed, line);
+            if let Err(_) = self.answer(&ask, line) {
                 return true;
             }
         }
@@ -94,7 +95,7 @@ impl<D: Disk> Server<D> {
             return Err(Status::SinkFault);
         }
         self.replies.clear();
-        self.first = None;
+        self.first.clear();
         if full {
             return Err(put_full(peer, self.live.disk()));
         }
@@ -111,15 +112,15 @@ impl<D: Disk> Server<D> {
         ensures unread { T.given peer.new ≡ T.given peer.old }
         ensures no_read { T.read_faults peer.new ≡ T.read_faults peer.old }
     {
-        let Some(first) = &self.first else {
+        let Some((at, line)) = self.first.get() else {
             return Status::DeviceFault;
         };
         let disk = self.live.disk();
         let replies = self.replies.as_slice();
-        if let Err(_) = print_beside(peer, disk, &replies[..first.at.min(replies.len())]) {
+        if let Err(_) = print_beside(peer, disk, &replies[..at.min(replies.len())]) {
             return Status::SinkFault;
         }
-        match print_beside(peer, disk, slice::from_ref(&first.line)) {
+        match print_beside(peer, disk, slice::from_ref(line)) {
             Ok(()) => Status::DeviceFault,
             Err(_) => Status::SinkFault,
         }

@@ -2,10 +2,10 @@
 ghost use Rattle.std.specs.Prelude.{◌≡◌, ◌≤◌, ◌+◌, ◌∷◌, ◌++◌, [], codes, length, IfSome, None, Some};
 ghost use Rattle.std.specs.Fmt.{decimal};
 ghost use Rattle.record_text.specs.Fitting.{RefusalFits, ToldFits};
-ghost use Rattle.record_text.specs.Lines.{line_of};
+ghost use Rattle.record_text.specs.Lines.{line_after, line_of};
 ghost use Rattle.record_text.specs.Spaced.{spaced};
-ghost use Rattle.step_text.specs.Steps.{request_words};
-ghost use Rattle.serve_command.specs.Clauses.{Answered, RequestFits, asked_words, end_words, reason_words, step_or_none, still_line};
+ghost use Rattle.serve_command.specs.Clauses.{Answered, IsTextOf, RequestFits, asked_words, end_words, reason_words};
+ghost use Rattle.serve_command.specs.Clauses.{step_or_none, still_line};
 
 use crate::questions::add_step;
 use admission_core::Core;
@@ -13,20 +13,13 @@ use cell_base::{Cell, Refusal, Reply, Request};
 use record_text::{Line, add_request, add_why};
 use wait_queue::Waiter;
 
-/// A session and its request, what is said of it in one word, and why.
-pub fn said_line(
-    cell: &Cell,
-    session: u16,
-    request: &Request,
-    word: &[u8],
-    why: Option<Refusal>,
-) -> Line
-    requires fits { RequestFits cell.now request.now }
+/// A line that begins with the text of a session's request, with what is said of it in one word, and why.
+pub fn said_line(mut line: Line, cell: &Cell, word: &[u8], why: Option<Refusal>) -> Line
+    requires text { length line ≤ 76 }
     requires known { IfSome why (RefusalFits cell.now) }
     requires brief { length word.now ≤ 7 }
-    ensures { result ≡ line_of (asked_words cell.now session request.now (word.now ∷ reason_words cell.now why)) }
+    ensures { result ≡ line_after line (word.now ∷ reason_words cell.now why) }
 {
-    let mut line = asked_line(cell, session, request);
     add_said(&mut line, cell, word, why);
     line.end()
 }
@@ -46,23 +39,22 @@ fn add_said(line: &mut Line, cell: &Cell, word: &[u8], why: Option<Refusal>)
     }
 }
 
-/// The same of a request that is not decided: this is why.
-pub fn turned_line(cell: &Cell, session: u16, request: &Request, why: &[u8]) -> Line
-    requires fits { RequestFits cell.now request.now }
+/// The line of a request of this text that is not decided, and why.
+pub fn turned_line(text: &[u8], why: &[u8]) -> Line
+    requires text { length text.now ≤ 76 }
     requires brief { length why.now ≤ 15 }
-    ensures { result ≡ line_of (asked_words cell.now session request.now (codes "refused" ∷ why.now ∷ [])) }
+    ensures { result ≡ line_after text.now (codes "refused" ∷ why.now ∷ []) }
 {
-    let mut line = asked_line(cell, session, request);
+    let mut line = Line::of_word(text);
     line.word(b"refused");
     line.word(why);
     line.end()
 }
 
-// A session and its request, with no end yet.
-fn asked_line(cell: &Cell, session: u16, request: &Request) -> Line
+/// The text of a session's request, with no end yet.
+pub fn asked_line(cell: &Cell, session: u16, request: &Request) -> Line
     requires { RequestFits cell.now request.now }
-    ensures words { result ≡ decimal session ++ spaced (request_words cell.now request.now) }
-    ensures len { length result ≤ 76 }
+    ensures { IsTextOf cell.now session request.now result }
 {
     let mut line = Line::new();
     line.begin_number(session);
@@ -76,17 +68,10 @@ pub fn end_line(cell: &Cell, waiter: &Waiter, reply: &Reply) -> Line
     requires known { ToldFits cell.now (Answered reply.now) }
     ensures { result ≡ line_of (asked_words cell.now waiter.now.session waiter.now.request (end_words cell.now (Answered reply.now))) }
 {
+    let line = asked_line(cell, waiter.session, &waiter.request);
     match reply {
-        Reply::Granted => said_line(cell, waiter.session, &waiter.request, b"served", None),
-        Reply::Refused(why) => {
-            said_line(
-                cell,
-                waiter.session,
-                &waiter.request,
-                b"dropped",
-                Some(*why),
-            )
-        }
+        Reply::Granted => said_line(line, cell, b"served", None),
+        Reply::Refused(why) => said_line(line, cell, b"dropped", Some(*why)),
     }
 }
 
@@ -96,11 +81,10 @@ pub fn still_line(core: &Core, waiter: &Waiter) -> Line
     ensures { result ≡ still_line core.now.cell core.now.parts waiter.now }
 {
     let cell = core.cell();
+    let line = asked_line(cell, waiter.session, &waiter.request);
     match core.decide(&waiter.request) {
-        Reply::Granted => said_line(cell, waiter.session, &waiter.request, b"still", None),
-        Reply::Refused(why) => {
-            said_line(cell, waiter.session, &waiter.request, b"still", Some(why))
-        }
+        Reply::Granted => said_line(line, cell, b"still", None),
+        Reply::Refused(why) => said_line(line, cell, b"still", Some(why)),
     }
 }
 

@@ -82,6 +82,10 @@ impl WaitQueue {
         ensures watching { KeepsWatching request.now self.old self.new }
         ensures room { self.new.room ≡ self.old.room }
     {
+        // Mostly nobody waits, and then the table of jobs, whose places are more than a near cache holds, is not touched.
+        if self.waiting().is_empty() {
+            return;
+        }
         if let Some(job) = job_of(request) {
             if self.jobs.has(job.0) {
                 let any = forget(self.waiters.as_slice(), &mut self.watches, job);
@@ -176,6 +180,9 @@ impl WaitQueue {
     pub fn waiter_of(&self, session: u16) -> Option<Waiter>
         ensures { result ≡ waiter_of self.now.waiters session }
     {
+        if self.waiting().is_empty() {
+            return None;
+        }
         if !self.sessions.has(session as u32) {
             return None;
         }

@@ -15,7 +15,7 @@ use Rattle.part_table.proofs.Standings.{length-finish_first}
 use Rattle.part_table.proofs.Told.{finish_first-none}
 use Rattle.admission_core.specs.CoreState.{AreCounts, IsTallied, IsSound}
 use Rattle.admission_core.specs.declared.tally.Tally.{Tally}
-use Rattle.admission_core.proofs.Moving.{some_job, no_job}
+use Rattle.admission_core.proofs.Moving.{some_job, no_job, any_found, none_found}
 use Rattle.admission_core.proofs.Tallying.{counts_finished, work_finished, work_without}
 use Rattle.admission_core.proofs.changes.finish_first_on.Goals as goal
 
@@ -97,3 +97,18 @@ returns-in_default-clause-tallied c =
     ∙ finish_first-none test before.parts.parts nobody) in
     tallied cell before sound c.args.machine c.finish_first.new.self table before.work
     (sound.tallied.work ∙ ap (work cell) same)
+
+pub returns-in-Some-clause-waits : goal.returns-in-Some-clause-waits
+returns-in-Some-clause-waits c =
+    let test = is_waiting_on c.args.table.now c.args.machine.0 in
+    let parts = c.args.tally.now.parts.parts in
+    let first = some_job (find test parts) c.in-Some.field-0
+    (c.in-Some.ensures.job c.args.table.now c.requires.sound.tallied.same_cell) in
+    sym (any_found test parts first.0 first.1)
+
+pub returns-in_default-clause-waits : goal.returns-in_default-clause-waits
+returns-in_default-clause-waits c =
+    let test = is_waiting_on c.args.table.now c.args.machine.0 in
+    let parts = c.args.tally.now.parts.parts in
+    let found = c.finish_first.ensures.job c.args.table.now c.requires.sound.tallied.same_cell in
+    sym (none_found test parts (no_job (find test parts) (sym c.in_default.is ∙ found)))

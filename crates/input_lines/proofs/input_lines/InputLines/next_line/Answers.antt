@@ -39,9 +39,11 @@ returns-in-None-clause-none c = λ same.
     let same_ahead = ap (λ (s : LinesState). s.ahead) c.keep.view_is in
     let few : length old.ahead ≤ n.end - n.at =
     omega (arith, ap (λ (l : List ℕ). length l) same_ahead, length-take (n.end - n.at) (drop n.at n.piece.items)) in
-    let spent = ap (λ (s : LinesState). s.ahead) c.keep-in-None.ensures ∙ drop_all (n.end - n.at) old.ahead few in (
+    let away = c.put_away-in-None.ensures in
+    let spent = ap (λ (s : LinesState). s.ahead) away ∙ ap (λ (s : LinesState). s.ahead) c.keep-in-None.ensures
+    ∙ drop_all (n.end - n.at) old.ahead few in (
       spent,
-      λ text given reads. reads_none text given old c.keep-in-None.new.self reads none spent
-          (ap (λ (s : LinesState). s.begun) c.keep-in-None.ensures
+      λ text given reads. reads_none text given old c.put_away-in-None.new.self reads none spent
+          (ap (λ (s : LinesState). s.begun) away ∙ ap (λ (s : LinesState). s.begun) c.keep-in-None.ensures
           ∙ ap (λ (l : List ℕ). take 67 (old.begun ++ l)) (take_all (n.end - n.at) old.ahead few)),
     )

@@ -1,44 +1,58 @@
--- The bytes but the last closed gate, and after them the record between its gates.
-use Rattle.std.proofs.Common.{◌-◌, ◌<◌, [], ◌∷◌, length, sym, ◌∙◌, ap, subst, arith, length-append}
-use Rattle.entry_codec.specs.Decoding.{grant_of}
-use Rattle.move_journal.specs.Groups.{GroupState}
-use Rattle.journal_format.specs.Journals.{entries, group_bytes, IsReadAgain}
+-- The entry takes the place of the closed gate, and another closed gate comes after it.
+use Rattle.std.proofs.Common.{◌≡◌, ℕ, ◌-◌, ◌<◌, List, [], ◌∷◌, ◌++◌, length, set, sym, ◌∙◌, ap, subst, arith, length-append}
 use Rattle.std.specs.List.{AllByRecursion}
-use Rattle.journal_format.proofs.Fronts.{each-append, group-push, length-entries}
+use Rattle.cell_base.specs.declared.shifts.Grant.{Grant}
+use Rattle.entry_codec.specs.Decoding.{grant_of}
+use Rattle.journal_format.specs.Journals.{IsReadAgain}
+use Rattle.journal_format.proofs.Fronts.{each-append}
+use Rattle.move_journal.specs.Groups.{GroupState, entries_of, grants_in}
+use Rattle.move_journal.proofs.Entries.{grants_in-entries_of, length-entries_of, pushed}
 use Rattle.move_journal.proofs.group.Group.push.Goals as goal
 
+module _ (c : goal.After-self-1) where
+  abbrev old : List Grant
+  old = grants_in c.self.inside.entries.items
+
+  abbrev more : List Grant
+  more = old ++ c.args.grant.now ∷ []
+
+  read : AllByRecursion IsReadAgain more
+  read = each-append old (c.args.grant.now ∷ []) c.self.invariant.are_read
+      (ap grant_of (sym c.encode.ensures.record) ∙ c.encode.ensures.read_back, tt)
+
+  abbrev now : List (List ℕ)
+  now = set c.push_reserved.new.self.items (c.len-last.result - 1) c.with_gate.result
+
+  entries_now : now ≡ entries_of more
+  entries_now = pushed c.self.inside.entries.items now _ c.with_gate.result old c.args.grant.now c.self.invariant.entries_are
+      (omega (arith, c.len-last.ensures, ap length c.self.invariant.entries_are, length-entries_of old))
+      (c.with_gate.ensures ∙ ap (λ l. 1 ∷ l) c.encode.ensures.record)
+      (ap (λ (l : List (List ℕ)). set l (c.len-last.result - 1) c.with_gate.result) c.push_reserved.ensures.items)
+
+  grants_now : grants_in now ≡ more
+  grants_now = ap grants_in entries_now ∙ grants_in-entries_of more read
+
+  spare : 0 < c.self.inside.most - length old
+  spare = subst (λ (s : GroupState). 0 < s.spare) (sym c.self.view_is) c.requires.room
+
 pub invariant_of-self : goal.invariant_of-self
-invariant_of-self c =
-    let old = c.self.inside in
-    let grant = c.args.grant.now in
-    let items = c.push_reserved.ensures.items in
-    let more = length-append old.grants.items (grant ∷ []) in
-    let spare : 0 < old.most - length old.grants.items = subst (λ (s : GroupState). 0 < s.spare) (sym c.self.view_is) c.requires.room in
-    record {
-      few = omega (arith, ap length items, more, spare);
-      bound = c.self.invariant.bound;
-      bytes_are = group-push old.grants.items grant old.bytes.items c.encode.result c.with_gates-piece.result
-          _ c.self.invariant.bytes_are c.with_gates-piece.ensures c.encode.ensures.record c.put_last.ensures.items
-          ∙ ap group_bytes (sym items);
-      are_read = subst (AllByRecursion IsReadAgain) (sym items) (each-append old.grants.items (grant ∷ []) c.self.invariant.are_read
-          (ap grant_of (sym c.encode.ensures.record) ∙ c.encode.ensures.read_back, tt));
-      room = omega (arith, c.self.invariant.room, c.push_reserved.ensures.capacity);
-      bytes_room = omega (arith, c.self.invariant.bytes_room, c.put_last.ensures.capacity);
-    }
+invariant_of-self c = record {
+  few = omega (arith, ap length (grants_now c), length-append (old c) (c.args.grant.now ∷ []), spare c);
+  bound = c.self.invariant.bound;
+  entries_are = entries_now c ∙ sym (ap entries_of (grants_now c));
+  are_read = subst (AllByRecursion IsReadAgain) (sym (grants_now c)) (read c);
+  room = omega (arith, c.self.invariant.room, c.push_reserved.ensures.capacity);
+}
 
-pub put_last-requires-clause-some : goal.put_last-requires-clause-some
-put_last-requires-clause-some c =
-    omega (arith, ap length c.self.invariant.bytes_are, length-append (entries c.self.inside.grants.items) (0 ∷ []))
+pub returns-clause-grants : goal.returns-clause-grants
+returns-clause-grants c = grants_now c ∙ ap (λ (s : GroupState). s.grants ++ c.args.grant.now ∷ []) c.self.view_is
 
-pub put_last-requires-clause-room : goal.put_last-requires-clause-room
-put_last-requires-clause-room c =
-    let old = c.self.inside in
-    let spare : 0 < old.most - length old.grants.items = subst (λ (s : GroupState). 0 < s.spare) (sym c.self.view_is) c.requires.room in
+pub returns-clause-spare : goal.returns-clause-spare
+returns-clause-spare c =
     omega (
       arith,
-      ap length c.self.invariant.bytes_are,
-      length-append (entries old.grants.items) (0 ∷ []),
-      length-entries old.grants.items,
-      c.self.invariant.bytes_room,
-      spare,
+      ap length (grants_now c),
+      length-append (old c) (c.args.grant.now ∷ []),
+      spare c,
+      ap (λ (s : GroupState). s.spare) c.self.view_is,
     )

@@ -1,6 +1,5 @@
 -- The disk rests at an open journal, which is the one that the file stands for; the records of the new grants go after its gate.
-use Rattle.std.proofs.Common.{inr, ◌+◌, ◌*◌, ℕ, List, length, drop, sym, ◌∙◌, ap, subst, arith}
-use Rattle.cell_base.specs.declared.shifts.Grant.{Grant}
+use Rattle.std.proofs.Common.{inr, ◌+◌, ◌*◌, ℕ, List, drop, sym, ◌∙◌, ap, subst, arith}
 use Rattle.entry_codec.specs.declared.encoder.TheConstants.{ENTRY_SIZE}
 use Rattle.outside_io.specs.Disk.{LeavesOnly}
 use Rattle.outside_io.specs.Moments.{widened}
@@ -24,8 +23,8 @@ invariant_of-self g c = record {
       let holds = open_holds _ _ old.0 rests.0 rests.0.text rests.0.grants more _ (inr rests.0.journal) c.bytes.ensures.bytes
       c.requires.some c.bytes.ensures.are_read in
       let after = told _ _ new is (c.in-Ok.ensures.stored old.0 rests.0.text rests.0.grants more old.1 rests.1 holds) in (
-        subst (λ (l : List Grant). IsOpen (c.self.inside.gate + ENTRY_SIZE * length l) (c.self.inside.len + length l) new)
-            (sym c.grants.ensures)
+        subst (λ (n : ℕ). IsOpen (c.self.inside.gate + ENTRY_SIZE * n) (c.self.inside.len + n) new)
+            (sym c.len-count.ensures)
             (open_more _ _ old.0 rests.0 new more after.0),
         after.1,
       ));

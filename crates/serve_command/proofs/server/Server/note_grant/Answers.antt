@@ -13,8 +13,8 @@ use Rattle.serve_command.proofs.server.Server.note_grant.Goals as goal
 
 pub returns : goal.returns
 returns g c =
-    let session = c.args.session in
-    let request = c.args.request.now in
+    let session = c.args.asked.now.session in
+    let request = c.args.asked.now.request in
     let counted = c.count_grant.ensures.counted in
     let queue_is = ap (λ (s : Server _). s.queue) c.tell.ensures.kept ∙ counted.queue in
     let cell_is = ap (λ (l : LiveState _). l.cell) counted.live in

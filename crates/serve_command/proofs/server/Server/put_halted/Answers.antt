@@ -1,5 +1,5 @@
 -- The answers before the first grant, and then its line.
-use Rattle.std.proofs.Common.{List, ℕ, ap, arith, length, refl, subst, take, ◌∙◌, ◌≡◌, ◌≤◌, ◌++◌, ◌∷◌, []}
+use Rattle.std.proofs.Common.{List, ℕ, ap, arith, length, refl, subst, sym, take, ◌∙◌, ◌≡◌, ◌≤◌, ◌++◌, ◌∷◌, []}
 use Rattle.outside_io.specs.Causes.{Rose}
 use Rattle.outside_io.specs.PutLaws.{failed_after, failed_before, took_more}
 use Rattle.outside_io.specs.Puts.{TookAll, TookSome}
@@ -8,16 +8,16 @@ use Rattle.lent_peers.specs.Beside.{IsBeside}
 use Rattle.peers.specs.Meanings.{peer_took}
 use Rattle.cell_walks.specs.Outcomes.{Cut, IsDelivered, Whole, printed}
 use Rattle.cell_walks.specs.declared.status.Status.TheVariants.{DeviceFault, SinkFault}
-use Rattle.serve_command.specs.declared.server.FirstGrant.{FirstGrant}
+use Rattle.serve_command.specs.FirstGrants.{FirstGrant}
 use Rattle.serve_command.proofs.Living.{beside_first, beside_more}
 use Rattle.serve_command.proofs.server.Server.put_halted.Goals as goal
 
 pub returns-in-Err-clause-delivered : goal.returns-in-Err-clause-delivered
 returns-in-Err-clause-delivered g c =
     let replies = c.args.self.now.replies in
-    let first = c.in-Some.first in
+    let first : FirstGrant = record { at = c.in-Some.at; line = c.in-Some.line.now } in
     shown c.args.self.now.first (λ (f : FirstGrant). f.at ≤ length replies
-    → IsDelivered (peer_took g.T.Peer c.args.peer.now c.print_beside.new.peer) (printed DeviceFault (take f.at replies ++ f.line ∷ [])) SinkFault) first c.in-Some.is
+    → IsDelivered (peer_took g.T.Peer c.args.peer.now c.print_beside.new.peer) (printed DeviceFault (take f.at replies ++ f.line ∷ [])) SinkFault) first (sym c.in-Some.ensures)
     (λ few.
     let at : c.min.result
     ≡ first.at = omega (arith, few, c.min.ensures, ap (λ (rs : List (List ℕ)). length rs) c.as_slice-replies.ensures) in
@@ -29,9 +29,9 @@ returns-in-Err-clause-delivered g c =
 pub returns-in-Err-clause-beside : goal.returns-in-Err-clause-beside
 returns-in-Err-clause-beside g c =
     let replies = c.args.self.now.replies in
-    let first = c.in-Some.first in
+    let first : FirstGrant = record { at = c.in-Some.at; line = c.in-Some.line.now } in
     shown c.args.self.now.first (λ (f : FirstGrant). f.at ≤ length replies
-    → IsBeside g.D.Disk g.T.Peer c.args.self.now.live.disk c.args.peer.now c.print_beside.new.peer (take f.at replies ++ f.line ∷ [])) first c.in-Some.is
+    → IsBeside g.D.Disk g.T.Peer c.args.self.now.live.disk c.args.peer.now c.print_beside.new.peer (take f.at replies ++ f.line ∷ [])) first (sym c.in-Some.ensures)
     (λ few.
     let at : c.min.result
     ≡ first.at = omega (arith, few, c.min.ensures, ap (λ (rs : List (List ℕ)). length rs) c.as_slice-replies.ensures) in
@@ -42,9 +42,9 @@ returns-in-Err-clause-beside g c =
 pub returns-in-Ok-clause-delivered : goal.returns-in-Ok-clause-delivered
 returns-in-Ok-clause-delivered g c =
     let replies = c.args.self.now.replies in
-    let first = c.in-Some.first in
+    let first : FirstGrant = record { at = c.in-Some.at; line = c.in-Some.line.now } in
     shown c.args.self.now.first (λ (f : FirstGrant). f.at ≤ length replies
-    → IsDelivered (peer_took g.T.Peer c.args.peer.now c.print_beside-2.new.peer) (printed DeviceFault (take f.at replies ++ f.line ∷ [])) DeviceFault) first c.in-Some.is
+    → IsDelivered (peer_took g.T.Peer c.args.peer.now c.print_beside-2.new.peer) (printed DeviceFault (take f.at replies ++ f.line ∷ [])) DeviceFault) first (sym c.in-Some.ensures)
     (λ few.
     let at : c.min.result
     ≡ first.at = omega (arith, few, c.min.ensures, ap (λ (rs : List (List ℕ)). length rs) c.as_slice-replies.ensures) in
@@ -56,9 +56,9 @@ returns-in-Ok-clause-delivered g c =
 pub returns-in-Ok-clause-beside : goal.returns-in-Ok-clause-beside
 returns-in-Ok-clause-beside g c =
     let replies = c.args.self.now.replies in
-    let first = c.in-Some.first in
+    let first : FirstGrant = record { at = c.in-Some.at; line = c.in-Some.line.now } in
     shown c.args.self.now.first (λ (f : FirstGrant). f.at ≤ length replies
-    → IsBeside g.D.Disk g.T.Peer c.args.self.now.live.disk c.args.peer.now c.print_beside-2.new.peer (take f.at replies ++ f.line ∷ [])) first c.in-Some.is
+    → IsBeside g.D.Disk g.T.Peer c.args.self.now.live.disk c.args.peer.now c.print_beside-2.new.peer (take f.at replies ++ f.line ∷ [])) first (sym c.in-Some.ensures)
     (λ few.
     let at : c.min.result
     ≡ first.at = omega (arith, few, c.min.ensures, ap (λ (rs : List (List ℕ)). length rs) c.as_slice-replies.ensures) in
@@ -72,9 +72,9 @@ returns-in-Ok-clause-beside g c =
 pub returns-in-Err-print_beside-clause-delivered : goal.returns-in-Err-print_beside-clause-delivered
 returns-in-Err-print_beside-clause-delivered g c =
     let replies = c.args.self.now.replies in
-    let first = c.in-Some.first in
+    let first : FirstGrant = record { at = c.in-Some.at; line = c.in-Some.line.now } in
     shown c.args.self.now.first (λ (f : FirstGrant). f.at ≤ length replies
-    → IsDelivered (peer_took g.T.Peer c.args.peer.now c.print_beside-2.new.peer) (printed DeviceFault (take f.at replies ++ f.line ∷ [])) SinkFault) first c.in-Some.is
+    → IsDelivered (peer_took g.T.Peer c.args.peer.now c.print_beside-2.new.peer) (printed DeviceFault (take f.at replies ++ f.line ∷ [])) SinkFault) first (sym c.in-Some.ensures)
     (λ few.
     let at : c.min.result
     ≡ first.at = omega (arith, few, c.min.ensures, ap (λ (rs : List (List ℕ)). length rs) c.as_slice-replies.ensures) in
@@ -86,9 +86,9 @@ returns-in-Err-print_beside-clause-delivered g c =
 pub returns-in-Err-print_beside-clause-beside : goal.returns-in-Err-print_beside-clause-beside
 returns-in-Err-print_beside-clause-beside g c =
     let replies = c.args.self.now.replies in
-    let first = c.in-Some.first in
+    let first : FirstGrant = record { at = c.in-Some.at; line = c.in-Some.line.now } in
     shown c.args.self.now.first (λ (f : FirstGrant). f.at ≤ length replies
-    → IsBeside g.D.Disk g.T.Peer c.args.self.now.live.disk c.args.peer.now c.print_beside-2.new.peer (take f.at replies ++ f.line ∷ [])) first c.in-Some.is
+    → IsBeside g.D.Disk g.T.Peer c.args.self.now.live.disk c.args.peer.now c.print_beside-2.new.peer (take f.at replies ++ f.line ∷ [])) first (sym c.in-Some.ensures)
     (λ few.
     let at : c.min.result
     ≡ first.at = omega (arith, few, c.min.ensures, ap (λ (rs : List (List ℕ)). length rs) c.as_slice-replies.ensures) in

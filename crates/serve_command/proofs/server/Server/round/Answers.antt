@@ -1,5 +1,4 @@
 -- The group is decided, written and answered, or the conversation stops.
-use Rattle.std.specs.Prelude.{None}
 use Rattle.std.proofs.Common.{ap, arith, inl, map, refl, subst, sym, ◌∙◌, ◌∷◌, []}
 use Rattle.outside_io.specs.Causes.{Rose}
 use Rattle.outside_io.specs.Puts.{TookAll, TookSome}
@@ -177,6 +176,6 @@ returns-clause-handed g c = λ handed. c.in_default-print_beside.ensures.handed 
 pub returns-clause-ready : goal.returns-clause-ready
 returns-clause-ready g c =
     let mid = c.take_group-full.new.self in
-    let new : Server _ = record mid { live = c.commit.new.self; replies = c.clear.new.self; first = None } in
+    let new : Server _ = record mid { live = c.commit.new.self; replies = c.clear.new.self; first = c.clear-2.new.self } in
     is_ready c.args.self.now mid new c.take_group-full.ensures.stays c.in_default.ensures.ok refl c.requires.ready
-    c.take_group-full.ensures.waiters c.clear.ensures refl
+    c.take_group-full.ensures.waiters c.clear.ensures c.clear-2.ensures

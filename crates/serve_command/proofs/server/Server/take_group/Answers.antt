@@ -87,10 +87,10 @@ returns-in-Err-clause-taken g c = λ talk text given at reads.
     let so = c.loop-i.invariant.goes_on talk text given at reads in
     let line = c.next_line.ensures.whole c.if-not-next_line.false text _ so.2 in
     let cell_is = c.over-indexed.ensures ∙ c.cell.ensures.cell ∙ ap (λ (s : CoreState). s.cell) c.core.ensures.core ∙ so.1.cell_is in
-    let ask_is = c.read_ask-ask.ensures.ask ∙ (λ i. ask_of (cell_is i) ((c.line.ensures ∙ line.1) i)) ∙ ask_of-kept cell line.0 in (
+    let ask_is = c.read_ask-ask.ensures.ask ∙ (λ i. ask_of (cell_is i) ((c.line-line.ensures ∙ line.1) i)) ∙ ask_of-kept cell line.0 in (
       so.0,
-      subst (λ (s : Server _). IsAnsweredGroup cell talk old.asked (map (ask_of cell) so.0) s) (sym c.in-Err.ensures.same) so.1,
-      (line.0, line.2, finds_full cell talk old.asked text given so.0 _ so.1 line.0 _ ask_is (c.in-Err.ensures.full _ so.1.at)),
+      subst (λ (s : Server _). IsAnsweredGroup cell talk old.asked (map (ask_of cell) so.0) s) (sym c.in-Err.ensures.full.same) so.1,
+      (line.0, line.2, finds_full cell talk old.asked text given so.0 _ so.1 line.0 _ ask_is (c.in-Err.ensures.full.full _ so.1.at)),
       omega (arith, so.3, c.loop-i-test.true),
     )
 
@@ -99,15 +99,15 @@ returns-in-Err-clause-takes g c = λ some.
     omega (arith, c.loop-i.invariant.ahead, c.next_line.ensures.shorter c.if-not-next_line.false)
 
 pub returns-in-Err-clause-stays : goal.returns-in-Err-clause-stays
-returns-in-Err-clause-stays g c = subst (λ (s : Server _). Stays c.args.self.now s) (sym c.in-Err.ensures.same) c.loop-i.invariant.stays
+returns-in-Err-clause-stays g c = subst (λ (s : Server _). Stays c.args.self.now s) (sym c.in-Err.ensures.full.same) c.loop-i.invariant.stays
 
 pub returns-in-Err-clause-waiters : goal.returns-in-Err-clause-waiters
-returns-in-Err-clause-waiters g c = subst (λ (s : Server _). KeepsWaiters s) (sym c.in-Err.ensures.same) c.loop-i.invariant.waiters
+returns-in-Err-clause-waiters g c = subst (λ (s : Server _). KeepsWaiters s) (sym c.in-Err.ensures.full.same) c.loop-i.invariant.waiters
 
 pub loop-i-preserved : goal.loop-i-preserved
 loop-i-preserved g c =
     let so = c.loop-i.invariant in
-    let goes = c.in_default.ensures.goes_on in
+    let answered = c.in_default.ensures.answered in
     record {
       goes_on = λ talk text given at reads.
           let old = c.args.self.now in
@@ -115,14 +115,14 @@ loop-i-preserved g c =
           let taken = so.goes_on talk text given at reads in
           let line = c.next_line.ensures.whole c.if-not-next_line.false text _ taken.2 in
           let cell_is = c.over-indexed.ensures ∙ c.cell.ensures.cell ∙ ap (λ (s : CoreState). s.cell) c.core.ensures.core ∙ taken.1.cell_is in
-          let ask_is = c.read_ask-ask.ensures.ask ∙ (λ i. ask_of (cell_is i) ((c.line.ensures ∙ line.1) i)) ∙ ask_of-kept cell line.0 in
+          let ask_is = c.read_ask-ask.ensures.ask ∙ (λ i. ask_of (cell_is i) ((c.line-line.ensures ∙ line.1) i)) ∙ ask_of-kept cell line.0 in
           one_more cell talk old.asked text given taken.0 _ taken.1 line.0 _ ask_is c.answer.new.self c.next_line.new.self _ taken.3
-          (c.in_default.ensures.answered _ taken.1.at) goes line.2;
-      stays = stays_more c.args.self.now _ c.answer.new.self so.stays goes.stays;
-      waiters = c.in_default.ensures.waiters;
+          (answered.said _ taken.1.at) answered.goes_on line.2;
+      stays = stays_more c.args.self.now _ c.answer.new.self so.stays answered.goes_on.stays;
+      waiters = answered.waiters;
       ahead = omega (arith, so.ahead, c.next_line.ensures.shorter c.if-not-next_line.false);
       begins = λ e. absurd (omega (arith, e));
-      pending = omega (arith, so.pending, goes.told);
+      pending = omega (arith, so.pending, answered.goes_on.told);
     }
 
 pub returns-clause-taken : goal.returns-clause-taken
