@@ -11,7 +11,7 @@ use std::sync::Wait;
 use std::thread::Threads;
 
 // A write or a sync fails where this divides its number. It is odd, so that each half of the writing of a grant fails.
-const EACH: u64 = 7;
+const EACH: u64 = 21;
 
 // The first sync of the first grant, and its second write: on a blank disk four syncs and three writes come before it.
 const FIRST: u64 = 5;

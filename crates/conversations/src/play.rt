@@ -1,4 +1,4 @@
-//! One conversation compared with its call in which nothing failed, and then played with each put failing in its turn, of
+//! One conversation compared with its call in which nothing failed, and then played with its puts failing in their turn, of
 //! which the sink takes nothing or a first part, each read, and each call of the journal's device. Of a run whose lines are left
 //! open some calls of the device fail.
 
@@ -15,6 +15,10 @@ use std::alloc::Global;
 use std::rt::Clock;
 use std::sync::Wait;
 use std::thread::Threads;
+
+// Of a text of many pieces each of the first puts is made to fail, then one in so many, and the last.
+const FIRST_PUTS: u64 = 64;
+const EACH_PUT: u64 = 64;
 
 /// Ends with what was wanted and told where a conversation doesn't go as written, in the call that ended like this, or in
 /// another one of which a part fails.
@@ -76,7 +80,7 @@ fn check_left<R: Print + Clock + Threads + Wait + Sync>(
     caller.check(told, *status, text.as_slice(), caller.journal(words))
 }
 
-// Plays it with each put failing in turn, whole and torn: the lines before it were taken, or these and the first half of
+// Plays it with such puts failing in turn, whole and torn: the lines before it were taken, or these and the first half of
 // its own, the status is 8, and the journal is left as without a failure.
 fn play_puts<R: Print + Clock + Threads + Wait + Sync>(
     caller: &Caller<'_, R>,
@@ -91,9 +95,11 @@ fn play_puts<R: Print + Clock + Threads + Wait + Sync>(
             break;
         }
         put = put.wrapping_add(1);
-        play_put(caller, words, whole, put, taken)?;
         let piece = first_piece(rest, piece_bytes(words, whole.status));
-        play_torn_put(caller, words, whole, put, taken.wrapping_add(piece / 2))?;
+        if put <= FIRST_PUTS || put % EACH_PUT == 0 || piece == rest.len() {
+            play_put(caller, words, whole, put, taken)?;
+            play_torn_put(caller, words, whole, put, taken.wrapping_add(piece / 2))?;
+        }
         taken = taken.wrapping_add(piece);
     }
     Ok(())
