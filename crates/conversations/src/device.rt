@@ -89,17 +89,30 @@ fn check_failed<R: Print + Clock + Threads + Wait + Sync>(
         caller.check(told, 7, b"device fault\n", left)?;
     }
     for pick in [0u64, 1] {
-        let Ok(disk) = told.disk.crash(caller.alloc(), pick) else {
-            bail!("want of memory");
-        };
-        let plan = plan_on(caller, words, disk)?;
-        match answered {
-            Some(answered) => check_grants(&before, &plan, answered)?,
-            None => caller.check(&plan, before.status, before.text.as_slice(), plan.left())?,
-        }
-        go_on(caller, words, whole, plan)?;
+        check_crash(caller, words, whole, told, &before, answered, pick)?;
     }
     Ok(())
+}
+
+// What such a crash leaves stands for the grants that were answered, or has the next one, and the call goes on from it.
+fn check_crash<R: Print + Clock + Threads + Wait + Sync>(
+    caller: &Caller<'_, R>,
+    words: &[String],
+    whole: &CallEnd,
+    told: &CallEnd,
+    before: &CallEnd,
+    answered: Option<u64>,
+    pick: u64,
+) -> Result<()> {
+    let Ok(disk) = told.disk.crash(caller.alloc(), pick) else {
+        bail!("want of memory");
+    };
+    let plan = plan_on(caller, words, disk)?;
+    match answered {
+        Some(answered) => check_grants(before, &plan, answered)?,
+        None => caller.check(&plan, before.status, before.text.as_slice(), plan.left())?,
+    }
+    go_on(caller, words, whole, plan)
 }
 
 /// After the grants of before the journal has those that were answered, and at most one more.

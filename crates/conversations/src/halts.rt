@@ -46,16 +46,28 @@ fn fail_call<R: Print + Clock + Threads + Wait + Sync>(
     if told.status != 7 || !told.text.ends_with(b" halted\n") {
         return caller.end_otherwise("an entry that halted, and status 7\n", &told);
     }
+    let before = plan_on(caller, words, caller.disk(caller.journal(words))?)?;
     for pick in [0u64, 1] {
-        let Ok(disk) = told.disk.crash(caller.alloc(), pick) else {
-            bail!("want of memory");
-        };
-        let before = plan_on(caller, words, caller.disk(caller.journal(words))?)?;
-        let plan = plan_on(caller, words, disk)?;
-        check_grants(&before, &plan, told.grants())?;
-        go_on(caller, words, whole, plan)?;
+        go_on_after(caller, words, whole, &told, &before, pick)?;
     }
     Ok(())
+}
+
+// What such a crash leaves of a run that was halted has the grants that were answered, or one more, and the run goes on from it.
+fn go_on_after<R: Print + Clock + Threads + Wait + Sync>(
+    caller: &Caller<'_, R>,
+    words: &[String],
+    whole: &CallEnd,
+    told: &CallEnd,
+    before: &CallEnd,
+    pick: u64,
+) -> Result<()> {
+    let Ok(disk) = told.disk.crash(caller.alloc(), pick) else {
+        bail!("want of memory");
+    };
+    let plan = plan_on(caller, words, disk)?;
+    check_grants(before, &plan, told.grants())?;
+    go_on(caller, words, whole, plan)
 }
 
 // After this plan the run comes to the same end.

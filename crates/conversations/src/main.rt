@@ -67,20 +67,40 @@ fn play_script<R: Files + Print + AllocGlobal + Clock + Threads + Wait + Sync>(
     count: &mut Count,
 ) -> Result<()> {
     let text = fs::read_to_string(rt, name).context(format_args!("reading {name}"))?;
+    play_text(rt, text.as_str(), count).context(format_args!("in {name}"))
+}
+
+// Plays the conversations of a script.
+fn play_text<R: Print + AllocGlobal + Clock + Threads + Wait + Sync>(
+    rt: &R,
+    text: &str,
+    count: &mut Count,
+) -> Result<()> {
     let mut script = Script::new(rt.alloc())?;
     let mut number = 0u64;
     for line in text.lines() {
         number = number.wrapping_add(1);
-        let read = script.read_line(line);
-        if let Some(conversation) = read.context(format_args!("{name}, line {number}"))? {
-            count.played = count.played.wrapping_add(1);
-            if !goes_as_written(rt, &mut script, &conversation)? {
-                count.otherwise = count.otherwise.wrapping_add(1);
-            }
-        }
+        play_line(rt, &mut script, line, count).context(format_args!("line {number}"))?;
     }
     if !script.is_whole() {
-        bail!("{name} ends within a conversation");
+        bail!("it ends within a conversation");
+    }
+    Ok(())
+}
+
+// Reads a line, and plays the conversation that it ends, if it ends one.
+fn play_line<R: Print + AllocGlobal + Clock + Threads + Wait + Sync>(
+    rt: &R,
+    script: &mut Script,
+    line: &str,
+    count: &mut Count,
+) -> Result<()> {
+    let Some(conversation) = script.read_line(line)? else {
+        return Ok(());
+    };
+    count.played = count.played.wrapping_add(1);
+    if !goes_as_written(rt, script, &conversation)? {
+        count.otherwise = count.otherwise.wrapping_add(1);
     }
     Ok(())
 }
