@@ -1,8 +1,9 @@
 //! Whole calls over objects in memory: the texts of both commands.
+use crate::call_end::CallEnd;
+use crate::same::assert_same;
 use carry_commands::{Begin, Carry};
 use cell_base::{List, NoMemory};
 use cell_driver::drive;
-use cell_texts::CommandEnd;
 use outside_io::{MemDisk, MemFiles, MemSink};
 use std::alloc::Global;
 use std::test::Fail;
@@ -37,14 +38,6 @@ resource = [{ name = "M1", capacity = 1, order = 1 }, { name = "M2", capacity = 
 type = [{ name = "A", route = ["M1", "M2:hold"] }, { name = "Z", route = ["M2", "M1"] }]
 "#;
 
-/// The exit status, what was printed, and the disk after it.
-#[derive(Drop)]
-struct CallEnd {
-    status: u8,
-    out: MemSink,
-    disk: MemDisk,
-}
-
 fn begin(alloc: Global, cell: &str, start: &str, journal: &[u8]) -> Result<CallEnd, NoMemory> {
     let mut files = MemFiles::new(alloc, List::new(alloc));
     files.add("cell", cell.as_bytes())?;
@@ -52,12 +45,8 @@ fn begin(alloc: Global, cell: &str, start: &str, journal: &[u8]) -> Result<CallE
     let mut out = MemSink::new(alloc, List::new(alloc));
     let disk = MemDisk::new(alloc, journal, List::new(alloc))?;
     let begin = Begin { start: "start" };
-    let CommandEnd { status, disk } = drive(&begin, alloc, &mut files, &mut out, "cell", disk);
-    Ok(CallEnd {
-        status: status.number(),
-        out,
-        disk,
-    })
+    let end = drive(&begin, alloc, &mut files, &mut out, "cell", disk);
+    Ok(CallEnd::new(end, out))
 }
 
 fn carry(alloc: Global, old: &str, new: &str, journal: &[u8]) -> Result<CallEnd, NoMemory> {
@@ -67,12 +56,8 @@ fn carry(alloc: Global, old: &str, new: &str, journal: &[u8]) -> Result<CallEnd,
     let mut out = MemSink::new(alloc, List::new(alloc));
     let disk = MemDisk::new(alloc, journal, List::new(alloc))?;
     let carry = Carry { other: "new" };
-    let CommandEnd { status, disk } = drive(&carry, alloc, &mut files, &mut out, "old", disk);
-    Ok(CallEnd {
-        status: status.number(),
-        out,
-        disk,
-    })
+    let end = drive(&carry, alloc, &mut files, &mut out, "old", disk);
+    Ok(CallEnd::new(end, out))
 }
 
 const ON_M2: &str = "place 7 A 1 waiting\n";
@@ -83,18 +68,25 @@ const BOTH: &str = "place 7 A 0 waiting\nplace 8 Z 0 waiting\n";
 fn begun_and_gone_on_with(rt: HostRuntime) -> Result<(), Fail> {
     let alloc = rt.alloc();
     let first = begin(alloc, WIDE, ON_M2, b"")?;
-    assert_eq!(rt; first.status, 0);
-    let text: &[u8] =
-        b"shift 0 after 0\n0 place 7 A 1 waiting granted\nleft 1\nplan 2\nprocess M2\nunload 7\n";
-    assert_eq!(rt; first.out.bytes(), text);
-    let again = begin(alloc, WIDE, ON_M2, first.disk.bytes())?;
-    assert_eq!(rt; again.status, 0);
-    let text: &[u8] = b"shift 0 after 1\nleft 1\nplan 2\nprocess M2\nunload 7\n";
-    assert_eq!(rt; again.out.bytes(), text);
-    let other = begin(alloc, WIDE, BOTH, first.disk.bytes())?;
-    assert_eq!(rt; other.status, 6);
-    let text: &[u8] = b"journal refused 6 0\n";
-    assert_eq!(rt; other.out.bytes(), text);
+    let table: [(&str, &[u8], u8, &[u8]); 3] = [
+        (
+            ON_M2,
+            b"",
+            0,
+            b"shift 0 after 0\n0 place 7 A 1 waiting granted\nleft 1\nplan 2\nprocess M2\nunload 7\n",
+        ),
+        (
+            ON_M2,
+            first.journal(),
+            0,
+            b"shift 0 after 1\nleft 1\nplan 2\nprocess M2\nunload 7\n",
+        ),
+        (BOTH, first.journal(), 6, b"journal refused 6 0\n"),
+    ];
+    for (start, journal, status, text) in table {
+        let end = begin(alloc, WIDE, start, journal)?;
+        assert_same(&rt, end.told(), (status, text));
+    }
     Ok(())
 }
 
@@ -113,9 +105,8 @@ fn starts_refused(rt: HostRuntime) -> Result<(), Fail> {
         ("place 7 A 1 waiting", 5, b"record refused 1\n"),
     ];
     for (start, status, text) in table {
-        let told = begin(alloc, NARROW, start, b"")?;
-        assert_eq!(rt; told.out.bytes(), text);
-        assert_eq!(rt; told.status, status);
+        let end = begin(alloc, NARROW, start, b"")?;
+        assert_same(&rt, end.told(), (status, text));
     }
     Ok(())
 }
@@ -146,10 +137,9 @@ fn carried_and_refused(rt: HostRuntime) -> Result<(), Fail> {
     ];
     for (old, start, new, status, text) in table {
         let begun = begin(alloc, old, start, b"")?;
-        let told = carry(alloc, old, new, begun.disk.bytes())?;
-        assert_eq!(rt; told.out.bytes(), text);
-        assert_eq!(rt; told.status, status);
-        assert_eq!(rt; told.disk.bytes(), begun.disk.bytes());
+        let end = carry(alloc, old, new, begun.journal())?;
+        assert_same(&rt, end.told(), (status, text));
+        assert_same(&rt, end.journal(), begun.journal());
     }
     Ok(())
 }

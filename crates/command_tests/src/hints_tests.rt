@@ -1,4 +1,5 @@
 //! The lines as a person reads them, over files in memory. `checks/hints` compares those of the program over real files.
+use crate::same::assert_same;
 use cell_base::List;
 use hints::{Ended, hint};
 use outside_io::MemFiles;
@@ -348,7 +349,7 @@ fn each_fault_of_a_file_has_its_line(rt: HostRuntime) -> Result<(), Fail> {
             seen = seen.saturating_add(1);
         }
     }
-    assert_eq!(rt; seen, 41);
+    assert_same(&rt, seen, 41);
     Ok(())
 }
 
@@ -372,7 +373,7 @@ fn other_refusals_have_their_lines(rt: HostRuntime) -> Result<(), Fail> {
         assert!(rt; told.as_str() == wanted, "{words}: {line}: {told}");
         seen = seen.saturating_add(1);
     }
-    assert_eq!(rt; seen, 25);
+    assert_same(&rt, seen, 25);
     Ok(())
 }
 

@@ -4,11 +4,15 @@
 #![tactic(auto)]
 
 #[cfg(test)]
+mod call_end;
+#[cfg(test)]
 mod carry_commands_tests;
 #[cfg(test)]
 mod hints_tests;
 #[cfg(test)]
 mod make_command_tests;
+#[cfg(test)]
+mod same;
 #[cfg(test)]
 mod serve_command_tests;
 #[cfg(test)]

@@ -1,4 +1,5 @@
 //! That memory is had, and the lines of a number.
+use crate::same::assert_same;
 use cell_base::List;
 use cell_walks::Status;
 use make_command::run_make;
@@ -18,10 +19,11 @@ fn one_is_told_in_four_lines(rt: HostRuntime) -> Result<(), Fail> {
         b"usage: make NUMBER\n",
         NullDisk,
     );
-    assert!(rt; ended.status == Status::Done);
-    assert!(rt;
-        out.bytes()
-            == b"make 1\nresources 16 types 8 sessions 64 steps 491\ngranted 491 refused 2081\nleft 0 plan 0\n".as_slice()
+    assert_same(&rt, ended.status, Status::Done);
+    assert_same(
+        &rt,
+        out.bytes(),
+        b"make 1\nresources 16 types 8 sessions 64 steps 491\ngranted 491 refused 2081\nleft 0 plan 0\n".as_slice(),
     );
     Ok(())
 }

@@ -1,4 +1,5 @@
 //! A conversation over objects in memory: in pieces of each size, and with each call of the outside failing in its turn.
+use crate::same::assert_same;
 use cell_base::List;
 use cell_texts::CommandEnd;
 use cell_walks::Status;
@@ -69,10 +70,19 @@ struct Held {
     journal: Vec<u8>,
 }
 
-// A list of one number.
-fn only(alloc: Global, number: u64) -> Result<List<u64>, Fail> {
+impl Held {
+    // How it ended, and what the peer has heard.
+    fn told(&self) -> (Status, &[u8]) {
+        (self.status, self.heard.as_slice())
+    }
+}
+
+// A list of one value, or of none.
+fn only<T: Drop>(alloc: Global, value: Option<T>) -> Result<List<T>, Fail> {
     let mut list = List::new(alloc);
-    list.try_push(number)?;
+    if let Some(value) = value {
+        list.try_push(value)?;
+    }
     Ok(list)
 }
 
@@ -100,33 +110,39 @@ fn hold<R: Wait>(
     })
 }
 
+// A conversation in which nothing fails.
+fn hold_whole<R: Wait>(
+    rt: &R,
+    alloc: Global,
+    asked: &[u8],
+    journal: &[u8],
+    piece: usize,
+) -> Result<Held, Fail> {
+    let (reads, puts, calls) = (List::new(alloc), List::new(alloc), List::new(alloc));
+    hold(rt, alloc, asked, journal, piece, reads, puts, calls)
+}
+
+// One on a blank disk in which this read, put and call of the disk fail.
+fn hold_failing<R: Wait>(
+    rt: &R,
+    alloc: Global,
+    piece: usize,
+    read: Option<u64>,
+    put: Option<u64>,
+    call: Option<DiskCall>,
+) -> Result<Held, Fail> {
+    let (reads, puts, calls) = (only(alloc, read)?, only(alloc, put)?, only(alloc, call)?);
+    hold(rt, alloc, ASKED, b"", piece, reads, puts, calls)
+}
+
 #[test]
 fn the_answers_are_the_same_for_each_size_of_the_pieces(rt: HostRuntime) -> Result<(), Fail> {
     let alloc = rt.alloc();
     for piece in [1, 2, 7, 19, 4096] {
-        let held = hold(
-            &rt,
-            alloc,
-            ASKED,
-            b"",
-            piece,
-            List::new(alloc),
-            List::new(alloc),
-            List::new(alloc),
-        )?;
-        assert_eq!(rt; held.status, Status::Done);
-        assert_eq!(rt; held.heard.as_slice(), ANSWERED);
-        let later = hold(
-            &rt,
-            alloc,
-            ASKED,
-            held.journal.as_slice(),
-            piece,
-            List::new(alloc),
-            List::new(alloc),
-            List::new(alloc),
-        )?;
-        assert_eq!(rt; later.status, Status::Done);
+        let held = hold_whole(&rt, alloc, ASKED, b"", piece)?;
+        assert_same(&rt, held.told(), (Status::Done, ANSWERED));
+        let later = hold_whole(&rt, alloc, ASKED, held.journal.as_slice(), piece)?;
+        assert_same(&rt, later.status, Status::Done);
         assert!(rt;
             later.put.as_slice().starts_with(
                 b"shift 0 after 2\nleft 1\n1 load 7 A refused job-loaded\n"
@@ -139,42 +155,19 @@ fn the_answers_are_the_same_for_each_size_of_the_pieces(rt: HostRuntime) -> Resu
 #[test]
 fn questions_are_answered_after_what_was_asked_before(rt: HostRuntime) -> Result<(), Fail> {
     let alloc = rt.alloc();
-    let mut journal = Vec::new(alloc);
-    for (asked, told) in [(QUESTIONS, REPLIES), (ASKED_LATER, TOLD_LATER)] {
-        let held = hold(
-            &rt,
-            alloc,
-            asked,
-            journal.as_slice(),
-            4096,
-            List::new(alloc),
-            List::new(alloc),
-            List::new(alloc),
-        )?;
-        assert_eq!(rt; held.status, Status::Done);
-        assert_eq!(rt; held.heard.as_slice(), told);
-        journal = Vec::from_slice(alloc, held.journal.as_slice())?;
-    }
+    let first = hold_whole(&rt, alloc, QUESTIONS, b"", 4096)?;
+    assert_same(&rt, first.told(), (Status::Done, REPLIES));
+    let later = hold_whole(&rt, alloc, ASKED_LATER, first.journal.as_slice(), 4096)?;
+    assert_same(&rt, later.told(), (Status::Done, TOLD_LATER));
     Ok(())
 }
 
 #[test]
 fn waits_end_and_lists_have_a_line_for_each_part(rt: HostRuntime) -> Result<(), Fail> {
-    let alloc = rt.alloc();
     for (asked, told) in [(WAITING, WAITED), (LISTS, LISTED)] {
         for piece in [1, 23, 4096] {
-            let held = hold(
-                &rt,
-                alloc,
-                asked,
-                b"",
-                piece,
-                List::new(alloc),
-                List::new(alloc),
-                List::new(alloc),
-            )?;
-            assert_eq!(rt; held.status, Status::Done);
-            assert_eq!(rt; held.heard.as_slice(), told);
+            let held = hold_whole(&rt, rt.alloc(), asked, b"", piece)?;
+            assert_same(&rt, held.told(), (Status::Done, told));
         }
     }
     Ok(())
@@ -182,19 +175,9 @@ fn waits_end_and_lists_have_a_line_for_each_part(rt: HostRuntime) -> Result<(), 
 
 #[test]
 fn a_put_that_fails_cuts_the_answers(rt: HostRuntime) -> Result<(), Fail> {
-    let alloc = rt.alloc();
     for put in 1..14 {
-        let held = hold(
-            &rt,
-            alloc,
-            ASKED,
-            b"",
-            64,
-            List::new(alloc),
-            only(alloc, put)?,
-            List::new(alloc),
-        )?;
-        assert_eq!(rt; held.status, Status::SinkFault);
+        let held = hold_failing(&rt, rt.alloc(), 64, None, Some(put), None)?;
+        assert_same(&rt, held.status, Status::SinkFault);
         assert!(rt; ANSWERED.starts_with(held.put.as_slice()));
     }
     Ok(())
@@ -202,43 +185,23 @@ fn a_put_that_fails_cuts_the_answers(rt: HostRuntime) -> Result<(), Fail> {
 
 #[test]
 fn a_read_that_fails_ends_after_the_answers(rt: HostRuntime) -> Result<(), Fail> {
-    let alloc = rt.alloc();
-    let held = hold(
-        &rt,
-        alloc,
-        ASKED,
-        b"",
-        17,
-        only(alloc, 2)?,
-        List::new(alloc),
-        List::new(alloc),
-    )?;
-    assert_eq!(rt; held.status, Status::ReadFault);
-    assert_eq!(rt;
-        held.heard.as_slice(),
-        b"shift 0 after 0\nleft 0\n1 load 7 A granted\nread fault\n".as_slice()
-    );
+    let held = hold_failing(&rt, rt.alloc(), 17, Some(2), None, None)?;
+    let answered: &[u8] = b"shift 0 after 0\nleft 0\n1 load 7 A granted\nread fault\n";
+    assert_same(&rt, held.told(), (Status::ReadFault, answered));
     Ok(())
 }
 
 #[test]
 fn a_sync_that_fails_halts_the_first_grant(rt: HostRuntime) -> Result<(), Fail> {
-    let alloc = rt.alloc();
     for nth in 1..16 {
-        let mut calls = List::new(alloc);
-        calls.try_push(DiskCall {
-            kind: CallKind::Sync,
-            nth,
-        })?;
-        let held = hold(
+        let kind = CallKind::Sync;
+        let held = hold_failing(
             &rt,
-            alloc,
-            ASKED,
-            b"",
+            rt.alloc(),
             4096,
-            List::new(alloc),
-            List::new(alloc),
-            calls,
+            None,
+            None,
+            Some(DiskCall { kind, nth }),
         )?;
         let halted = b"shift 0 after 0\nleft 0\n1 load 7 A halted\n".as_slice();
         let put = held.put.as_slice();
@@ -246,7 +209,7 @@ fn a_sync_that_fails_halts_the_first_grant(rt: HostRuntime) -> Result<(), Fail> 
             Status::DeviceFault => assert!(rt;
                 put == b"device fault\n".as_slice() || put == halted
             ),
-            status => assert_eq!(rt; status, Status::Done),
+            status => assert_same(&rt, status, Status::Done),
         }
     }
     Ok(())

@@ -1,7 +1,8 @@
 //! Whole calls over objects in memory: the texts of both commands.
+use crate::call_end::CallEnd;
+use crate::same::assert_same;
 use cell_base::{List, NoMemory};
 use cell_driver::drive;
-use cell_texts::CommandEnd;
 use outside_io::{MemDisk, MemFiles, MemSink};
 use standby_commands::{Follow, run_feed};
 use std::alloc::Global;
@@ -37,14 +38,6 @@ const NONE: [u8; 24] = [
     255, 255, 255, 255, 255, 255, 255, 255, 0, 0, 0, 0, 0, 0, 0, 0, 0, 0, 0, 0, 0, 0, 0, 0,
 ];
 
-/// The exit status, what was printed, and the disk after it.
-#[derive(Drop)]
-struct CallEnd {
-    status: u8,
-    out: MemSink,
-    disk: MemDisk,
-}
-
 fn follow(alloc: Global, frames: &[[u8; 24]], more: &[u8]) -> Result<CallEnd, NoMemory> {
     let mut bytes = List::new(alloc);
     for frame in frames {
@@ -57,12 +50,8 @@ fn follow(alloc: Global, frames: &[[u8; 24]], more: &[u8]) -> Result<CallEnd, No
     let mut out = MemSink::new(alloc, List::new(alloc));
     let disk = MemDisk::new(alloc, b"", List::new(alloc))?;
     let follow = Follow { frames: "frames" };
-    let CommandEnd { status, disk } = drive(&follow, alloc, &mut files, &mut out, "cell", disk);
-    Ok(CallEnd {
-        status: status.number(),
-        out,
-        disk,
-    })
+    let end = drive(&follow, alloc, &mut files, &mut out, "cell", disk);
+    Ok(CallEnd::new(end, out))
 }
 
 fn feed(alloc: Global, journal: &[u8], from: &str) -> Result<CallEnd, NoMemory> {
@@ -70,7 +59,7 @@ fn feed(alloc: Global, journal: &[u8], from: &str) -> Result<CallEnd, NoMemory> 
     files.add("cell", CELL.as_bytes())?;
     let mut out = MemSink::new(alloc, List::new(alloc));
     let disk = MemDisk::new(alloc, journal, List::new(alloc))?;
-    let CommandEnd { status, disk } = run_feed(
+    let end = run_feed(
         alloc,
         &mut files,
         &mut out,
@@ -79,20 +68,15 @@ fn feed(alloc: Global, journal: &[u8], from: &str) -> Result<CallEnd, NoMemory> 
         b"usage: feed\n",
         disk,
     );
-    Ok(CallEnd {
-        status: status.number(),
-        out,
-        disk,
-    })
+    Ok(CallEnd::new(end, out))
 }
 
 #[test]
 fn fed_and_followed(rt: HostRuntime) -> Result<(), Fail> {
     let alloc = rt.alloc();
     let first = follow(alloc, &[PROCESS, LOAD, LOAD, PROCESS], b"")?;
-    assert_eq!(rt; first.status, 0);
     let text: &[u8] = b"ack 0\nack 1\nack 1\nack 2\nleft 1\n";
-    assert_eq!(rt; first.out.bytes(), text);
+    assert_same(&rt, first.told(), (0, text));
     let table: [(&str, u8, &[u8]); 4] = [
         ("1", 0, &PROCESS),
         ("2", 0, b""),
@@ -100,39 +84,46 @@ fn fed_and_followed(rt: HostRuntime) -> Result<(), Fail> {
         ("01", 2, b"usage: feed\n"),
     ];
     for (from, status, bytes) in table {
-        let told = feed(alloc, first.disk.bytes(), from)?;
-        assert_eq!(rt; told.out.bytes(), bytes);
-        assert_eq!(rt; told.status, status);
+        let end = feed(alloc, first.journal(), from)?;
+        assert_same(&rt, end.told(), (status, bytes));
     }
     Ok(())
 }
 
 #[test]
 fn frames_refused(rt: HostRuntime) -> Result<(), Fail> {
-    let alloc = rt.alloc();
-    let table: [([u8; 24], &[u8]); 4] = [
-        (OTHER_LOAD, b"ack 1\nfollow refused 0 conflict\n"),
-        (OTHER_TYPE, b"ack 1\nfollow refused 0 conflict\n"),
-        (MOVE, b"ack 1\nfollow refused 0 conflict\n"),
-        (NONE, b"ack 1\nfollow refused 18446744073709551615 frame\n"),
+    let table: [(&[[u8; 24]], &[u8], u8, &[u8]); 7] = [
+        (
+            &[LOAD, OTHER_LOAD, PROCESS],
+            b"",
+            10,
+            b"ack 1\nfollow refused 0 conflict\n",
+        ),
+        (
+            &[LOAD, OTHER_TYPE, PROCESS],
+            b"",
+            10,
+            b"ack 1\nfollow refused 0 conflict\n",
+        ),
+        (
+            &[LOAD, MOVE, PROCESS],
+            b"",
+            10,
+            b"ack 1\nfollow refused 0 conflict\n",
+        ),
+        (
+            &[LOAD, NONE, PROCESS],
+            b"",
+            10,
+            b"ack 1\nfollow refused 18446744073709551615 frame\n",
+        ),
+        (&[OTHER_TYPE], b"", 10, b"follow refused 0 fit\n"),
+        (&[MOVE], b"", 10, b"follow refused 0 no-such-job\n"),
+        (&[LOAD], &[0; 23], 5, b"frames refused\n"),
     ];
-    for (frame, text) in table {
-        let told = follow(alloc, &[LOAD, frame, PROCESS], b"")?;
-        assert_eq!(rt; told.out.bytes(), text);
-        assert_eq!(rt; told.status, 10);
+    for (frames, more, status, text) in table {
+        let end = follow(rt.alloc(), frames, more)?;
+        assert_same(&rt, end.told(), (status, text));
     }
-    let table: [([u8; 24], &[u8]); 2] = [
-        (OTHER_TYPE, b"follow refused 0 fit\n"),
-        (MOVE, b"follow refused 0 no-such-job\n"),
-    ];
-    for (frame, text) in table {
-        let told = follow(alloc, &[frame], b"")?;
-        assert_eq!(rt; told.out.bytes(), text);
-        assert_eq!(rt; told.status, 10);
-    }
-    let short = follow(alloc, &[LOAD], &[0; 23])?;
-    assert_eq!(rt; short.status, 5);
-    let text: &[u8] = b"frames refused\n";
-    assert_eq!(rt; short.out.bytes(), text);
     Ok(())
 }

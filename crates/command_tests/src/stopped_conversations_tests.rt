@@ -1,6 +1,7 @@
 //! Conversations that stop after each call of the disk, each put and each read. On each file that a crash may then leave a new conversation
 //! is asked how many grants each session has. No session asks for two steps in one group, so it is told the number that it was told of,
 //! or one more; and of each group all grants are there, or none.
+use crate::same::assert_same;
 use cell_base::List;
 use cell_texts::CommandEnd;
 use cell_walks::Status;
@@ -79,11 +80,11 @@ fn each_session_is_told_the_grants_it_was_told_of_or_one_more(rt: HostRuntime) -
     for (stop, status, calls, picks) in STOPS {
         for made in 0..calls {
             let held = hold_stopped(&rt, alloc, stop, made)?;
-            assert_eq!(rt; held.status, status);
+            assert_same(&rt, held.status, status);
             check_files(&rt, alloc, &held, picks)?;
         }
         let held = hold_stopped(&rt, alloc, stop, calls)?;
-        assert_eq!(rt; held.status, Status::Done);
+        assert_same(&rt, held.status, Status::Done);
         check_files(&rt, alloc, &held, picks)?;
     }
     Ok(())

@@ -1,4 +1,5 @@
 //! Cell files as they are read and printed.
+use crate::same::assert_same;
 use cell_file::{CellFault, print_cell, read_cell};
 use std::alloc::Global;
 use std::test::Fail;
@@ -65,25 +66,25 @@ route = [\"IN:hold\", \"M6\", \"M4\", \"M2\", \"M5\", \"M3\", \"OUT:hold\"]
 #[test]
 fn reads_two_types(rt: HostRuntime) -> Result<(), Fail> {
     let cell = read_cell(rt.alloc(), CROSSING)?;
-    assert_eq!(rt; cell.resources.len(), 2);
-    assert_eq!(rt; cell.types.len(), 2);
+    assert_same(&rt, cell.resources.len(), 2);
+    assert_same(&rt, cell.types.len(), 2);
     for (i, resource) in cell.resources.as_slice().iter().enumerate() {
         let name = if i == 0 { "M1" } else { "M2" };
-        assert_eq!(rt; resource.name.bytes(), name.as_bytes());
-        assert_eq!(rt; resource.capacity, 1);
-        assert_eq!(rt; resource.order, if i == 0 { 1 } else { 2 });
+        assert_same(&rt, resource.name.bytes(), name.as_bytes());
+        assert_same(&rt, resource.capacity, 1);
+        assert_same(&rt, resource.order, if i == 0 { 1 } else { 2 });
     }
     for (i, job_type) in cell.types.as_slice().iter().enumerate() {
         let name = if i == 0 { "A" } else { "Z" };
-        assert_eq!(rt; job_type.name.bytes(), name.as_bytes());
+        assert_same(&rt, job_type.name.bytes(), name.as_bytes());
         for (k, step) in job_type.route.as_slice().iter().enumerate() {
             let on = if i == k { 0 } else { 1 };
-            assert_eq!(rt; step.on.0, on);
+            assert_same(&rt, step.on.0, on);
             assert!(rt; step.works);
         }
         for (k, next) in job_type.next.as_slice().iter().enumerate() {
             let wanted: &[u16] = if k == 0 { &[1] } else { &[] };
-            assert_eq!(rt; next.as_slice(), wanted);
+            assert_same(&rt, next.as_slice(), wanted);
         }
     }
     Ok(())
@@ -92,14 +93,14 @@ fn reads_two_types(rt: HostRuntime) -> Result<(), Fail> {
 #[test]
 fn reads_branches_and_a_held_step(rt: HostRuntime) -> Result<(), Fail> {
     let cell = read_cell(rt.alloc(), CELL_Y.as_bytes())?;
-    assert_eq!(rt; cell.types.len(), 1);
+    assert_same(&rt, cell.types.len(), 1);
     for job_type in cell.types.as_slice() {
         for (k, step) in job_type.route.as_slice().iter().enumerate() {
-            assert_eq!(rt; step.works, k != 1);
+            assert_same(&rt, step.works, k != 1);
         }
         for (k, next) in job_type.next.as_slice().iter().enumerate() {
             let successors: &[u16] = if k == 0 { &[1, 2] } else { &[] };
-            assert_eq!(rt; next.as_slice(), successors);
+            assert_same(&rt, next.as_slice(), successors);
         }
     }
     Ok(())
@@ -123,7 +124,7 @@ fn prints_the_least_version(rt: HostRuntime) -> Result<(), Fail> {
     for (text, start) in cells {
         let (first, second) = printed_twice(rt.alloc(), text)?;
         assert!(rt; first.as_str().starts_with(start));
-        assert_eq!(rt; first.as_str(), second.as_str());
+        assert_same(&rt, first.as_str(), second.as_str());
     }
     Ok(())
 }

@@ -12,6 +12,8 @@ mod record_text_reading_tests;
 #[cfg(test)]
 mod record_text_tests;
 #[cfg(test)]
+mod same;
+#[cfg(test)]
 mod shift_checker_tests;
 #[cfg(test)]
 mod shift_file_tests;

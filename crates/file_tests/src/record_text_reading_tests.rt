@@ -1,4 +1,5 @@
 //! Texts that are read, and the bad lines of others.
+use crate::same::assert_same;
 use cell_base::{Cell, JobType, List, Name, NoMemory, ResId, Step, cell_fits};
 use record_text::{RecordFault, read_record};
 use std::alloc::Global;
@@ -94,7 +95,7 @@ fn records_and_bad_lines(rt: HostRuntime) -> Result<(), Fail> {
         (b"shift 1 after 0\n1 process M1 halted\nleft 0\n", Some(3)),
     ];
     for (text, line) in table {
-        assert_eq!(rt; bad_line(rt.alloc(), text)?, line);
+        assert_same(&rt, bad_line(rt.alloc(), text)?, line);
     }
     Ok(())
 }

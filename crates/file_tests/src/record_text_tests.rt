@@ -2,6 +2,7 @@
 ghost use Rattle.std.specs.Prelude.{IsTrue};
 ghost use Rattle.record_text.specs.Fitting.{ToldFits, EntryFits};
 
+use crate::same::assert_same;
 use cell_base::{
     Cell, Entry, JobId, List, NoMemory, Refusal, Reply, Request, ResId, Told, TypeId, request_fits,
 };
@@ -112,7 +113,7 @@ fn first_lines_of_a_record(rt: HostRuntime) -> Result<(), Fail> {
         (left, b"left 1\n"),
     ];
     for (line, text) in &table {
-        assert_eq!(rt; line.bytes(), *text);
+        assert_same(&rt, line.bytes(), *text);
     }
     Ok(())
 }
@@ -139,7 +140,7 @@ fn each_entry_has_its_line(rt: HostRuntime) -> Result<(), Fail> {
     ];
     for (session, request, text) in requests {
         let line = printed(&cell, session, request, Told::Answered(Reply::Granted));
-        assert_eq!(rt; line.as_ref().map(|line| line.bytes()), Some(text));
+        assert_same(&rt, line.as_ref().map(|line| line.bytes()), Some(text));
     }
     let answers: [(Told, &[u8]); 3] = [
         (Told::Halted, b"1 move 7 halted\n"),
@@ -154,7 +155,7 @@ fn each_entry_has_its_line(rt: HostRuntime) -> Result<(), Fail> {
     ];
     for (told, text) in answers {
         let line = printed(&cell, 1, move_by(0), told);
-        assert_eq!(rt; line.as_ref().map(|line| line.bytes()), Some(text));
+        assert_same(&rt, line.as_ref().map(|line| line.bytes()), Some(text));
     }
     Ok(())
 }
@@ -167,9 +168,10 @@ fn each_plain_refusal_has_its_word(rt: HostRuntime) -> Result<(), Fail> {
         wanted.word(refusal_word(&why));
         let wanted = wanted.end();
         let line = printed(&cell, 1, move_by(0), refused(why));
-        assert_eq!(rt;
+        assert_same(
+            &rt,
             line.as_ref().map(|line| line.bytes()),
-            Some(wanted.bytes())
+            Some(wanted.bytes()),
         );
     }
     Ok(())
@@ -182,8 +184,8 @@ fn longest_line_of_a_record(rt: HostRuntime) -> Result<(), Fail> {
     let line = printed(&cell, u16::MAX, place(u32::MAX, 1, 63, false), most);
     let text: &[u8] = b"65535 place 4294967295 a-type-of-parts-of-as-many-bytes 63 waiting \
 refused saturated a-machine-of-thirty-two-bytes__1 4294967295 of 4294967295\n";
-    assert_eq!(rt; line.as_ref().map(|line| line.bytes()), Some(text));
-    assert_eq!(rt; text.len(), 143);
+    assert_same(&rt, line.as_ref().map(|line| line.bytes()), Some(text));
+    assert_same(&rt, text.len(), 143);
     Ok(())
 }
 
@@ -207,7 +209,7 @@ fn other_lines(rt: HostRuntime) -> Result<(), Fail> {
         (step_line(&cell, &step), b"move 7 1\n"),
     ];
     for (line, text) in &table {
-        assert_eq!(rt; line.bytes(), *text);
+        assert_same(&rt, line.bytes(), *text);
     }
     Ok(())
 }

@@ -1,4 +1,5 @@
 //! Verdicts on records of a small cell.
+use crate::same::assert_same;
 use cell_base::{NoMemory, ResId, cell_fits};
 use record_text::{RecordFault, read_record};
 use shift_checker::{Verdict, Why, check, check_text};
@@ -80,8 +81,8 @@ shift 1 after 2\n1 move 7 granted\n1 process M2 granted\n1 unload 7 granted\nlef
         ),
     ];
     for (text, verdict) in table {
-        assert_eq!(rt; verdict_on(rt.alloc(), text)?, verdict);
-        assert_eq!(rt; verdict_as_read(rt.alloc(), text)?, verdict);
+        assert_same(&rt, verdict_on(rt.alloc(), text)?, verdict);
+        assert_same(&rt, verdict_as_read(rt.alloc(), text)?, verdict);
     }
     Ok(())
 }

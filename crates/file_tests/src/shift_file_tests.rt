@@ -1,4 +1,5 @@
 //! Scripts as a shift file tells them, and texts that are no steps.
+use crate::same::assert_same;
 use cell_base::{
     Cell, JobId, JobType, List, Name, NoMemory, Request, ResId, Shift, Step, TypeId, cell_fits,
 };
@@ -96,7 +97,7 @@ fn scripts(rt: HostRuntime) -> Result<(), Fail> {
     for (session, steps) in cases {
         let text = text_of(alloc, 3, session)?;
         let shift = read_shift(alloc, &cell, text.as_bytes())?;
-        assert_eq!(rt; shift.patience, 3);
+        assert_same(&rt, shift.patience, 3);
         assert!(rt; has_script(&shift, steps), "{session}");
     }
     Ok(())

@@ -1,7 +1,7 @@
 //! What no clause says: that memory is had, and that a durable cell may go to another thread. The cell has one machine.
-use cell_base::{
-    Grant, JobId, List, Refusal, Reply, Request, ResId, TypeId, cell_fits, request_fits,
-};
+use crate::job::{LOAD, PROCESS, UNLOAD};
+use crate::same::assert_same;
+use cell_base::{Grant, List, Refusal, Reply, Request, cell_fits, request_fits};
 use durable_cell::{AskFault, Durable, Opening};
 use outside_io::{CallKind, Disk, DiskCall, MemDisk};
 use std::alloc::Global;
@@ -18,15 +18,6 @@ struct Outcome {
     parts: u32,
     found: u64,
 }
-
-const LOAD: Request = Request::Load {
-    job: JobId(7),
-    kind: TypeId(0),
-};
-
-const PROCESS: Request = Request::Process { machine: ResId(0) };
-
-const UNLOAD: Request = Request::Unload { job: JobId(7) };
 
 const GRANTED: Answer = Ok(Reply::Granted);
 
@@ -116,7 +107,7 @@ fn grants_are_found_again(rt: HostRuntime) -> Result<(), Fail> {
         parts: 0,
         found: 3,
     };
-    assert_eq!(rt; outcome, expected);
+    assert_same(&rt, outcome, expected);
     Ok(())
 }
 
@@ -133,7 +124,7 @@ fn a_failed_write_halts(rt: HostRuntime) -> Result<(), Fail> {
         parts: 1,
         found: 1,
     };
-    assert_eq!(rt; outcome, expected);
+    assert_same(&rt, outcome, expected);
     Ok(())
 }
 
@@ -145,6 +136,6 @@ fn an_opening_has_the_grants_in_their_order(rt: HostRuntime) -> Result<(), Fail>
     assert!(rt; as_listed && durable.opening().is_empty());
     let again = opened(alloc, durable.finish().disk)?;
     let expected = [granted(LOAD), granted(PROCESS), granted(UNLOAD)];
-    assert_eq!(rt; again.opening(), expected.as_slice());
+    assert_same(&rt, again.opening(), expected.as_slice());
     Ok(())
 }

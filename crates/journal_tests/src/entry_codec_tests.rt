@@ -1,4 +1,5 @@
 //! Records as bytes, both ways.
+use crate::same::assert_same;
 use cell_base::{Grant, JobId, Request, ResId, TypeId};
 use entry_codec::{decode, encode};
 
@@ -13,42 +14,43 @@ fn granted(shift: u32, session: u16, request: Request) -> Grant {
 #[test]
 fn each_kind_is_read_back(rt: HostRuntime) {
     let job = JobId(7);
-    let load = granted(
-        1,
-        1,
-        Request::Load {
-            job,
-            kind: TypeId(0),
-        },
-    );
-    let bytes = [1, 0, 0, 1, 0, 0, 0, 1, 0, 0, 0, 7, 0, 0, 0, 0];
-    assert!(rt; decode(&bytes) == Some(load));
-    assert!(rt; encode(&load) == bytes);
-    let process = granted(1, 2, Request::Process { machine: ResId(1) });
-    let bytes = [2, 0, 0, 2, 0, 0, 0, 1, 0, 0, 0, 0, 0, 0, 0, 1];
-    assert!(rt; decode(&bytes) == Some(process));
-    assert!(rt; encode(&process) == bytes);
-    let moved = granted(1, 1, Request::Move { job, branch: 0 });
-    let bytes = [3, 0, 0, 1, 0, 0, 0, 1, 0, 0, 0, 7, 0, 0, 0, 0];
-    assert!(rt; decode(&bytes) == Some(moved));
-    assert!(rt; encode(&moved) == bytes);
-    let branched = granted(1, 1, Request::Move { job, branch: 1 });
-    let bytes = [3, 0, 0, 1, 0, 0, 0, 1, 0, 0, 0, 7, 0, 0, 0, 1];
-    assert!(rt; decode(&bytes) == Some(branched));
-    assert!(rt; encode(&branched) == bytes);
-    let placed = granted(
-        0,
-        0,
-        Request::Place {
-            job,
-            kind: TypeId(0),
-            place: 1,
-            done: false,
-        },
-    );
-    let bytes = [5, 0, 0, 0, 0, 0, 0, 0, 0, 0, 0, 7, 0, 0, 0, 1];
-    assert!(rt; decode(&bytes) == Some(placed));
-    assert!(rt; encode(&placed) == bytes);
+    let kind = TypeId(0);
+    let machine = ResId(1);
+    let load = Request::Load { job, kind };
+    let on = Request::Move { job, branch: 0 };
+    let aside = Request::Move { job, branch: 1 };
+    let placed = Request::Place {
+        job,
+        kind,
+        place: 1,
+        done: false,
+    };
+    let table = [
+        (
+            granted(1, 1, load),
+            [1, 0, 0, 1, 0, 0, 0, 1, 0, 0, 0, 7, 0, 0, 0, 0],
+        ),
+        (
+            granted(1, 2, Request::Process { machine }),
+            [2, 0, 0, 2, 0, 0, 0, 1, 0, 0, 0, 0, 0, 0, 0, 1],
+        ),
+        (
+            granted(1, 1, on),
+            [3, 0, 0, 1, 0, 0, 0, 1, 0, 0, 0, 7, 0, 0, 0, 0],
+        ),
+        (
+            granted(1, 1, aside),
+            [3, 0, 0, 1, 0, 0, 0, 1, 0, 0, 0, 7, 0, 0, 0, 1],
+        ),
+        (
+            granted(0, 0, placed),
+            [5, 0, 0, 0, 0, 0, 0, 0, 0, 0, 0, 7, 0, 0, 0, 1],
+        ),
+    ];
+    for (grant, bytes) in table {
+        assert_eq!(rt; decode(&bytes), Some(grant));
+        assert_same(&rt, encode(&grant), bytes);
+    }
 }
 
 #[test]

@@ -1,4 +1,5 @@
 //! The same lines for each way in which a text may come.
+use crate::same::assert_same;
 use cell_base::{List, NoMemory};
 use input_lines::InputLines;
 use outside_io::{MemDisk, MemSink, MemSource};
@@ -47,7 +48,7 @@ fn barred(alloc: Global, piece: usize) -> Result<Vec<u8>, Fail> {
 fn lines_are_the_same_for_each_size_of_the_pieces(rt: HostRuntime) -> Result<(), Fail> {
     for piece in [1, 2, 3, 7, 11, 12, 66, 67, 68, 4096] {
         let lines = barred(rt.alloc(), piece)?;
-        assert_eq!(rt; lines.as_slice(), LINES);
+        assert_same(&rt, lines.as_slice(), LINES);
     }
     Ok(())
 }
@@ -68,6 +69,6 @@ fn a_read_that_fails_loses_nothing(rt: HostRuntime) -> Result<(), Fail> {
             given.push(b'!')?;
         }
     }
-    assert_eq!(rt; given.as_slice(), b"!left".as_slice());
+    assert_same(&rt, given.as_slice(), b"!left".as_slice());
     Ok(())
 }

@@ -14,6 +14,8 @@ mod entry_codec_tests;
 #[cfg(test)]
 mod input_lines_tests;
 #[cfg(test)]
+mod job;
+#[cfg(test)]
 mod live_cell_tests;
 #[cfg(test)]
 mod outside_io_disk_tests;
@@ -21,6 +23,8 @@ mod outside_io_disk_tests;
 mod outside_io_tests;
 #[cfg(test)]
 mod real_outside_tests;
+#[cfg(test)]
+mod same;
 #[cfg(test)]
 mod shift_recovery_tests;
 #[cfg(test)]

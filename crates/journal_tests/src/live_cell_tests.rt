@@ -1,9 +1,9 @@
 //! What no clause says: that memory is had, and what a group whose writing failed leaves. The cell has one machine.
 ghost use Rattle.std.specs.Prelude.{◌≡◌, false, IfOk};
 
-use cell_base::{
-    Grant, JobId, List, Refusal, Reply, Request, ResId, TypeId, cell_fits, request_fits,
-};
+use crate::job::{JOB, LOAD, PROCESS, UNLOAD};
+use crate::same::assert_same;
+use cell_base::{Grant, List, Refusal, Reply, Request, cell_fits, request_fits};
 use live_cell::{JournalFull, LiveCell, LiveParts, OpenedLive};
 use outside_io::{CallKind, Disk, DiskCall, MemDisk};
 use shift_recovery::{OpenError, OpenFault};
@@ -12,15 +12,6 @@ use std::test::Fail;
 use test_fixtures::cell_of_one;
 
 type Answer = Result<Reply, JournalFull>;
-
-const LOAD: Request = Request::Load {
-    job: JobId(7),
-    kind: TypeId(0),
-};
-
-const PROCESS: Request = Request::Process { machine: ResId(0) };
-
-const UNLOAD: Request = Request::Unload { job: JobId(7) };
 
 const GRANTED: Answer = Ok(Reply::Granted);
 
@@ -108,17 +99,17 @@ fn a_group_is_found_again(rt: HostRuntime) -> Result<(), Fail> {
     let alloc = rt.alloc();
     let mut live = opened_anew(alloc, 8)?;
     assert!(rt; goes_through(&mut live));
-    assert_eq!(rt; (live.len(), live.spare()), (0, 1));
-    assert_eq!(rt; live.commit(), Ok(()));
-    assert_eq!(rt; (live.len(), live.spare()), (3, 4));
+    assert_same(&rt, (live.len(), live.spare()), (0, 1));
+    assert_same(&rt, live.commit(), Ok(()));
+    assert_same(&rt, (live.len(), live.spare()), (3, 4));
     let LiveParts { core, disk } = sent(live).finish();
-    assert_eq!(rt; core.parts_left(), 0);
-    let expected = [LOAD, PROCESS, UNLOAD].map(|request| Grant {
+    assert_same(&rt, core.parts_left(), 0);
+    let expected = JOB.map(|request| Grant {
         shift: 0,
         session: 2,
         request,
     });
-    assert_eq!(rt; found(alloc, disk)?.as_slice(), expected.as_slice());
+    assert_same(&rt, found(alloc, disk)?.as_slice(), expected.as_slice());
     Ok(())
 }
 
@@ -131,7 +122,7 @@ fn a_full_journal_takes_no_grant_and_refuses_on(rt: HostRuntime) -> Result<(), F
     assert!(rt; is_told(&mut live, &LOAD, LOADED));
     assert_eq!(rt; live.commit(), Ok(()));
     assert!(rt; is_told(&mut live, &UNLOAD, Err(JournalFull)));
-    assert_eq!(rt; live.len(), 2);
+    assert_same(&rt, live.len(), 2);
     Ok(())
 }
 

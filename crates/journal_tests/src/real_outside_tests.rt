@@ -1,4 +1,5 @@
 //! What no clause says: what the calls do to real files, in the folder that a test runs in. `checks/real-outside` tests the rest.
+use crate::same::assert_same;
 use journal_disk::{FileDisk, Purpose};
 use outside_io::{Disk, Failed, FileFail, Files, Pace, Sink, Source};
 use real_outside::{DirFiles, InSource, OutSink, RestPace};
@@ -19,18 +20,20 @@ fn a_file_is_read_up_to_its_limit(rt: HostRuntime) -> Result<(), Fail> {
         (10, "version = 1"),
         (4294967295, "version = 1"),
     ] {
-        assert_eq!(rt;
+        assert_same(
+            &rt,
             files.read_file(rt.alloc(), "read.toml", limit, &mut out),
-            Ok(())
+            Ok(()),
         );
-        assert_eq!(rt; out.as_slice(), wanted.as_bytes());
+        assert_same(&rt, out.as_slice(), wanted.as_bytes());
     }
     for name in ["absent.toml", ".", ""] {
-        assert_eq!(rt;
+        assert_same(
+            &rt,
             files.read_file(rt.alloc(), name, 6, &mut out),
-            Err(FileFail::Failed)
+            Err(FileFail::Failed),
         );
-        assert_eq!(rt; out.len(), 0);
+        assert_same(&rt, out.len(), 0);
     }
     fs::remove_file(&rt, "read.toml")?;
     Ok(())
@@ -46,30 +49,38 @@ fn a_journal_is_written_and_read_back(rt: HostRuntime) -> Result<(), Fail> {
     let mut bytes = [0u8; 4];
     {
         let mut disk = may_be_sent(FileDisk::new(&rt, alloc, "journal", Purpose::ToAdd, false));
-        assert_eq!(rt; disk.len(), Ok(0));
-        assert_eq!(rt; disk.write_at(0, b"abc"), Ok(()));
-        assert_eq!(rt; disk.sync(), Ok(()));
-        assert_eq!(rt; disk.write_at(2, b"de"), Ok(()));
-        assert_eq!(rt; disk.read_at(0, &mut bytes), Ok(()));
-        assert_eq!(rt; bytes.as_slice(), b"abde".as_slice());
-        assert_eq!(rt; disk.read_at(1, &mut bytes), Err(Failed));
-        assert_eq!(rt;
-            FileDisk::new(&rt, alloc, "journal", Purpose::ToAdd, false).len(),
-            Err(Failed)
-        );
-        let mut one = FileDisk::new(&rt, alloc, "journal", Purpose::ToRead, false);
-        let mut other = FileDisk::new(&rt, alloc, "journal", Purpose::ToRead, false);
-        assert_eq!(rt; one.sync(), Ok(()));
-        assert_eq!(rt; other.len(), Ok(4));
-        assert_eq!(rt; one.write_at(0, b"x"), Err(Failed));
-        assert_eq!(rt; (disk.was_absent(), one.was_absent()), (true, false));
+        assert_same(&rt, disk.len(), Ok(0));
+        assert_same(&rt, disk.write_at(0, b"abc"), Ok(()));
+        assert_same(&rt, disk.sync(), Ok(()));
+        assert_same(&rt, disk.write_at(2, b"de"), Ok(()));
+        assert_same(&rt, disk.read_at(0, &mut bytes), Ok(()));
+        assert_same(&rt, bytes.as_slice(), b"abde".as_slice());
+        assert_same(&rt, disk.read_at(1, &mut bytes), Err(Failed));
+        assert!(rt; disk.was_absent());
     }
-    let mut looked = FileDisk::new(&rt, alloc, "journal", Purpose::ToRead, false);
-    assert_eq!(rt; looked.len(), Ok(4));
     let mut disk = FileDisk::new(&rt, alloc, "journal", Purpose::ToAdd, false);
-    assert_eq!(rt; disk.len(), Ok(4));
-    assert_eq!(rt; disk.was_absent(), false);
+    assert_same(&rt, disk.len(), Ok(4));
+    assert!(rt; !disk.was_absent());
     fs::remove_file(&rt, "journal")?;
+    Ok(())
+}
+
+#[test]
+fn a_journal_has_one_writer_and_any_readers(rt: HostRuntime) -> Result<(), Fail> {
+    let alloc = rt.alloc();
+    fs::write(&rt, "shared", "abde")?;
+    let mut reader = FileDisk::new(&rt, alloc, "shared", Purpose::ToRead, false);
+    assert_same(&rt, reader.len(), Ok(4));
+    let mut writer = FileDisk::new(&rt, alloc, "shared", Purpose::ToAdd, false);
+    assert_same(&rt, writer.len(), Ok(4));
+    for (purpose, len) in [(Purpose::ToAdd, Err(Failed)), (Purpose::ToRead, Ok(4))] {
+        let other = FileDisk::new(&rt, alloc, "shared", purpose, false).len();
+        assert_same(&rt, other, len);
+    }
+    assert_same(&rt, reader.sync(), Ok(()));
+    assert_same(&rt, reader.write_at(0, b"x"), Err(Failed));
+    assert!(rt; !reader.was_absent());
+    fs::remove_file(&rt, "shared")?;
     Ok(())
 }
 
@@ -78,15 +89,21 @@ const CLOSED: &[u8; 31] = b"\x01RUNCELL1\0\0\0\0\x000123456789abcdef\0";
 
 const OPEN: &[u8; 31] = b"\x01RUNCELL1\0\0\0\0\x010123456789abcdef\0";
 
+// Writes these bytes from the start of a file on.
+fn write_over(rt: &HostRuntime, name: &str, bytes: &[u8]) -> Result<(), Fail> {
+    fs::OpenOptions::new()
+        .write(true)
+        .open(rt, name)?
+        .write_all_at(bytes, 0)?;
+    Ok(())
+}
+
 // The bytes that a look at a file of these bytes reads, where others stand there before it reads.
 fn looked(rt: &HostRuntime, before: &[u8], after: &[u8]) -> Result<Vec<u8>, Fail> {
     fs::write(rt, "looked", before)?;
     let mut look = FileDisk::new(rt, rt.alloc(), "looked", Purpose::ToRead, false);
     let _ = look.len()?;
-    fs::OpenOptions::new()
-        .write(true)
-        .open(rt, "looked")?
-        .write_all_at(after, 0)?;
+    write_over(rt, "looked", after)?;
     let mut read = vec![in rt.alloc(); 9; before.len()]?;
     let (first, rest) = read.split_at_mut(before.len() / 2);
     look.read_at(0, first)?;
@@ -103,9 +120,10 @@ fn a_look_ends_where_the_journal_ended_when_it_began(rt: HostRuntime) -> Result<
         let last = if length <= 13 { 0 } else { 13 };
         let mut wanted = *OPEN;
         wanted[last] = 0;
-        assert_eq!(rt;
+        assert_same(
+            &rt,
             looked(&rt, &CLOSED[..length], OPEN)?.as_slice(),
-            &wanted[..length]
+            &wanted[..length],
         );
     }
     // What hasn't grown is read as it is, and so is what is no journal.
@@ -114,46 +132,57 @@ fn a_look_ends_where_the_journal_ended_when_it_began(rt: HostRuntime) -> Result<
         (&OPEN[..20], &OPEN[..20], &OPEN[..20]),
         (b"log", b"log of somebody", b"log"),
     ] {
-        assert_eq!(rt; looked(&rt, before, after)?.as_slice(), wanted);
+        assert_same(&rt, looked(&rt, before, after)?.as_slice(), wanted);
     }
     Ok(())
 }
 
 #[test]
-fn a_file_that_is_cut_shorter_or_exchanged_is_a_fault(rt: HostRuntime) -> Result<(), Fail> {
+fn a_file_that_is_cut_shorter_is_a_fault(rt: HostRuntime) -> Result<(), Fail> {
     fs::write(&rt, "cut", "abcd")?;
     let mut look = FileDisk::new(&rt, rt.alloc(), "cut", Purpose::ToRead, false);
-    assert_eq!(rt; look.len(), Ok(4));
+    assert_same(&rt, look.len(), Ok(4));
     fs::write(&rt, "cut", "abc")?;
-    assert_eq!(rt; look.read_at(0, &mut [0]), Err(Failed));
-    assert_eq!(rt; look.sync(), Err(Failed));
-    let mut look = FileDisk::new(&rt, rt.alloc(), "cut", Purpose::ToRead, false);
-    assert_eq!(rt; look.sync(), Ok(()));
-    fs::write(&rt, "other", "abc")?;
-    fs::rename(&rt, "other", "cut")?;
-    assert_eq!(rt; look.sync(), Err(Failed));
+    assert_same(&rt, look.read_at(0, &mut [0]), Err(Failed));
+    assert_same(&rt, look.sync(), Err(Failed));
     fs::remove_file(&rt, "cut")?;
-    assert_eq!(rt; look.sync(), Err(Failed));
     Ok(())
 }
 
 #[test]
-fn only_a_regular_file_is_a_journal(rt: HostRuntime) -> Result<(), Fail> {
+fn a_file_that_is_exchanged_is_a_fault(rt: HostRuntime) -> Result<(), Fail> {
+    fs::write(&rt, "first", "abc")?;
+    let mut look = FileDisk::new(&rt, rt.alloc(), "first", Purpose::ToRead, false);
+    assert_same(&rt, look.sync(), Ok(()));
+    fs::write(&rt, "second", "abc")?;
+    fs::rename(&rt, "second", "first")?;
+    assert_same(&rt, look.sync(), Err(Failed));
+    fs::remove_file(&rt, "first")?;
+    assert_same(&rt, look.sync(), Err(Failed));
+    Ok(())
+}
+
+#[test]
+fn only_a_regular_file_is_a_journal(rt: HostRuntime) {
     for name in [".", "/dev/null", "", "absent/journal"] {
         let mut disk = FileDisk::new(&rt, rt.alloc(), name, Purpose::ToAdd, false);
-        assert_eq!(rt; disk.write_at(0, b"a"), Err(Failed));
-        assert_eq!(rt; disk.sync(), Err(Failed));
+        assert_same(&rt, disk.write_at(0, b"a"), Err(Failed));
+        assert_same(&rt, disk.sync(), Err(Failed));
     }
     for name in [".", "/dev/null", ""] {
         let mut disk = FileDisk::new(&rt, rt.alloc(), name, Purpose::ToRead, false);
-        assert_eq!(rt; disk.len(), Err(Failed));
+        assert_same(&rt, disk.len(), Err(Failed));
     }
+}
+
+#[test]
+fn an_absent_file_is_read_as_an_empty_one(rt: HostRuntime) -> Result<(), Fail> {
     let mut disk = FileDisk::new(&rt, rt.alloc(), "absent", Purpose::ToRead, false);
-    assert_eq!(rt; disk.sync(), Ok(()));
-    assert_eq!(rt; disk.len(), Ok(0));
-    assert_eq!(rt; disk.read_at(0, &mut []), Ok(()));
-    assert_eq!(rt; disk.read_at(0, &mut [0]), Err(Failed));
-    assert_eq!(rt; disk.write_at(0, b"a"), Err(Failed));
+    assert_same(&rt, disk.sync(), Ok(()));
+    assert_same(&rt, disk.len(), Ok(0));
+    assert_same(&rt, disk.read_at(0, &mut []), Ok(()));
+    assert_same(&rt, disk.read_at(0, &mut [0]), Err(Failed));
+    assert_same(&rt, disk.write_at(0, b"a"), Err(Failed));
     assert!(rt; disk.was_absent());
     assert!(rt; !fs::exists(&rt, "absent")?);
     Ok(())
@@ -194,10 +223,10 @@ fn a_put_writes_all_or_fails(rt: HostRuntime) -> Result<(), Fail> {
         was_interrupted: false,
     };
     let mut out = OutSink::new(&mut writer);
-    assert_eq!(rt; out.put(b"yes\n"), Ok(()));
-    assert_eq!(rt; out.put(b"no!\n"), Err(Failed));
-    assert_eq!(rt; out.flush(), Ok(()));
-    assert_eq!(rt; writer.taken.as_slice(), b"yes\nno".as_slice());
+    assert_same(&rt, out.put(b"yes\n"), Ok(()));
+    assert_same(&rt, out.put(b"no!\n"), Err(Failed));
+    assert_same(&rt, out.flush(), Ok(()));
+    assert_same(&rt, writer.taken.as_slice(), b"yes\nno".as_slice());
     Ok(())
 }
 
@@ -228,11 +257,11 @@ fn a_read_that_a_signal_cuts_short_is_made_again(rt: HostRuntime) -> Result<(), 
     let mut reader = Broken { calls: 0 };
     let mut source = InSource::new(&mut reader);
     let mut bytes = [0u8; 4];
-    assert_eq!(rt; source.next_piece(&mut bytes), Ok(2));
-    assert_eq!(rt; bytes.as_slice(), b"ok\0\0".as_slice());
-    assert_eq!(rt; source.next_piece(&mut bytes), Err(Failed));
-    assert_eq!(rt; source.next_piece(&mut bytes), Ok(0));
-    assert_eq!(rt; reader.calls, 4);
+    assert_same(&rt, source.next_piece(&mut bytes), Ok(2));
+    assert_same(&rt, bytes.as_slice(), b"ok\0\0".as_slice());
+    assert_same(&rt, source.next_piece(&mut bytes), Err(Failed));
+    assert_same(&rt, source.next_piece(&mut bytes), Ok(0));
+    assert_same(&rt, reader.calls, 4);
     Ok(())
 }
 

@@ -1,4 +1,5 @@
 //! What no clause says: that a journal is made and found again with memory at hand. `crashes` has the other cases.
+use crate::same::assert_same;
 use cell_base::{Grant, JobId, List, Request};
 use outside_io::MemDisk;
 use shift_recovery::{Opened, recover};
@@ -26,7 +27,7 @@ fn a_journal_is_made_and_found_again(rt: HostRuntime) -> Result<(), Fail> {
     let Opened::Found { journal, grants } = recover(alloc, journal.into_disk(), b"cell", 8) else {
         return Err(Fail::from("not found"));
     };
-    assert_eq!(rt; journal.len(), 1);
-    assert_eq!(rt; grants.as_slice(), [grant].as_slice());
+    assert_same(&rt, journal.len(), 1);
+    assert_same(&rt, grants.as_slice(), [grant].as_slice());
     Ok(())
 }

@@ -1,6 +1,7 @@
 //! A frame's bytes both ways, from outside, what a feeder hears, and what a follower answers. The cell has one machine.
 ghost use Rattle.std.specs.Prelude.{◌≡◌, [], IfOk};
 
+use crate::same::assert_same;
 use cell_base::{Grant, JobId, List, Refusal, Request, ResId, TypeId, cell_fits};
 use durable_cell::{Durable, Opening};
 use outside_io::MemDisk;
@@ -65,12 +66,12 @@ const SECOND: [u8; 24] = [
 #[test]
 fn frames_go_and_answers_come(rt: HostRuntime) -> Result<(), Fail> {
     let mut feeder = Feeder::new(List::copy_of(rt.alloc(), &GRANTS)?);
-    assert!(rt; feeder.len() == 2);
-    assert!(rt; feeder.frame(1) == SECOND);
-    assert_eq!(rt; feeder.heard(3), Err(TooFar { len: 2 }));
-    assert_eq!(rt; feeder.heard(2), Ok(()));
-    assert_eq!(rt; feeder.heard(1), Ok(()));
-    assert_eq!(rt; feeder.known(), 2);
+    assert_same(&rt, feeder.len(), 2);
+    assert_same(&rt, feeder.frame(1), SECOND);
+    assert_same(&rt, feeder.heard(3), Err(TooFar { len: 2 }));
+    assert_same(&rt, feeder.heard(2), Ok(()));
+    assert_same(&rt, feeder.heard(1), Ok(()));
+    assert_same(&rt, feeder.known(), 2);
     Ok(())
 }
 
@@ -80,8 +81,8 @@ fn bytes_are_read_as_a_frame(rt: HostRuntime) {
         index: 1,
         grant: GRANTS[1],
     };
-    assert_eq!(rt; Frame::from_bytes(&SECOND), Some(second));
-    assert_eq!(rt; Frame::from_bytes(&[0; 24]), None);
+    assert_same(&rt, Frame::from_bytes(&SECOND), Some(second));
+    assert_same(&rt, Frame::from_bytes(&[0; 24]), None);
 }
 
 // A durable cell in which nothing was decided.
@@ -120,10 +121,10 @@ fn takes_as_listed(follower: &mut Follower<MemDisk>) -> bool {
 fn frames_are_taken(rt: HostRuntime) -> Result<(), Fail> {
     let mut follower = follower(rt.alloc())?;
     assert!(rt; takes_as_listed(&mut follower));
-    assert!(rt; follower.grants() == GRANTS.as_slice());
+    assert_same(&rt, follower.grants(), GRANTS.as_slice());
     let finished = follower.into_durable().finish();
     let again = opened(rt.alloc(), finished.disk)?;
-    assert!(rt; again.held() == 2);
-    assert!(rt; again.opening() == GRANTS.as_slice());
+    assert_same(&rt, again.held(), 2);
+    assert_same(&rt, again.opening(), GRANTS.as_slice());
     Ok(())
 }

@@ -1,4 +1,5 @@
 //! Two parts on a cell of two machines: in each other's way, and one after the other.
+use crate::same::assert_same;
 use banker_check::{Hybrid, HybridReply};
 use cell_base::{JobId, Request, ResId, TypeId, cell_fits, request_fits};
 use std::test::Fail;
@@ -18,7 +19,7 @@ fn blocks_opposite_parts(rt: HostRuntime) -> Result<(), Fail> {
     let mut hybrid = Hybrid::open(rt.alloc(), cell)?;
     let (first, second) = (load(7, 0), load(8, 1));
     assert!(rt; request_fits(hybrid.cell(), &first));
-    assert_eq!(rt; hybrid.ask(&first), HybridReply::Granted);
+    assert_same(&rt, hybrid.ask(&first), HybridReply::Granted);
     assert!(rt; request_fits(hybrid.cell(), &second));
     let blocked = HybridReply::Blocked {
         at: ResId(1),
@@ -26,8 +27,8 @@ fn blocks_opposite_parts(rt: HostRuntime) -> Result<(), Fail> {
         capacity: 1,
         stuck: 2,
     };
-    assert_eq!(rt; hybrid.ask(&second), blocked);
-    assert_eq!(rt; hybrid.parts_left(), 1);
+    assert_same(&rt, hybrid.ask(&second), blocked);
+    assert_same(&rt, hybrid.parts_left(), 1);
     Ok(())
 }
 
@@ -43,16 +44,16 @@ fn orders_parts_that_follow_each_other(rt: HostRuntime) -> Result<(), Fail> {
     };
     for request in [load(7, 0), process, go_on, load(8, 0)] {
         assert!(rt; request_fits(hybrid.cell(), &request));
-        assert_eq!(rt; hybrid.ask(&request), HybridReply::Granted);
+        assert_same(&rt, hybrid.ask(&request), HybridReply::Granted);
     }
-    assert_eq!(rt; hybrid.work_left(), 6);
+    assert_same(&rt, hybrid.work_left(), 6);
     let order = hybrid.order(rt.alloc())?.ok_or("an order")?;
-    assert_eq!(rt; order.as_slice(), [JobId(7), JobId(8)].as_slice());
+    assert_same(&rt, order.as_slice(), [JobId(7), JobId(8)].as_slice());
     for _ in 0..6 {
         let step = hybrid.plan_step().ok_or("a step")?;
         assert!(rt; request_fits(hybrid.cell(), &step));
-        assert_eq!(rt; hybrid.ask(&step), HybridReply::Granted);
+        assert_same(&rt, hybrid.ask(&step), HybridReply::Granted);
     }
-    assert_eq!(rt; hybrid.parts_left(), 0);
+    assert_same(&rt, hybrid.parts_left(), 0);
     Ok(())
 }

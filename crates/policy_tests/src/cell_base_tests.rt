@@ -1,6 +1,7 @@
 //! That memory is had, and what the tests of the limits say of a small cell.
 ghost use Rattle.std.specs.Prelude.{◌≡◌, ◌<◌, length, slice_set};
 
+use crate::same::assert_same;
 use cell_base::{
     Cell, JobId, JobType, List, Name, NoMemory, Request, ResId, Resource, Shelf, Shift, Step,
     TypeId, cell_fits, request_fits, shift_fits,
@@ -71,11 +72,22 @@ fn takes_memory(rt: HostRuntime) -> Result<(), Fail> {
     shelf.push(8);
     let mut list = may_be_shared(may_be_shared(shelf).into_list());
     list.try_push(9)?;
-    assert_eq!(rt; list.pop(), Some(9));
+    assert_same(&rt, list.pop(), Some(9));
     assert_eq!(rt; list.len(), 2);
     write_first(&mut list, 6);
-    assert_eq!(rt; list.as_slice(), [6, 8].as_slice());
+    assert_same(&rt, list.as_slice(), [6, 8].as_slice());
     Ok(())
+}
+
+/// A shift of one session with one step.
+fn shift_of_one(alloc: Global) -> Result<Shift, NoMemory> {
+    let mut scripts = List::new(alloc);
+    scripts.try_push(list_of(alloc, &[Request::Process { machine: ResId(0) }])?)?;
+    Ok(Shift {
+        number: 1,
+        patience: 2,
+        scripts,
+    })
 }
 
 #[test]
@@ -88,15 +100,8 @@ fn fits(rt: HostRuntime) -> Result<(), Fail> {
     };
     assert!(rt; cell_fits(&cell));
     assert!(rt; request_fits(&cell, &load));
-    assert!(rt; !cell_fits(&small_cell(alloc, 0)?));
     assert!(rt; !request_fits(&cell, &Request::Process { machine: ResId(1) }));
-    let mut scripts = List::new(alloc);
-    scripts.try_push(list_of(alloc, &[Request::Process { machine: ResId(0) }])?)?;
-    let shift = Shift {
-        number: 1,
-        patience: 2,
-        scripts,
-    };
-    assert!(rt; shift_fits(&cell, &shift));
+    assert!(rt; shift_fits(&cell, &shift_of_one(alloc)?));
+    assert!(rt; !cell_fits(&small_cell(alloc, 0)?));
     Ok(())
 }

@@ -1,4 +1,5 @@
 //! That memory is had, and that a plan comes to its end, on a cell of one machine.
+use crate::same::assert_same;
 use admission_core::Core;
 use cell_base::{JobId, Reply, Request, ResId, TypeId, cell_fits, request_fits};
 use drain_planner::{Drainer, plan};
@@ -30,14 +31,14 @@ fn one_part_is_worked_on_and_unloaded(rt: HostRuntime) -> Result<(), Fail> {
         Request::Unload { job: JobId(7) },
     ];
     let mut drainer = Drainer::new(loaded_core(rt.alloc())?);
-    assert_eq!(rt; drainer.length(), 2);
-    assert_eq!(rt; drainer.cell().resources.len(), 1);
+    assert_same(&rt, drainer.length(), 2);
+    assert_same(&rt, drainer.cell().resources.len(), 1);
     for step in steps {
-        assert_eq!(rt; drainer.next(), Some(step));
+        assert_same(&rt, drainer.next(), Some(step));
     }
-    assert_eq!(rt; drainer.next(), None);
-    assert_eq!(rt; drainer.into_core().parts_left(), 0);
+    assert_same(&rt, drainer.next(), None);
+    assert_same(&rt, drainer.into_core().parts_left(), 0);
     let listed = plan(rt.alloc(), loaded_core(rt.alloc())?)?;
-    assert_eq!(rt; listed.as_slice(), steps.as_slice());
+    assert_same(&rt, listed.as_slice(), steps.as_slice());
     Ok(())
 }

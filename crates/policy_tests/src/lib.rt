@@ -23,6 +23,8 @@ mod refusal_reason_tests;
 #[cfg(test)]
 mod route_table_tests;
 #[cfg(test)]
+mod same;
+#[cfg(test)]
 mod test_fixtures_tests;
 #[cfg(test)]
 mod upstream_sets_tests;

@@ -1,4 +1,5 @@
 //! That memory is had, and the advice for small cells.
+use crate::same::assert_same;
 use cell_base::{Cell, List, NoMemory, cell_fits};
 use order_advisor::{AdviceFault, advise, arrange};
 use std::alloc::Global;
@@ -30,9 +31,9 @@ fn of_two_lists_that_weigh_the_same_the_first_is_given(rt: HostRuntime) -> Resul
         let cell = both_ways(rt.alloc(), second_order)?;
         assert!(rt; cell_fits(&cell));
         let advice = advise(rt.alloc(), &cell).map_err(|_| "advice")?;
-        assert!(rt; advice.orders.as_slice() == [1, 2].as_slice());
-        assert!(rt; advice.weight == 5);
-        assert!(rt; advice.given == given);
+        assert_same(&rt, advice.orders.as_slice(), [1, 2].as_slice());
+        assert_same(&rt, advice.weight, 5);
+        assert_same(&rt, advice.given, given);
     }
     Ok(())
 }
@@ -42,9 +43,9 @@ fn the_last_machine_comes_first(rt: HostRuntime) -> Result<(), Fail> {
     let cell = in_a_row(rt.alloc(), &[1, 2, 3])?;
     assert!(rt; cell_fits(&cell));
     let advice = advise(rt.alloc(), &cell).map_err(|_| "advice")?;
-    assert!(rt; advice.orders.as_slice() == [3, 2, 1].as_slice());
-    assert!(rt; advice.weight == 3);
-    assert!(rt; advice.given == 6);
+    assert_same(&rt, advice.orders.as_slice(), [3, 2, 1].as_slice());
+    assert_same(&rt, advice.weight, 3);
+    assert_same(&rt, advice.given, 6);
     Ok(())
 }
 
@@ -53,11 +54,19 @@ fn eight_machines_are_for_the_larger_table(rt: HostRuntime) -> Result<(), Fail> 
     let cell = in_a_row(rt.alloc(), &[1, 1, 1, 1, 1, 1, 1, 1])?;
     assert!(rt; cell_fits(&cell));
     let refused = advise(rt.alloc(), &cell).err();
-    assert!(rt; refused == Some(AdviceFault::TooManyResources { count: 8 }));
+    assert_same(
+        &rt,
+        refused,
+        Some(AdviceFault::TooManyResources { count: 8 }),
+    );
     let advice = arrange(rt.alloc(), &cell).map_err(|_| "advice")?;
-    assert!(rt; advice.orders.as_slice() == [8, 7, 6, 5, 4, 3, 2, 1].as_slice());
-    assert!(rt; advice.weight == 8_000);
-    assert!(rt; advice.given == 36_000);
+    assert_same(
+        &rt,
+        advice.orders.as_slice(),
+        [8, 7, 6, 5, 4, 3, 2, 1].as_slice(),
+    );
+    assert_same(&rt, advice.weight, 8_000);
+    assert_same(&rt, advice.given, 36_000);
     Ok(())
 }
 
@@ -71,11 +80,11 @@ fn a_machine_comes_before_a_store_of_three_units(rt: HostRuntime) -> Result<(), 
     }
     assert!(rt; cell_fits(&cell));
     let alike = advise(rt.alloc(), &cell).map_err(|_| "advice")?;
-    assert!(rt; alike.orders.as_slice() == [1, 2].as_slice());
-    assert!(rt; alike.weight == 5);
+    assert_same(&rt, alike.orders.as_slice(), [1, 2].as_slice());
+    assert_same(&rt, alike.weight, 5);
     let by_capacity = arrange(rt.alloc(), &cell).map_err(|_| "advice")?;
-    assert!(rt; by_capacity.orders.as_slice() == [2, 1].as_slice());
-    assert!(rt; by_capacity.weight == 2_999);
-    assert!(rt; by_capacity.given == 3_666);
+    assert_same(&rt, by_capacity.orders.as_slice(), [2, 1].as_slice());
+    assert_same(&rt, by_capacity.weight, 2_999);
+    assert_same(&rt, by_capacity.given, 3_666);
     Ok(())
 }

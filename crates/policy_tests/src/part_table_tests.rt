@@ -1,6 +1,7 @@
 //! With memory at hand the table is made, and a part is found by any hint, be it right, stale or none.
 ghost use Rattle.std.specs.Prelude.{◌≡◌, false};
 
+use crate::same::assert_same;
 use cell_base::{JobId, NoMemory, Part, ResId, TypeId, cell_fits};
 use part_table::{Found, Parts};
 use route_table::StageTable;
@@ -29,7 +30,7 @@ fn assert_parts(
     expected: &[Part],
 ) -> Result<(), NoMemory> {
     let listed = parts.listed(alloc)?;
-    assert!(rt; listed.as_slice() == expected);
+    assert_same(rt, listed.as_slice(), expected);
     Ok(())
 }
 
@@ -37,8 +38,8 @@ fn assert_parts(
 fn a_table_is_made(rt: HostRuntime) -> Result<(), Fail> {
     let alloc = rt.alloc();
     let parts = Parts::with_room(alloc, 3)?;
-    assert_eq!(rt; parts.len(), 0);
-    assert_eq!(rt; parts.find(JobId(7)), None);
+    assert_same(&rt, parts.len(), 0);
+    assert_same(&rt, parts.find(JobId(7)), None);
     Ok(())
 }
 
@@ -49,7 +50,7 @@ fn a_part_goes_on_by_any_hint(rt: HostRuntime) -> Result<(), Fail> {
     parts.arrive(part(7, 0));
     parts.arrive(part(8, 0));
     let found = parts.find(JobId(7)).ok_or("a part")?;
-    assert_eq!(rt; found.part, part(7, 0));
+    assert_same(&rt, found.part, part(7, 0));
     parts.advance_found(found, 1, false);
     assert_parts(&rt, alloc, &parts, &[part(8, 0), part(7, 1)])?;
     let moved = Found {
@@ -71,7 +72,7 @@ fn a_part_leaves_by_any_hint(rt: HostRuntime) -> Result<(), Fail> {
     parts.arrive(part(8, 0));
     parts.arrive(part(9, 0));
     let found = parts.find(JobId(7)).ok_or("a part")?;
-    assert_eq!(rt; found.part, part(7, 0));
+    assert_same(&rt, found.part, part(7, 0));
     let other = Found {
         part: part(8, 0),
         hint: found.hint,
@@ -82,7 +83,7 @@ fn a_part_leaves_by_any_hint(rt: HostRuntime) -> Result<(), Fail> {
     assert_parts(&rt, alloc, &parts, &[part(9, 0)])?;
     parts.depart(JobId(9));
     assert_parts(&rt, alloc, &parts, &[])?;
-    assert_eq!(rt; parts.find(JobId(9)), None);
+    assert_same(&rt, parts.find(JobId(9)), None);
     Ok(())
 }
 
@@ -91,12 +92,12 @@ fn a_table_that_was_told_finds_by_resources(rt: HostRuntime) -> Result<(), Fail>
     let alloc = rt.alloc();
     let cell = cell_of_one(alloc)?;
     assert!(rt; cell_fits(&cell));
-    let stages = StageTable::new(alloc, &cell)?;
+    let stages = StageTable::of(alloc, cell)?;
     let mut parts = Parts::with_room(alloc, 3)?.told_of(alloc, &stages)?;
-    assert_eq!(rt; parts.find_on(ResId(0)), None);
+    assert_same(&rt, parts.find_on(ResId(0)), None);
     parts.arrive(part(7, 0));
     let found = parts.find_on(ResId(0)).ok_or("a part")?;
-    assert_eq!(rt; found.part, part(7, 0));
-    assert_eq!(rt; parts.finish_first(ResId(0)), Some(JobId(7)));
+    assert_same(&rt, found.part, part(7, 0));
+    assert_same(&rt, parts.finish_first(ResId(0)), Some(JobId(7)));
     Ok(())
 }

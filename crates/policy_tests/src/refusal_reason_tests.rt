@@ -1,6 +1,7 @@
 //! Why requests are refused in a small cell, and what that cell shows.
 ghost use Rattle.cell_base.specs.Fits.{RequestFits};
 
+use crate::same::assert_same;
 use admission_core::Core;
 use cell_base::{
     JobId, List, NoMemory, Refusal, Reply, Request, ResId, TypeId, cell_fits, request_fits,
@@ -37,16 +38,20 @@ fn refusals_are_explained(rt: HostRuntime) -> Result<(), Fail> {
         kind: TypeId(1),
     };
     assert!(rt; request_fits(core.cell(), &first));
-    assert_eq!(rt; core.ask(&first), Reply::Granted);
+    assert_same(&rt, core.ask(&first), Reply::Granted);
     assert!(rt; request_fits(core.cell(), &second));
     let full = Refusal::Saturated {
         at: ResId(1),
         count: 1,
         capacity: 1,
     };
-    assert_eq!(rt; core.decide(&second), Reply::Refused(full));
-    assert!(rt; jobs_in_the_way(rt.alloc(), &core, &second)?.as_slice() == [JobId(7)].as_slice());
-    assert_eq!(rt; explain(rt.alloc(), &core, &Refusal::Idle)?.len(), 0);
+    assert_same(&rt, core.decide(&second), Reply::Refused(full));
+    assert_same(
+        &rt,
+        jobs_in_the_way(rt.alloc(), &core, &second)?.as_slice(),
+        [JobId(7)].as_slice(),
+    );
+    assert_same(&rt, explain(rt.alloc(), &core, &Refusal::Idle)?.len(), 0);
     Ok(())
 }
 
@@ -58,7 +63,7 @@ fn resources_are_shown(rt: HostRuntime) -> Result<(), Fail> {
     let text = show_text(rt.alloc(), &core)?;
     let first = b"resource M1 capacity 1 order 1\nstage A 0\nstage Z 1\n";
     let second = b"resource M2 capacity 1 order 2\nstage A 0\nstage A 1\nstage Z 0\n";
-    assert_eq!(rt; text.len(), (first.len() + second.len()) as u64);
+    assert_same(&rt, text.len(), (first.len() + second.len()) as u64);
     assert!(rt; text.as_slice().starts_with(first));
     assert!(rt; text.as_slice().ends_with(second));
     Ok(())

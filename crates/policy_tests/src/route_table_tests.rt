@@ -1,4 +1,5 @@
 //! That memory is had, and that the look-ups answer.
+use crate::same::assert_same;
 use cell_base::{ResId, TypeId, cell_fits};
 use route_table::{StageNo, StageTable};
 use std::test::Fail;
@@ -13,10 +14,10 @@ fn may_be_shared<T: Send + Sync>(value: T) -> T {
 fn table_is_made(rt: HostRuntime) -> Result<(), Fail> {
     let cell = crossing(rt.alloc())?;
     assert!(rt; cell_fits(&cell));
-    let table = may_be_shared(StageTable::new(rt.alloc(), &cell)?);
-    assert_eq!(rt; table.stages(), 4);
-    assert_eq!(rt; table.stage_of(TypeId(1), 1), Some(StageNo(3)));
-    assert_eq!(rt; table.stage_of(TypeId(1), 2), None);
-    assert_eq!(rt; table.order_of(ResId(0)), 1);
+    let table = may_be_shared(StageTable::of(rt.alloc(), cell)?);
+    assert_same(&rt, table.stages(), 4);
+    assert_same(&rt, table.stage_of(TypeId(1), 1), Some(StageNo(3)));
+    assert_same(&rt, table.stage_of(TypeId(1), 2), None);
+    assert_same(&rt, table.order_of(ResId(0)), 1);
     Ok(())
 }

@@ -1,6 +1,7 @@
 //! What no clause says: that memory is had, that two threads share a board by a lock, and that what it then holds is what its
 //! asks make of a new one. The cell has one machine of one unit; and that a load which makes no room ends the wait of a load of the same
 //! job, where the cell has two machines.
+use crate::same::assert_same;
 use admission_core::Core;
 use cell_base::{
     Cell, JobId, List, NoMemory, Refusal, Request, ResId, TypeId, cell_fits, request_fits,
@@ -8,7 +9,7 @@ use cell_base::{
 use std::alloc::Global;
 use std::sync::{Mutex, Wait};
 use std::test::Fail;
-use std::thread;
+use std::thread::{self, Threads};
 use test_fixtures::{add_machine, add_type, cell_of_one};
 use wait_board::{Board, BoardEntry, BoardFault, BoardReply, BoardTold, Waiter};
 
@@ -161,7 +162,7 @@ fn answers_as_listed(board: &mut Board, asks: &[(u16, Request, Answer)]) -> bool
 fn a_load_waits_until_the_machine_is_free(rt: HostRuntime) -> Result<(), Fail> {
     let mut board = board_of_three(rt.alloc(), 8)?;
     assert!(rt; answers_as_listed(&mut board, &ASKS));
-    assert_eq!(rt; board.history(), HISTORY.as_slice());
+    assert_same(&rt, board.history(), HISTORY.as_slice());
     assert!(rt; board.waiting().is_empty());
     Ok(())
 }
@@ -204,16 +205,17 @@ fn a_load_of_the_same_job_ends_a_wait(rt: HostRuntime) -> Result<(), Fail> {
     let cell = two_apart(rt.alloc())?;
     let mut board = board_over(rt.alloc(), cell, 8)?;
     assert!(rt; answers_as_listed(&mut board, &LOADS[..5]));
-    assert_eq!(rt; board.waiting(), [SECOND].as_slice());
+    assert_same(&rt, board.waiting(), [SECOND].as_slice());
     assert!(rt; answers_as_listed(&mut board, &LOADS[5..]));
     assert!(rt; board.waiting().is_empty());
-    assert_eq!(rt;
+    assert_same(
+        &rt,
         board.history().last().copied(),
         Some(BoardEntry {
             session: 2,
             request: LOAD_8,
             told: BoardTold::Dropped(Refusal::JobLoaded),
-        })
+        }),
     );
     Ok(())
 }
@@ -249,15 +251,20 @@ fn is_made_again(alloc: Global, board: &Board) -> Result<bool, Fail> {
     )
 }
 
+/// A board that two threads have asked at the same time.
+fn asked_by_two<R: Threads + Wait + Sync>(rt: &R, alloc: Global) -> Result<Board, Fail> {
+    let shared = Mutex::new(board_of_three(alloc, 100)?);
+    thread::join(
+        rt,
+        || go_through(rt, &shared, 1, &ONE),
+        || go_through(rt, &shared, 2, &TWO),
+    );
+    Ok(shared.into_inner())
+}
+
 #[test]
 fn two_threads_share_a_board(rt: HostRuntime) -> Result<(), Fail> {
-    let shared = Mutex::new(board_of_three(rt.alloc(), 100)?);
-    thread::join(
-        &rt,
-        || go_through(&rt, &shared, 1, &ONE),
-        || go_through(&rt, &shared, 2, &TWO),
-    );
-    let board = shared.into_inner();
+    let board = asked_by_two(&rt, rt.alloc())?;
     assert!(rt; !board.history().is_empty());
     assert!(rt; is_made_again(rt.alloc(), &board)?);
     Ok(())
