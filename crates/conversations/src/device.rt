@@ -104,10 +104,7 @@ fn check_crash<R: Print + Clock + Threads + Wait + Sync>(
     answered: Option<u64>,
     pick: u64,
 ) -> Result<()> {
-    let Ok(disk) = told.disk.crash(caller.alloc(), pick) else {
-        bail!("want of memory");
-    };
-    let plan = plan_on(caller, words, disk)?;
+    let plan = plan_after_crash(caller, words, told, pick)?;
     match answered {
         Some(answered) => check_grants(before, &plan, answered)?,
         None => caller.check(&plan, before.status, before.text.as_slice(), plan.left())?,
@@ -180,6 +177,19 @@ pub fn plan_on<R: Print + Clock + Threads + Wait + Sync>(
         words.push(String::from_str(caller.alloc(), word)?)?;
     }
     caller.call_on(words.as_slice(), disk, Failing::Nothing)
+}
+
+/// The plan after the journal that a crash leaves of the disk at the end of a call.
+pub fn plan_after_crash<R: Print + Clock + Threads + Wait + Sync>(
+    caller: &Caller<'_, R>,
+    words: &[String],
+    told: &CallEnd,
+    pick: u64,
+) -> Result<CallEnd> {
+    let Ok(disk) = told.disk.crash(caller.alloc(), pick) else {
+        bail!("want of memory");
+    };
+    plan_on(caller, words, disk)
 }
 
 // How many grants a plan stands after.

@@ -3,8 +3,8 @@
 
 use crate::call_end::CallEnd;
 use crate::caller::{Caller, Failing};
-use crate::device::{check_grants, plan_on};
-use anyhow::{Context, Result, bail};
+use crate::device::{check_grants, plan_after_crash, plan_on};
+use anyhow::{Context, Result};
 use outside_io::{CallKind, DiskCall};
 use std::rt::Clock;
 use std::sync::Wait;
@@ -62,10 +62,7 @@ fn go_on_after<R: Print + Clock + Threads + Wait + Sync>(
     before: &CallEnd,
     pick: u64,
 ) -> Result<()> {
-    let Ok(disk) = told.disk.crash(caller.alloc(), pick) else {
-        bail!("want of memory");
-    };
-    let plan = plan_on(caller, words, disk)?;
+    let plan = plan_after_crash(caller, words, told, pick)?;
     check_grants(before, &plan, told.grants())?;
     go_on(caller, words, whole, plan)
 }
