@@ -35,19 +35,18 @@ fn granted(request: Request) -> Entry {
 }
 
 #[test]
-fn one_job_from_load_to_unload(rt: HostRuntime) -> Result<(), Fail> {
+fn one_job_from_load_to_unload(rt: HostRuntime) {
     let alloc = rt.alloc();
-    let cell = cell_of_one(alloc)?;
-    let shift = shift_of_one(alloc, &JOB)?;
+    let cell = cell_of_one(alloc).expect(&rt, "memory");
+    let shift = shift_of_one(alloc, &JOB).expect(&rt, "memory");
     assert!(rt; cell_fits(&cell));
     assert!(rt; shift_fits(&cell, &shift));
-    let mut history = Shelf::with_room(alloc, 1_048_576)?;
-    let mut core = Core::open(alloc, cell)?;
+    let mut history = Shelf::with_room(alloc, 1_048_576).expect(&rt, "memory");
+    let mut core = Core::open(alloc, cell).expect(&rt, "memory");
     solo(&mut core, &shift, &mut history);
     let expected = [granted(LOAD), granted(PROCESS), granted(UNLOAD)];
     assert_same(&rt, history.as_slice(), expected.as_slice());
     assert_same(&rt, core.parts_left(), 0);
-    Ok(())
 }
 
 fn grant(shift: u32, session: u16, request: Request) -> Grant {
@@ -95,16 +94,15 @@ fn does_not_begin_after_grants_of_a_session_that_it_lacks(rt: HostRuntime) -> Re
 }
 
 #[test]
-fn keeps_the_grants_of_one_shift(rt: HostRuntime) -> Result<(), Fail> {
+fn keeps_the_grants_of_one_shift(rt: HostRuntime) {
     let mut own = ShiftGrants::of(rt.alloc(), 1);
     let opening = opening();
     for grant in &opening {
-        own.visit(0, *grant)?;
+        own.visit(0, *grant).expect(&rt, "memory");
     }
     assert_same(
         &rt,
         own.grants.as_slice(),
         [opening[0], opening[2]].as_slice(),
     );
-    Ok(())
 }

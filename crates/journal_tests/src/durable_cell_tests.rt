@@ -114,10 +114,12 @@ fn grants_are_found_again(rt: HostRuntime) -> Result<(), Fail> {
 #[test]
 fn a_failed_write_halts(rt: HostRuntime) -> Result<(), Fail> {
     let mut fails = List::new(rt.alloc());
-    fails.try_push(DiskCall {
-        kind: CallKind::Write,
-        nth: 6,
-    })?;
+    fails
+        .try_push(DiskCall {
+            kind: CallKind::Write,
+            nth: 6,
+        })
+        .expect(&rt, "memory");
     let outcome = run(rt.alloc(), fails, &A_FAILED_WRITE)?;
     let expected = Outcome {
         as_listed: true,

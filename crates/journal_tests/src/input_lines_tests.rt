@@ -54,21 +54,20 @@ fn lines_are_the_same_for_each_size_of_the_pieces(rt: HostRuntime) -> Result<(),
 }
 
 #[test]
-fn a_read_that_fails_loses_nothing(rt: HostRuntime) -> Result<(), Fail> {
+fn a_read_that_fails_loses_nothing(rt: HostRuntime) {
     let alloc = rt.alloc();
     let mut fails = List::new(alloc);
-    fails.try_push(2)?;
-    let disk = MemDisk::new(alloc, b"", List::new(alloc))?;
-    let mut peer = peer_of(alloc, b"left\n", 3, fails)?;
-    let mut lines = InputLines::new(alloc)?;
+    fails.try_push(2).expect(&rt, "memory");
+    let disk = MemDisk::new(alloc, b"", List::new(alloc)).expect(&rt, "memory");
+    let mut peer = peer_of(alloc, b"left\n", 3, fails).expect(&rt, "memory");
+    let mut lines = InputLines::new(alloc).expect(&rt, "memory");
     let mut given = Vec::new(alloc);
     for _ in 0..5 {
         if lines.next_line() {
-            given.extend_from_slice(lines.line())?;
+            given.extend_from_slice(lines.line()).expect(&rt, "memory");
         } else if lines.fill(&mut peer, &disk).is_err() {
-            given.push(b'!')?;
+            given.push(b'!').expect(&rt, "memory");
         }
     }
     assert_same(&rt, given.as_slice(), b"!left".as_slice());
-    Ok(())
 }

@@ -5,15 +5,14 @@ use outside_io::{
     Disk, Failed, FileFail, Files, FreePace, MemFiles, MemSink, MemSource, NoSource, NullDisk,
     NullSink, Pace, Sink, Source, SureFiles,
 };
-use std::test::Fail;
 
 #[test]
-fn files_fail_at_listed_calls_and_absent_names(rt: HostRuntime) -> Result<(), Fail> {
+fn files_fail_at_listed_calls_and_absent_names(rt: HostRuntime) {
     let alloc = rt.alloc();
     let mut fails = List::new(alloc);
-    fails.try_push(2)?;
+    fails.try_push(2).expect(&rt, "memory");
     let mut files = MemFiles::new(alloc, fails);
-    files.add("cell", b"version")?;
+    files.add("cell", b"version").expect(&rt, "memory");
     let mut out = Vec::new(alloc);
     assert_same(&rt, files.read_file(alloc, "cell", 3, &mut out), Ok(()));
     assert_same(&rt, out.as_slice(), b"vers".as_slice());
@@ -30,43 +29,40 @@ fn files_fail_at_listed_calls_and_absent_names(rt: HostRuntime) -> Result<(), Fa
         Err(FileFail::Failed),
     );
     assert_same(&rt, out.len(), 0);
-    Ok(())
 }
 
 #[test]
-fn sure_files_have_every_name(rt: HostRuntime) -> Result<(), Fail> {
+fn sure_files_have_every_name(rt: HostRuntime) {
     let alloc = rt.alloc();
     let mut files = SureFiles::new(alloc);
-    files.add("cell", b"old")?;
-    files.add("cell", b"version")?;
+    files.add("cell", b"old").expect(&rt, "memory");
+    files.add("cell", b"version").expect(&rt, "memory");
     let mut out = Vec::new(alloc);
     assert_same(&rt, files.read_file(alloc, "cell", 65536, &mut out), Ok(()));
     assert_same(&rt, out.as_slice(), b"version".as_slice());
     assert_same(&rt, files.read_file(alloc, "none", 65536, &mut out), Ok(()));
     assert_same(&rt, out.len(), 0);
-    Ok(())
 }
 
 #[test]
-fn a_sink_keeps_what_it_took(rt: HostRuntime) -> Result<(), Fail> {
+fn a_sink_keeps_what_it_took(rt: HostRuntime) {
     let alloc = rt.alloc();
     let mut fails = List::new(alloc);
-    fails.try_push(2)?;
+    fails.try_push(2).expect(&rt, "memory");
     let mut sink = MemSink::new(alloc, fails);
     assert_same(&rt, sink.put(b"a\n"), Ok(()));
     assert_same(&rt, sink.put(b"b\n"), Err(Failed));
     assert_same(&rt, sink.put(b"c\n"), Ok(()));
     assert_same(&rt, sink.bytes(), b"a\nc\n".as_slice());
     assert_same(&rt, sink.starved(), 0);
-    Ok(())
 }
 
 #[test]
-fn a_source_gives_its_bytes_in_pieces(rt: HostRuntime) -> Result<(), Fail> {
+fn a_source_gives_its_bytes_in_pieces(rt: HostRuntime) {
     let alloc = rt.alloc();
     let mut fails = List::new(alloc);
-    fails.try_push(2)?;
-    let mut source = MemSource::new(alloc, b"abcde", 2, fails)?;
+    fails.try_push(2).expect(&rt, "memory");
+    let mut source = MemSource::new(alloc, b"abcde", 2, fails).expect(&rt, "memory");
     let mut room = [0u8; 4];
     for (wanted, now) in [
         (Ok(2), b"ab\0\0"),
@@ -79,11 +75,10 @@ fn a_source_gives_its_bytes_in_pieces(rt: HostRuntime) -> Result<(), Fail> {
         assert_same(&rt, room.as_slice(), now.as_slice());
     }
     assert_same(&rt, NoSource.next_piece(&mut room), Ok(0));
-    Ok(())
 }
 
 #[test]
-fn the_rest_takes_everything_and_keeps_nothing(rt: HostRuntime) -> Result<(), Fail> {
+fn the_rest_takes_everything_and_keeps_nothing(rt: HostRuntime) {
     let mut disk = NullDisk;
     let mut bytes = [];
     FreePace.turn(&rt, 1, 0);
@@ -92,5 +87,4 @@ fn the_rest_takes_everything_and_keeps_nothing(rt: HostRuntime) -> Result<(), Fa
     assert_same(&rt, disk.read_at(0, &mut bytes), Ok(()));
     assert_same(&rt, disk.sync(), Ok(()));
     assert_same(&rt, disk.len(), Ok(0));
-    Ok(())
 }

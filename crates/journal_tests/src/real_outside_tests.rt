@@ -10,8 +10,8 @@ use std::test::Fail;
 use std::time::{Duration, Instant};
 
 #[test]
-fn a_file_is_read_up_to_its_limit(rt: HostRuntime) -> Result<(), Fail> {
-    fs::write(&rt, "read.toml", "version = 1")?;
+fn a_file_is_read_up_to_its_limit(rt: HostRuntime) {
+    fs::write(&rt, "read.toml", "version = 1").expect(&rt, "a file");
     let mut files = DirFiles::new(&rt, false);
     let mut out = Vec::new(rt.alloc());
     for (limit, wanted) in [
@@ -35,8 +35,7 @@ fn a_file_is_read_up_to_its_limit(rt: HostRuntime) -> Result<(), Fail> {
         );
         assert_same(&rt, out.len(), 0);
     }
-    fs::remove_file(&rt, "read.toml")?;
-    Ok(())
+    fs::remove_file(&rt, "read.toml").expect(&rt, "a file");
 }
 
 fn may_be_sent<T: Send>(value: T) -> T {
@@ -44,7 +43,7 @@ fn may_be_sent<T: Send>(value: T) -> T {
 }
 
 #[test]
-fn a_journal_is_written_and_read_back(rt: HostRuntime) -> Result<(), Fail> {
+fn a_journal_is_written_and_read_back(rt: HostRuntime) {
     let alloc = rt.alloc();
     let mut bytes = [0u8; 4];
     {
@@ -61,14 +60,13 @@ fn a_journal_is_written_and_read_back(rt: HostRuntime) -> Result<(), Fail> {
     let mut disk = FileDisk::new(&rt, alloc, "journal", Purpose::ToAdd, false);
     assert_same(&rt, disk.len(), Ok(4));
     assert!(rt; !disk.was_absent());
-    fs::remove_file(&rt, "journal")?;
-    Ok(())
+    fs::remove_file(&rt, "journal").expect(&rt, "a file");
 }
 
 #[test]
-fn a_journal_has_one_writer_and_any_readers(rt: HostRuntime) -> Result<(), Fail> {
+fn a_journal_has_one_writer_and_any_readers(rt: HostRuntime) {
     let alloc = rt.alloc();
-    fs::write(&rt, "shared", "abde")?;
+    fs::write(&rt, "shared", "abde").expect(&rt, "a file");
     let mut reader = FileDisk::new(&rt, alloc, "shared", Purpose::ToRead, false);
     assert_same(&rt, reader.len(), Ok(4));
     let mut writer = FileDisk::new(&rt, alloc, "shared", Purpose::ToAdd, false);
@@ -80,8 +78,7 @@ fn a_journal_has_one_writer_and_any_readers(rt: HostRuntime) -> Result<(), Fail>
     assert_same(&rt, reader.sync(), Ok(()));
     assert_same(&rt, reader.write_at(0, b"x"), Err(Failed));
     assert!(rt; !reader.was_absent());
-    fs::remove_file(&rt, "shared")?;
-    Ok(())
+    fs::remove_file(&rt, "shared").expect(&rt, "a file");
 }
 
 // A journal of a cell text of no bytes, before and after the gate of its grant is opened.
@@ -138,28 +135,26 @@ fn a_look_ends_where_the_journal_ended_when_it_began(rt: HostRuntime) -> Result<
 }
 
 #[test]
-fn a_file_that_is_cut_shorter_is_a_fault(rt: HostRuntime) -> Result<(), Fail> {
-    fs::write(&rt, "cut", "abcd")?;
+fn a_file_that_is_cut_shorter_is_a_fault(rt: HostRuntime) {
+    fs::write(&rt, "cut", "abcd").expect(&rt, "a file");
     let mut look = FileDisk::new(&rt, rt.alloc(), "cut", Purpose::ToRead, false);
     assert_same(&rt, look.len(), Ok(4));
-    fs::write(&rt, "cut", "abc")?;
+    fs::write(&rt, "cut", "abc").expect(&rt, "a file");
     assert_same(&rt, look.read_at(0, &mut [0]), Err(Failed));
     assert_same(&rt, look.sync(), Err(Failed));
-    fs::remove_file(&rt, "cut")?;
-    Ok(())
+    fs::remove_file(&rt, "cut").expect(&rt, "a file");
 }
 
 #[test]
-fn a_file_that_is_exchanged_is_a_fault(rt: HostRuntime) -> Result<(), Fail> {
-    fs::write(&rt, "first", "abc")?;
+fn a_file_that_is_exchanged_is_a_fault(rt: HostRuntime) {
+    fs::write(&rt, "first", "abc").expect(&rt, "a file");
     let mut look = FileDisk::new(&rt, rt.alloc(), "first", Purpose::ToRead, false);
     assert_same(&rt, look.sync(), Ok(()));
-    fs::write(&rt, "second", "abc")?;
-    fs::rename(&rt, "second", "first")?;
+    fs::write(&rt, "second", "abc").expect(&rt, "a file");
+    fs::rename(&rt, "second", "first").expect(&rt, "a file");
     assert_same(&rt, look.sync(), Err(Failed));
-    fs::remove_file(&rt, "first")?;
+    fs::remove_file(&rt, "first").expect(&rt, "a file");
     assert_same(&rt, look.sync(), Err(Failed));
-    Ok(())
 }
 
 #[test]
@@ -176,7 +171,7 @@ fn only_a_regular_file_is_a_journal(rt: HostRuntime) {
 }
 
 #[test]
-fn an_absent_file_is_read_as_an_empty_one(rt: HostRuntime) -> Result<(), Fail> {
+fn an_absent_file_is_read_as_an_empty_one(rt: HostRuntime) {
     let mut disk = FileDisk::new(&rt, rt.alloc(), "absent", Purpose::ToRead, false);
     assert_same(&rt, disk.sync(), Ok(()));
     assert_same(&rt, disk.len(), Ok(0));
@@ -184,8 +179,7 @@ fn an_absent_file_is_read_as_an_empty_one(rt: HostRuntime) -> Result<(), Fail> {
     assert_same(&rt, disk.read_at(0, &mut [0]), Err(Failed));
     assert_same(&rt, disk.write_at(0, b"a"), Err(Failed));
     assert!(rt; disk.was_absent());
-    assert!(rt; !fs::exists(&rt, "absent")?);
-    Ok(())
+    assert!(rt; !fs::exists(&rt, "absent").expect(&rt, "a file"));
 }
 
 // A writer of at most one byte a call. It is interrupted at its first call, and fails where a `!` comes.
@@ -217,7 +211,7 @@ impl Write for Slow {
 }
 
 #[test]
-fn a_put_writes_all_or_fails(rt: HostRuntime) -> Result<(), Fail> {
+fn a_put_writes_all_or_fails(rt: HostRuntime) {
     let mut writer = Slow {
         taken: Vec::new(rt.alloc()),
         was_interrupted: false,
@@ -227,7 +221,6 @@ fn a_put_writes_all_or_fails(rt: HostRuntime) -> Result<(), Fail> {
     assert_same(&rt, out.put(b"no!\n"), Err(Failed));
     assert_same(&rt, out.flush(), Ok(()));
     assert_same(&rt, writer.taken.as_slice(), b"yes\nno".as_slice());
-    Ok(())
 }
 
 // A reader whose calls answer in turn: a signal, two bytes, a failure, and the end.
@@ -253,7 +246,7 @@ impl Read for Broken {
 }
 
 #[test]
-fn a_read_that_a_signal_cuts_short_is_made_again(rt: HostRuntime) -> Result<(), Fail> {
+fn a_read_that_a_signal_cuts_short_is_made_again(rt: HostRuntime) {
     let mut reader = Broken { calls: 0 };
     let mut source = InSource::new(&mut reader);
     let mut bytes = [0u8; 4];
@@ -262,15 +255,13 @@ fn a_read_that_a_signal_cuts_short_is_made_again(rt: HostRuntime) -> Result<(), 
     assert_same(&rt, source.next_piece(&mut bytes), Err(Failed));
     assert_same(&rt, source.next_piece(&mut bytes), Ok(0));
     assert_same(&rt, reader.calls, 4);
-    Ok(())
 }
 
 #[test]
-fn a_session_rests_before_each_ask_but_the_first(rt: HostRuntime) -> Result<(), Fail> {
+fn a_session_rests_before_each_ask_but_the_first(rt: HostRuntime) {
     let pace = RestPace::new(&rt);
-    let start = Instant::now(&rt)?;
+    let start = Instant::now(&rt).expect(&rt, "a clock");
     pace.turn(&rt, 1, 0);
     pace.turn(&rt, 1, 1);
-    assert!(rt; start.elapsed(&rt)? >= Duration::from_millis(1));
-    Ok(())
+    assert!(rt; start.elapsed(&rt).expect(&rt, "a clock") >= Duration::from_millis(1));
 }

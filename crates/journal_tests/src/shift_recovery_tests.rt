@@ -13,7 +13,7 @@ fn a_journal_is_made_and_found_again(rt: HostRuntime) -> Result<(), Fail> {
         session: 1,
         request: Request::Unload { job: JobId(7) },
     };
-    let disk = MemDisk::new(alloc, b"", List::new(alloc))?;
+    let disk = MemDisk::new(alloc, b"", List::new(alloc)).expect(&rt, "memory");
     let Opened::Fresh(blank) = recover(alloc, disk, b"cell", 8) else {
         return Err(Fail::from("not blank"));
     };
@@ -23,7 +23,7 @@ fn a_journal_is_made_and_found_again(rt: HostRuntime) -> Result<(), Fail> {
     let Ok(mut journal) = cleared.create(b"cell") else {
         return Err(Fail::from("not created"));
     };
-    journal.append(&grant)?;
+    journal.append(&grant).expect(&rt, "memory");
     let Opened::Found { journal, grants } = recover(alloc, journal.into_disk(), b"cell", 8) else {
         return Err(Fail::from("not found"));
     };

@@ -3,7 +3,6 @@ use crate::same::assert_same;
 use admission_core::Core;
 use cell_base::{JobId, Part, Refusal, Reply, Request, ResId, TypeId, cell_fits, request_fits};
 use std::process::Abort;
-use std::test::Fail;
 use test_fixtures::cell_of_one;
 
 /// What other threads may have.
@@ -22,8 +21,8 @@ fn takes_its_plan(rt: &impl Abort, core: &mut Core, job: JobId) {
 }
 
 #[test]
-fn opens_and_answers(rt: HostRuntime) -> Result<(), Fail> {
-    let cell = cell_of_one(rt.alloc())?;
+fn opens_and_answers(rt: HostRuntime) {
+    let cell = cell_of_one(rt.alloc()).expect(&rt, "memory");
     let job = JobId(7);
     let kind = TypeId(0);
     let load = Request::Load { job, kind };
@@ -35,7 +34,7 @@ fn opens_and_answers(rt: HostRuntime) -> Result<(), Fail> {
     };
     assert!(rt; cell_fits(&cell));
     assert!(rt; request_fits(&cell, &load));
-    let mut core = Core::open(rt.alloc(), cell)?;
+    let mut core = Core::open(rt.alloc(), cell).expect(&rt, "memory");
     assert_eq!(rt; core.ask(&load), Reply::Granted);
     assert_eq!(rt; core.decide(&load), Reply::Refused(Refusal::JobLoaded));
     assert_eq!(rt; core.parts_left(), 1);
@@ -46,5 +45,4 @@ fn opens_and_answers(rt: HostRuntime) -> Result<(), Fail> {
     assert_same(&rt, core.full(), 1);
     takes_its_plan(&rt, &mut core, job);
     let _core = may_be_shared(core);
-    Ok(())
 }

@@ -2,7 +2,6 @@
 use crate::same::assert_same;
 use banker_check::{Hybrid, HybridReply};
 use cell_base::{JobId, Request, ResId, TypeId, cell_fits, request_fits};
-use std::test::Fail;
 use test_fixtures::crossing;
 
 fn load(job: u32, kind: u16) -> Request {
@@ -13,10 +12,10 @@ fn load(job: u32, kind: u16) -> Request {
 }
 
 #[test]
-fn blocks_opposite_parts(rt: HostRuntime) -> Result<(), Fail> {
-    let cell = crossing(rt.alloc())?;
+fn blocks_opposite_parts(rt: HostRuntime) {
+    let cell = crossing(rt.alloc()).expect(&rt, "memory");
     assert!(rt; cell_fits(&cell));
-    let mut hybrid = Hybrid::open(rt.alloc(), cell)?;
+    let mut hybrid = Hybrid::open(rt.alloc(), cell).expect(&rt, "memory");
     let (first, second) = (load(7, 0), load(8, 1));
     assert!(rt; request_fits(hybrid.cell(), &first));
     assert_same(&rt, hybrid.ask(&first), HybridReply::Granted);
@@ -29,14 +28,13 @@ fn blocks_opposite_parts(rt: HostRuntime) -> Result<(), Fail> {
     };
     assert_same(&rt, hybrid.ask(&second), blocked);
     assert_same(&rt, hybrid.parts_left(), 1);
-    Ok(())
 }
 
 #[test]
-fn orders_parts_that_follow_each_other(rt: HostRuntime) -> Result<(), Fail> {
-    let cell = crossing(rt.alloc())?;
+fn orders_parts_that_follow_each_other(rt: HostRuntime) {
+    let cell = crossing(rt.alloc()).expect(&rt, "memory");
     assert!(rt; cell_fits(&cell));
-    let mut hybrid = Hybrid::open(rt.alloc(), cell)?;
+    let mut hybrid = Hybrid::open(rt.alloc(), cell).expect(&rt, "memory");
     let process = Request::Process { machine: ResId(0) };
     let go_on = Request::Move {
         job: JobId(7),
@@ -47,13 +45,15 @@ fn orders_parts_that_follow_each_other(rt: HostRuntime) -> Result<(), Fail> {
         assert_same(&rt, hybrid.ask(&request), HybridReply::Granted);
     }
     assert_same(&rt, hybrid.work_left(), 6);
-    let order = hybrid.order(rt.alloc())?.ok_or("an order")?;
+    let order = hybrid
+        .order(rt.alloc())
+        .expect(&rt, "memory")
+        .expect(&rt, "an order");
     assert_same(&rt, order.as_slice(), [JobId(7), JobId(8)].as_slice());
     for _ in 0..6 {
-        let step = hybrid.plan_step().ok_or("a step")?;
+        let step = hybrid.plan_step().expect(&rt, "a step");
         assert!(rt; request_fits(hybrid.cell(), &step));
         assert_same(&rt, hybrid.ask(&step), HybridReply::Granted);
     }
     assert_same(&rt, hybrid.parts_left(), 0);
-    Ok(())
 }

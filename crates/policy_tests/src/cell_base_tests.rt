@@ -7,7 +7,6 @@ use cell_base::{
     TypeId, cell_fits, request_fits, shift_fits,
 };
 use std::alloc::Global;
-use std::test::Fail;
 
 fn list_of<T: Copy>(alloc: Global, values: &[T]) -> Result<List<T>, NoMemory> {
     let mut list = List::new(alloc);
@@ -65,18 +64,17 @@ fn write_first(list: &mut List<u32>, value: u32)
 }
 
 #[test]
-fn takes_memory(rt: HostRuntime) -> Result<(), Fail> {
+fn takes_memory(rt: HostRuntime) {
     let alloc = rt.alloc();
-    let mut shelf = Shelf::with_room(alloc, 2)?;
+    let mut shelf = Shelf::with_room(alloc, 2).expect(&rt, "memory");
     shelf.push(7u32);
     shelf.push(8);
     let mut list = may_be_shared(may_be_shared(shelf).into_list());
-    list.try_push(9)?;
+    list.try_push(9).expect(&rt, "memory");
     assert_same(&rt, list.pop(), Some(9));
     assert_eq!(rt; list.len(), 2);
     write_first(&mut list, 6);
     assert_same(&rt, list.as_slice(), [6, 8].as_slice());
-    Ok(())
 }
 
 /// A shift of one session with one step.
@@ -91,9 +89,9 @@ fn shift_of_one(alloc: Global) -> Result<Shift, NoMemory> {
 }
 
 #[test]
-fn fits(rt: HostRuntime) -> Result<(), Fail> {
+fn fits(rt: HostRuntime) {
     let alloc = rt.alloc();
-    let cell = may_be_shared(small_cell(alloc, 1)?);
+    let cell = may_be_shared(small_cell(alloc, 1).expect(&rt, "memory"));
     let load = Request::Load {
         job: JobId(7),
         kind: TypeId(0),
@@ -101,7 +99,6 @@ fn fits(rt: HostRuntime) -> Result<(), Fail> {
     assert!(rt; cell_fits(&cell));
     assert!(rt; request_fits(&cell, &load));
     assert!(rt; !request_fits(&cell, &Request::Process { machine: ResId(1) }));
-    assert!(rt; shift_fits(&cell, &shift_of_one(alloc)?));
-    assert!(rt; !cell_fits(&small_cell(alloc, 0)?));
-    Ok(())
+    assert!(rt; shift_fits(&cell, &shift_of_one(alloc).expect(&rt, "memory")));
+    assert!(rt; !cell_fits(&small_cell(alloc, 0).expect(&rt, "memory")));
 }

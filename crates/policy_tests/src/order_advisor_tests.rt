@@ -3,7 +3,6 @@ use crate::same::assert_same;
 use cell_base::{Cell, List, NoMemory, cell_fits};
 use order_advisor::{AdviceFault, advise, arrange};
 use std::alloc::Global;
-use std::test::Fail;
 use test_fixtures::{add_machine, add_type};
 
 /// Machines of one unit with these orders, and one type that goes through all of them in turn.
@@ -26,32 +25,30 @@ fn both_ways(alloc: Global, second_order: u32) -> Result<Cell, NoMemory> {
 }
 
 #[test]
-fn of_two_lists_that_weigh_the_same_the_first_is_given(rt: HostRuntime) -> Result<(), Fail> {
+fn of_two_lists_that_weigh_the_same_the_first_is_given(rt: HostRuntime) {
     for (second_order, given) in [(2u32, 5u64), (1, 6)] {
-        let cell = both_ways(rt.alloc(), second_order)?;
+        let cell = both_ways(rt.alloc(), second_order).expect(&rt, "memory");
         assert!(rt; cell_fits(&cell));
-        let advice = advise(rt.alloc(), &cell).map_err(|_| "advice")?;
+        let advice = advise(rt.alloc(), &cell).expect(&rt, "advice");
         assert_same(&rt, advice.orders.as_slice(), [1, 2].as_slice());
         assert_same(&rt, advice.weight, 5);
         assert_same(&rt, advice.given, given);
     }
-    Ok(())
 }
 
 #[test]
-fn the_last_machine_comes_first(rt: HostRuntime) -> Result<(), Fail> {
-    let cell = in_a_row(rt.alloc(), &[1, 2, 3])?;
+fn the_last_machine_comes_first(rt: HostRuntime) {
+    let cell = in_a_row(rt.alloc(), &[1, 2, 3]).expect(&rt, "memory");
     assert!(rt; cell_fits(&cell));
-    let advice = advise(rt.alloc(), &cell).map_err(|_| "advice")?;
+    let advice = advise(rt.alloc(), &cell).expect(&rt, "advice");
     assert_same(&rt, advice.orders.as_slice(), [3, 2, 1].as_slice());
     assert_same(&rt, advice.weight, 3);
     assert_same(&rt, advice.given, 6);
-    Ok(())
 }
 
 #[test]
-fn eight_machines_are_for_the_larger_table(rt: HostRuntime) -> Result<(), Fail> {
-    let cell = in_a_row(rt.alloc(), &[1, 1, 1, 1, 1, 1, 1, 1])?;
+fn eight_machines_are_for_the_larger_table(rt: HostRuntime) {
+    let cell = in_a_row(rt.alloc(), &[1, 1, 1, 1, 1, 1, 1, 1]).expect(&rt, "memory");
     assert!(rt; cell_fits(&cell));
     let refused = advise(rt.alloc(), &cell).err();
     assert_same(
@@ -59,7 +56,7 @@ fn eight_machines_are_for_the_larger_table(rt: HostRuntime) -> Result<(), Fail> 
         refused,
         Some(AdviceFault::TooManyResources { count: 8 }),
     );
-    let advice = arrange(rt.alloc(), &cell).map_err(|_| "advice")?;
+    let advice = arrange(rt.alloc(), &cell).expect(&rt, "advice");
     assert_same(
         &rt,
         advice.orders.as_slice(),
@@ -67,24 +64,22 @@ fn eight_machines_are_for_the_larger_table(rt: HostRuntime) -> Result<(), Fail> 
     );
     assert_same(&rt, advice.weight, 8_000);
     assert_same(&rt, advice.given, 36_000);
-    Ok(())
 }
 
 #[test]
-fn a_machine_comes_before_a_store_of_three_units(rt: HostRuntime) -> Result<(), Fail> {
-    let mut cell = both_ways(rt.alloc(), 2)?;
+fn a_machine_comes_before_a_store_of_three_units(rt: HostRuntime) {
+    let mut cell = both_ways(rt.alloc(), 2).expect(&rt, "memory");
     for (r, resource) in cell.resources.as_mut_slice().iter_mut().enumerate() {
         if r == 0 {
             resource.capacity = 3;
         }
     }
     assert!(rt; cell_fits(&cell));
-    let alike = advise(rt.alloc(), &cell).map_err(|_| "advice")?;
+    let alike = advise(rt.alloc(), &cell).expect(&rt, "advice");
     assert_same(&rt, alike.orders.as_slice(), [1, 2].as_slice());
     assert_same(&rt, alike.weight, 5);
-    let by_capacity = arrange(rt.alloc(), &cell).map_err(|_| "advice")?;
+    let by_capacity = arrange(rt.alloc(), &cell).expect(&rt, "advice");
     assert_same(&rt, by_capacity.orders.as_slice(), [2, 1].as_slice());
     assert_same(&rt, by_capacity.weight, 2_999);
     assert_same(&rt, by_capacity.given, 3_666);
-    Ok(())
 }

@@ -8,7 +8,6 @@ use cell_base::{
 };
 use refusal_reason::{explain, laws, show_text};
 use std::alloc::Global;
-use std::test::Fail;
 use test_fixtures::crossing;
 
 /// The jobs that stand in the way of a request, if it is refused.
@@ -25,10 +24,10 @@ fn jobs_in_the_way(alloc: Global, core: &Core, request: &Request) -> Result<List
 }
 
 #[test]
-fn refusals_are_explained(rt: HostRuntime) -> Result<(), Fail> {
-    let cell = crossing(rt.alloc())?;
+fn refusals_are_explained(rt: HostRuntime) {
+    let cell = crossing(rt.alloc()).expect(&rt, "memory");
     assert!(rt; cell_fits(&cell));
-    let mut core = Core::open(rt.alloc(), cell)?;
+    let mut core = Core::open(rt.alloc(), cell).expect(&rt, "memory");
     let first = Request::Load {
         job: JobId(7),
         kind: TypeId(0),
@@ -48,23 +47,29 @@ fn refusals_are_explained(rt: HostRuntime) -> Result<(), Fail> {
     assert_same(&rt, core.decide(&second), Reply::Refused(full));
     assert_same(
         &rt,
-        jobs_in_the_way(rt.alloc(), &core, &second)?.as_slice(),
+        jobs_in_the_way(rt.alloc(), &core, &second)
+            .expect(&rt, "memory")
+            .as_slice(),
         [JobId(7)].as_slice(),
     );
-    assert_same(&rt, explain(rt.alloc(), &core, &Refusal::Idle)?.len(), 0);
-    Ok(())
+    assert_same(
+        &rt,
+        explain(rt.alloc(), &core, &Refusal::Idle)
+            .expect(&rt, "memory")
+            .len(),
+        0,
+    );
 }
 
 #[test]
-fn resources_are_shown(rt: HostRuntime) -> Result<(), Fail> {
-    let cell = crossing(rt.alloc())?;
+fn resources_are_shown(rt: HostRuntime) {
+    let cell = crossing(rt.alloc()).expect(&rt, "memory");
     assert!(rt; cell_fits(&cell));
-    let core = Core::open(rt.alloc(), cell)?;
-    let text = show_text(rt.alloc(), &core)?;
+    let core = Core::open(rt.alloc(), cell).expect(&rt, "memory");
+    let text = show_text(rt.alloc(), &core).expect(&rt, "memory");
     let first = b"resource M1 capacity 1 order 1\nstage A 0\nstage Z 1\n";
     let second = b"resource M2 capacity 1 order 2\nstage A 0\nstage A 1\nstage Z 0\n";
     assert_same(&rt, text.len(), (first.len() + second.len()) as u64);
     assert!(rt; text.as_slice().starts_with(first));
     assert!(rt; text.as_slice().ends_with(second));
-    Ok(())
 }

@@ -29,9 +29,9 @@ const SECOND: [StageNo; 3] = [StageNo(0), StageNo(1), StageNo(2)];
 #[test]
 fn members_are_told(rt: HostRuntime) -> Result<(), Fail> {
     let upstream = upstream_of_crossing(rt.alloc())?;
-    let first = upstream.members(rt.alloc(), ResId(0))?;
+    let first = upstream.members(rt.alloc(), ResId(0)).expect(&rt, "memory");
     assert_same(&rt, first.as_slice(), FIRST.as_slice());
-    let second = upstream.members(rt.alloc(), ResId(1))?;
+    let second = upstream.members(rt.alloc(), ResId(1)).expect(&rt, "memory");
     assert_same(&rt, second.as_slice(), SECOND.as_slice());
     Ok(())
 }

@@ -202,7 +202,7 @@ const LOADS: [(u16, Request, Answer); 6] = [
 
 #[test]
 fn a_load_of_the_same_job_ends_a_wait(rt: HostRuntime) -> Result<(), Fail> {
-    let cell = two_apart(rt.alloc())?;
+    let cell = two_apart(rt.alloc()).expect(&rt, "memory");
     let mut board = board_over(rt.alloc(), cell, 8)?;
     assert!(rt; answers_as_listed(&mut board, &LOADS[..5]));
     assert_same(&rt, board.waiting(), [SECOND].as_slice());

@@ -1,7 +1,6 @@
 //! What no clause says: that memory is had. Two sessions wait, and one of them cancels.
 use crate::same::assert_same;
 use cell_base::{JobId, Refusal, Request, ResId, TypeId};
-use std::test::Fail;
 use wait_queue::{WaitQueue, Waiter};
 
 /// A session that waits with a load of the job for the first machine.
@@ -21,13 +20,12 @@ fn loading(session: u16, job: u32) -> Waiter {
 }
 
 #[test]
-fn a_session_that_cancels_waits_no_more(rt: HostRuntime) -> Result<(), Fail> {
-    let mut queue = WaitQueue::with_room(rt.alloc(), 2)?;
+fn a_session_that_cancels_waits_no_more(rt: HostRuntime) {
+    let mut queue = WaitQueue::with_room(rt.alloc(), 2).expect(&rt, "memory");
     queue.push(loading(2, 8), ResId(0));
     queue.push(loading(3, 9), ResId(0));
     assert_same(&rt, queue.cancel(2), Some(loading(2, 8)));
     assert_same(&rt, queue.cancel(2), None);
     assert_same(&rt, queue.waiting(), [loading(3, 9)].as_slice());
     assert_same(&rt, queue.waiter_of(3), Some(loading(3, 9)));
-    Ok(())
 }
