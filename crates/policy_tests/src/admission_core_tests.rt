@@ -3,6 +3,7 @@ use crate::same::assert_same;
 use admission_core::Core;
 use cell_base::{JobId, Part, Refusal, Reply, Request, ResId, TypeId, cell_fits, request_fits};
 use std::process::Abort;
+use std::test::Fail;
 use test_fixtures::cell_of_one;
 
 /// What other threads may have.
@@ -21,8 +22,8 @@ fn takes_its_plan(rt: &impl Abort, core: &mut Core, job: JobId) {
 }
 
 #[test]
-fn opens_and_answers(rt: HostRuntime) {
-    let cell = cell_of_one(rt.alloc()).expect(&rt, "memory");
+fn opens_and_answers(rt: HostRuntime) -> Result<(), Fail> {
+    let cell = cell_of_one(rt.alloc())?;
     let job = JobId(7);
     let kind = TypeId(0);
     let load = Request::Load { job, kind };
@@ -34,7 +35,7 @@ fn opens_and_answers(rt: HostRuntime) {
     };
     assert!(rt; cell_fits(&cell));
     assert!(rt; request_fits(&cell, &load));
-    let mut core = Core::open(rt.alloc(), cell).expect(&rt, "memory");
+    let mut core = Core::open(rt.alloc(), cell)?;
     assert_eq!(rt; core.ask(&load), Reply::Granted);
     assert_eq!(rt; core.decide(&load), Reply::Refused(Refusal::JobLoaded));
     assert_eq!(rt; core.parts_left(), 1);
@@ -45,4 +46,5 @@ fn opens_and_answers(rt: HostRuntime) {
     assert_same(&rt, core.full(), 1);
     takes_its_plan(&rt, &mut core, job);
     let _core = may_be_shared(core);
+    Ok(())
 }
