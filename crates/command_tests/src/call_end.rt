@@ -11,6 +11,7 @@ pub struct CallEnd {
 }
 
 impl CallEnd {
+    /// What a command left, and what it put.
     pub fn new(end: CommandEnd<MemDisk>, out: MemSink) -> CallEnd {
         CallEnd {
             status: end.status.number(),

@@ -16,9 +16,10 @@ use std::rt::Clock;
 use std::sync::Wait;
 use std::thread::Threads;
 
-// Of a text of many pieces each of the first puts is made to fail, then one in so many, and the last.
+// Of a text of many pieces each of the first puts is made to fail, and the last.
 const FIRST_PUTS: u64 = 64;
 
+// Between these, one put in so many is.
 const EACH_PUT: u64 = 64;
 
 /// Ends with what was wanted and told where a conversation doesn't go as written, in the call that ended like this, or in

@@ -20,4 +20,4 @@ mod refusals;
 pub use opening::{open_journal, open_journal_with};
 pub use readers::{AfterGrants, Found, find_grants, read_journal};
 pub use recorded::{Asked, Recorded, give_back, print_record, print_recorded, record_of};
-pub use refusals::{at_journal_fault, at_other_shift};
+pub use refusals::{at_journal_fault, at_open_fault, at_other_shift};

@@ -31,7 +31,7 @@ pub fn at_journal_fault(why: JournalFault) -> EarlyEnd
 }
 
 /// The end at a disk that was not opened.
-pub(crate) fn at_open_fault(why: OpenFault) -> EarlyEnd
+pub fn at_open_fault(why: OpenFault) -> EarlyEnd
     ensures { result ≡ end_unopened why }
 {
     match why {

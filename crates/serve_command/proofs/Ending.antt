@@ -7,8 +7,12 @@ use Rattle.cell_base.specs.declared.cells.Cell.{Cell}
 use Rattle.cell_base.specs.declared.shifts.Grant.{Grant}
 use Rattle.journal_format.specs.Replayed.{AreDue, opened_as}
 use Rattle.live_cell.specs.LiveState.{LiveState, fresh}
+use Rattle.shift_recovery.specs.Opening.{HasFaultCause, IsRefusalOf}
+use Rattle.shift_recovery.specs.declared.open_error.OpenFault.{OpenFault}
+use Rattle.shift_recovery.specs.declared.open_error.OpenFault.TheVariants as fault
+use Rattle.durable_cell.specs.Openings.{IsHandedBack}
 use Rattle.live_cell.specs.Openings.{IsOpened}
-use Rattle.cell_walks.specs.Allowed.{IsEndedAt, JournalOpened, NotOpened, Passed, Unasked}
+use Rattle.cell_walks.specs.Allowed.{IsEndedAt, IsNotOpened, JournalOpened, NotOpened, OpeningFailed, OpeningRefused, OpeningStarved, Passed, Unasked}
 use Rattle.cell_walks.specs.DiskTold.{DiskTold, IsUntouched, disk_told}
 use Rattle.cell_walks.specs.Observed.{FilesTold, ShowsFile, observed_with}
 use Rattle.cell_walks.specs.Outcomes.{IsDelivered, early}
@@ -18,7 +22,9 @@ use Rattle.cell_walks.specs.declared.early_end.EarlyEnd.{EarlyEnd}
 use Rattle.cell_walks.specs.declared.status.Status.{Status}
 use Rattle.cell_walks.proofs.Steps.{ended_at}
 use Rattle.cell_texts.specs.Tests.{KnownCell, cell_file, cell_reads}
+use Rattle.journal_texts.specs.Openings.{end_unopened}
 use Rattle.journal_texts.specs.Tests.{to_add}
+use Rattle.journal_texts.proofs.Disks.{adds_nothing, only_read}
 use Rattle.serve_command.specs.Conversing.{IsServedAfter, IsServedOnJournal}
 use Rattle.serve_command.specs.Serve.{IsServed, serve}
 use Rattle.serve_command.specs.declared.command.TheConstants.{MAX_SERVED}
@@ -45,7 +51,7 @@ module _ (files : FilesTold) (input : SourceTold) (disk : DiskTold) (sink : Sink
   ends_served held shows (JournalOpened opening opened (outcome, served, delivered, stands)) =
       record { outcome = outcome; allowed = Passed held shows (JournalOpened opening opened (served, stands)); delivered = delivered }
 
--- the journal is opened
+-- the journal is opened, or not
 module _ {D : Type 0} (reads_as : D → Option (List ℕ)) (may_leave : D → List ℕ → Type 0) (moment : D → ℕ)
     (left_since : D → ℕ → List ℕ → Type 0) (faults : D → ℕ) where
   pub opened_so : (held : KnownCell) (disk last : D) (live : LiveState D) (opening : List Grant) (input : SourceTold) (sink : SinkTold)
@@ -63,3 +69,14 @@ module _ {D : Type 0} (reads_as : D → Option (List ℕ)) (may_leave : D → Li
             live.disk last
             opened fed served.left,
       )
+
+  pub not_opened : (held : KnownCell) (old new : D) (why : OpenFault)
+      → IsRefusalOf (reads_as old) (λ file. opened_as held.cell file held.text MAX_SERVED) why
+      → HasFaultCause (faults old) (faults new) why → IsHandedBack reads_as may_leave moment left_since old held.text new why
+      → IsNotOpened (disk_told reads_as may_leave moment left_since faults old new) (to_add held MAX_SERVED) (end_unopened why)
+  not_opened held old new (fault.Refused why) refused cause reads =
+      OpeningRefused why refused (only_read reads_as may_leave moment left_since faults old new reads) refl
+  not_opened held old new fault.Device refused cause either =
+      OpeningFailed refl cause (adds_nothing reads_as may_leave moment left_since faults old new held.text either)
+  not_opened held old new fault.Memory refused cause reads =
+      OpeningStarved refl (only_read reads_as may_leave moment left_since faults old new reads)

@@ -6,7 +6,10 @@ use Rattle.outside_io.specs.Meanings.{DiskMeaning}
 use Rattle.outside_io.specs.Moments.{started}
 use Rattle.outside_io.specs.Telling.{where_told, told, turned}
 use Rattle.cell_base.specs.declared.shifts.Grant.{Grant}
+use Rattle.shift_recovery.specs.declared.open_error.OpenFault.{OpenFault}
+use Rattle.shift_recovery.specs.declared.open_error.OpenFault.TheVariants as fault
 use Rattle.durable_cell.specs.Made.{IsUnmade}
+use Rattle.durable_cell.specs.Openings.{IsHandedBack}
 use Rattle.live_cell.specs.Openings.{IsOpened}
 use Rattle.journal_format.specs.Blanks.{IsBlank}
 use Rattle.journal_format.specs.Journals.{StandsFor}
@@ -74,12 +77,14 @@ module _ {D T : Type 0} (disk : DiskMeaning D) (peer : PeerMeaning T D) (given b
       closes file line old b beside (disk.may_leave old) (started disk.moment disk.left_since old (disk.may_leave old) only_now)
       (λ c is. is) (λ c is. inl is)
 
-  pub either_end : (file line text : List ℕ) (new : D) (b : T) → disk.reads_as old ≡ Some file
-      → OnlyReads disk.reads_as disk.may_leave disk.moment disk.left_since old new
-      ⊎ IsUnmade disk.reads_as disk.may_leave disk.moment disk.left_since old text new → IsBeside disk peer new a b (line ∷ [])
+  -- it is handed back
+  pub handed_back : (file line text : List ℕ) (new : D) (b : T) (why : OpenFault) → disk.reads_as old ≡ Some file
+      → IsHandedBack disk.reads_as disk.may_leave disk.moment disk.left_since old text new why → IsBeside disk peer new a b (line ∷ [])
       → RunsTo disk peer a old b new (IsUnopened (disk.may_leave old) given before file line)
-  either_end file line text new b is either beside =
+  handed_back file line text new b (fault.Refused why) is reads beside = reads_end file line new b beside reads
+  handed_back file line text new b fault.Device is either beside =
       ⊎_elim (λ reads. reads_end file line new b beside reads) (λ unmade. unmade_end file line new b beside text is unmade) either
+  handed_back file line text new b fault.Memory is reads beside = reads_end file line new b beside reads
 
   -- ---- the journal is open
 

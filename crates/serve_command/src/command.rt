@@ -21,11 +21,11 @@ use cell_texts::{CellFile, CommandEnd, read_cell};
 use cell_walks::EarlyEnd;
 use durable_cell::MAX_BEFORE_DRAIN;
 use input_lines::InputLines;
-use journal_texts::at_journal_fault;
+use journal_texts::at_open_fault;
 use live_cell::{LiveCell, OpenedLive};
 use outside_io::{Disk, Files};
 use peers::Peer;
-use shift_recovery::{OpenError, OpenFault};
+use shift_recovery::OpenError;
 use std::alloc::Global;
 use std::sync::Wait;
 use step_text::NameIndex;
@@ -130,10 +130,6 @@ fn serve_journal<R: Wait, D: Disk, T: Peer<D>>(
             };
             serve_live(rt, server, lines, peer)
         }
-        Err(OpenError { disk, why }) => match why {
-            OpenFault::Refused(why) => end_early(peer, at_journal_fault(why), disk),
-            OpenFault::Device => end_early(peer, EarlyEnd::DeviceFailed, disk),
-            OpenFault::Memory => end_early(peer, EarlyEnd::WantOfMemory, disk),
-        },
+        Err(OpenError { disk, why }) => end_early(peer, at_open_fault(why), disk),
     }
 }

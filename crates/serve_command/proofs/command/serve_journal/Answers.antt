@@ -1,30 +1,30 @@
 -- The journal is opened and served, or the command ends.
-use Rattle.std.specs.Prelude.{IfSome, Ok, Err}
-use Rattle.std.proofs.Common.{◌≡◌, ◌⊎◌, All, inl, List, ℕ, ap, arith, length, refl, subst, sym, ◌∙◌}
+use Rattle.std.specs.Prelude.{IfSome, Ok}
+use Rattle.std.proofs.Common.{◌≡◌, All, List, ℕ, ap, arith, length, subst, sym, ◌∙◌}
 use Rattle.outside_io.specs.Telling.{told, where_told}
 use Rattle.cell_base.specs.declared.cells.Cell.{Cell}
 use Rattle.cell_base.specs.declared.shifts.Grant.{Grant}
 use Rattle.cell_base.specs.Fits.{RequestFits}
 use Rattle.cell_base.specs.Histories.{replay}
-use Rattle.durable_cell.specs.Made.{IsUnmade}
+use Rattle.shift_recovery.specs.Opening.{IsRefusalOf}
+use Rattle.durable_cell.specs.Openings.{IsHandedBack}
 use Rattle.journal_format.specs.Replayed.{opened_as}
 use Rattle.live_cell.specs.LiveState.{LiveState}
 use Rattle.live_cell.specs.Openings.{IsOpened}
-use Rattle.journal_format.specs.Reads.{OnlyReads}
-use Rattle.cell_walks.specs.Allowed.{NotOpened, OpeningFailed, OpeningRefused, OpeningStarved}
+use Rattle.cell_walks.specs.Allowed.{IsNotOpened, NotOpened}
 use Rattle.cell_walks.specs.DiskTold.{disk_told}
 use Rattle.cell_texts.specs.Tests.{known}
-use Rattle.journal_texts.proofs.Disks.{adds_nothing, only_read}
+use Rattle.journal_texts.specs.Tests.{to_add}
 use Rattle.peers.specs.Meanings.{peer_gave, peer_took}
 use Rattle.peers.specs.Runs.{RunsTo}
 use Rattle.cell_walks.specs.Statuses.{early_line}
-use Rattle.cell_walks.specs.declared.early_end.EarlyEnd.TheVariants.{DeviceFailed, WantOfMemory}
+use Rattle.cell_walks.specs.declared.early_end.EarlyEnd.{EarlyEnd}
 use Rattle.wait_queue.specs.Queues.{QueueState}
 use Rattle.serve_command.specs.LivesThrough.{IsUnopened, Opened, Unopened}
-use Rattle.serve_command.proofs.OpeningLives.{either_end, lives_since}
+use Rattle.serve_command.proofs.OpeningLives.{handed_back, lives_since}
 use Rattle.serve_command.specs.Conversing.{IsServedOnJournal}
 use Rattle.serve_command.specs.declared.command.TheConstants.{MAX_SERVED}
-use Rattle.serve_command.proofs.Ending.{opened_so}
+use Rattle.serve_command.proofs.Ending.{not_opened, opened_so}
 use Rattle.serve_command.proofs.command.serve_journal.Goals as goal
 
 pub returns-in-Ok-clause-served : goal.returns-in-Ok-clause-served
@@ -55,50 +55,24 @@ returns-in-Ok-clause-served g c =
       disk = opened.stands;
     }))
 
-pub returns-in-Refused-clause-served : goal.returns-in-Refused-clause-served
-returns-in-Refused-clause-served g c =
+pub returns-clause-served : goal.returns-clause-served
+returns-clause-served g c =
     let input = peer_gave g.T.Peer c.args.peer.now c.end_early.new.peer in
     let sink = peer_took g.T.Peer c.args.peer.now c.end_early.new.peer in
+    let error = c.in-Err.field-0 in
+    let not = subst (λ (text : List ℕ). IsHandedBack g.D.Disk.reads_as g.D.Disk.may_leave g.D.Disk.moment g.D.Disk.left_since c.args.disk
+    text error.disk error.why) c.deref.ensures.value c.in-Err.ensures.leaves in
+    let refused = subst (λ (text : List ℕ). IsRefusalOf (g.D.Disk.reads_as c.args.disk)
+    (λ file. opened_as c.args.held.cell file text MAX_SERVED) error.why) c.deref.ensures.value c.in-Err.ensures.opened in
     subst (λ (d : _). IsServedOnJournal (disk_told g.D.Disk.reads_as g.D.Disk.may_leave g.D.Disk.moment g.D.Disk.left_since
     g.D.Disk.faults c.args.disk d) input sink (known c.args.held) c.end_early.result.status)
     (sym c.end_early.ensures.disk)
-    (NotOpened c.at_journal_fault.result
-    (OpeningRefused c.in-Refused.why
-    (subst (λ (text : List ℕ). IfSome (g.D.Disk.reads_as c.args.disk)
-    (λ file. opened_as c.args.held.cell file text MAX_SERVED ≡ Err c.in-Refused.why)) c.deref.ensures.value
-    (rw c.in-Refused.is at c.in-Err.ensures.opened))
-    (only_read g.D.Disk.reads_as g.D.Disk.may_leave g.D.Disk.moment g.D.Disk.left_since g.D.Disk.faults c.args.disk c.in-Err.field-0.disk
-    (rw c.in-Refused.is at c.in-Err.ensures.leaves))
-    c.at_journal_fault.ensures)
+    (NotOpened c.at_open_fault.result
+    (subst (λ (end : EarlyEnd). IsNotOpened (disk_told g.D.Disk.reads_as g.D.Disk.may_leave g.D.Disk.moment g.D.Disk.left_since
+    g.D.Disk.faults c.args.disk error.disk) (to_add (known c.args.held) MAX_SERVED) end) (sym c.at_open_fault.ensures)
+    (not_opened g.D.Disk.reads_as g.D.Disk.may_leave g.D.Disk.moment g.D.Disk.left_since g.D.Disk.faults
+    (known c.args.held) c.args.disk error.disk error.why refused c.in-Err.ensures.cause not))
     c.end_early.ensures.delivered)
-
-pub returns-in-Device-clause-served : goal.returns-in-Device-clause-served
-returns-in-Device-clause-served g c =
-    let input = peer_gave g.T.Peer c.args.peer.now c.end_early-in-Device.new.peer in
-    let sink = peer_took g.T.Peer c.args.peer.now c.end_early-in-Device.new.peer in
-    subst (λ (d : _). IsServedOnJournal (disk_told g.D.Disk.reads_as g.D.Disk.may_leave g.D.Disk.moment g.D.Disk.left_since
-    g.D.Disk.faults c.args.disk d) input sink (known c.args.held) c.end_early-in-Device.result.status)
-    (sym c.end_early-in-Device.ensures.disk)
-    (NotOpened _
-    (OpeningFailed refl (rw c.in-Device.is at c.in-Err.ensures.cause)
-    (adds_nothing g.D.Disk.reads_as g.D.Disk.may_leave g.D.Disk.moment g.D.Disk.left_since g.D.Disk.faults c.args.disk c.in-Err.field-0.disk
-    c.args.held.text.items
-    (subst (λ (text : List ℕ). OnlyReads g.D.Disk.reads_as g.D.Disk.may_leave g.D.Disk.moment g.D.Disk.left_since c.args.disk
-    c.in-Err.field-0.disk
-    ⊎ IsUnmade g.D.Disk.reads_as g.D.Disk.may_leave g.D.Disk.moment g.D.Disk.left_since c.args.disk text c.in-Err.field-0.disk)
-    c.deref.ensures.value (rw c.in-Device.is at c.in-Err.ensures.leaves))))
-    c.end_early-in-Device.ensures.delivered)
-
-pub returns-clause-served : goal.returns-clause-served
-returns-clause-served g c =
-    let input = peer_gave g.T.Peer c.args.peer.now c.end_early-in-Memory.new.peer in
-    let sink = peer_took g.T.Peer c.args.peer.now c.end_early-in-Memory.new.peer in
-    subst (λ (d : _). IsServedOnJournal (disk_told g.D.Disk.reads_as g.D.Disk.may_leave g.D.Disk.moment g.D.Disk.left_since
-    g.D.Disk.faults c.args.disk d) input sink (known c.args.held) c.end_early-in-Memory.result.status)
-    (sym c.end_early-in-Memory.ensures.disk)
-    (NotOpened _ (OpeningStarved refl (only_read g.D.Disk.reads_as g.D.Disk.may_leave g.D.Disk.moment g.D.Disk.left_since g.D.Disk.faults
-    c.args.disk c.in-Err.field-0.disk (rw c.in-Memory.is at c.in-Err.ensures.leaves)))
-    c.end_early-in-Memory.ensures.delivered)
 
 pub returns-in-Ok-clause-moments : goal.returns-in-Ok-clause-moments
 returns-in-Ok-clause-moments g c = λ given before given_is put_is clock.
@@ -127,29 +101,14 @@ returns-in-Ok-clause-moments g c = λ given before given_is put_is clock.
       disk = opened.stands;
     }) opened c.serve_live.ensures.lives))
 
-pub returns-in-Refused-clause-moments : goal.returns-in-Refused-clause-moments
-returns-in-Refused-clause-moments g c = λ given before given_is put_is clock.
-    where_told (g.D.Disk.reads_as c.args.disk) _ (λ file is. Unopened (early_line c.at_journal_fault.result)
-    (subst (λ (d : _). RunsTo g.D.Disk g.T.Peer c.args.peer.now c.args.disk c.end_early.new.peer d
-    (IsUnopened (g.D.Disk.may_leave c.args.disk) given before file (early_line c.at_journal_fault.result))) (sym c.end_early.ensures.disk)
-    (either_end g.D.Disk g.T.Peer given before c.args.disk c.args.peer.now given_is put_is clock file (early_line c.at_journal_fault.result) c.args.held.text.items
-    c.in-Err.field-0.disk c.end_early.new.peer is (inl (rw c.in-Refused.is at c.in-Err.ensures.leaves)) c.end_early.ensures.beside)))
-
-pub returns-in-Device-clause-moments : goal.returns-in-Device-clause-moments
-returns-in-Device-clause-moments g c = λ given before given_is put_is clock.
-    where_told (g.D.Disk.reads_as c.args.disk) _ (λ file is. Unopened (early_line DeviceFailed)
-    (subst (λ (d : _). RunsTo g.D.Disk g.T.Peer c.args.peer.now c.args.disk c.end_early-in-Device.new.peer d
-    (IsUnopened (g.D.Disk.may_leave c.args.disk) given before file (early_line DeviceFailed))) (sym c.end_early-in-Device.ensures.disk)
-    (either_end g.D.Disk g.T.Peer given before c.args.disk c.args.peer.now given_is put_is clock file (early_line DeviceFailed) c.args.held.text.items
-    c.in-Err.field-0.disk c.end_early-in-Device.new.peer is (subst (λ (text : List ℕ). OnlyReads g.D.Disk.reads_as g.D.Disk.may_leave g.D.Disk.moment g.D.Disk.left_since c.args.disk
-    c.in-Err.field-0.disk
-    ⊎ IsUnmade g.D.Disk.reads_as g.D.Disk.may_leave g.D.Disk.moment g.D.Disk.left_since c.args.disk text c.in-Err.field-0.disk)
-    c.deref.ensures.value (rw c.in-Device.is at c.in-Err.ensures.leaves)) c.end_early-in-Device.ensures.beside)))
-
 pub returns-clause-moments : goal.returns-clause-moments
 returns-clause-moments g c = λ given before given_is put_is clock.
-    where_told (g.D.Disk.reads_as c.args.disk) _ (λ file is. Unopened (early_line WantOfMemory)
-    (subst (λ (d : _). RunsTo g.D.Disk g.T.Peer c.args.peer.now c.args.disk c.end_early-in-Memory.new.peer d
-    (IsUnopened (g.D.Disk.may_leave c.args.disk) given before file (early_line WantOfMemory))) (sym c.end_early-in-Memory.ensures.disk)
-    (either_end g.D.Disk g.T.Peer given before c.args.disk c.args.peer.now given_is put_is clock file (early_line WantOfMemory) c.args.held.text.items
-    c.in-Err.field-0.disk c.end_early-in-Memory.new.peer is (inl (rw c.in-Memory.is at c.in-Err.ensures.leaves)) c.end_early-in-Memory.ensures.beside)))
+    let error = c.in-Err.field-0 in
+    let line = early_line c.at_open_fault.result in
+    let not = subst (λ (text : List ℕ). IsHandedBack g.D.Disk.reads_as g.D.Disk.may_leave g.D.Disk.moment g.D.Disk.left_since c.args.disk
+    text error.disk error.why) c.deref.ensures.value c.in-Err.ensures.leaves in
+    where_told (g.D.Disk.reads_as c.args.disk) _ (λ file is. Unopened line
+    (subst (λ (d : _). RunsTo g.D.Disk g.T.Peer c.args.peer.now c.args.disk c.end_early.new.peer d
+    (IsUnopened (g.D.Disk.may_leave c.args.disk) given before file line)) (sym c.end_early.ensures.disk)
+    (handed_back g.D.Disk g.T.Peer given before c.args.disk c.args.peer.now given_is put_is clock file line c.args.held.text.items
+    error.disk c.end_early.new.peer error.why is not c.end_early.ensures.beside)))
