@@ -7,7 +7,7 @@ use Rattle.cell_base.specs.declared.cells.Cell.{Cell}
 use Rattle.cell_base.specs.declared.requests.Part.{Part}
 use Rattle.cell_base.specs.declared.requests.Request.{Request}
 use Rattle.cell_base.specs.declared.shifts.Grant.{Grant}
-use Rattle.cell_base.proofs.Elements.{none_past}
+use Rattle.lists.proofs.Elements.{none_past}
 use Rattle.cell_base.specs.Histories.{after_requests, all_granted, replay, requests_of}
 use Rattle.cell_texts.specs.Parting.{same_place}
 use Rattle.journal_texts.specs.AskedSteps.{step_grant}

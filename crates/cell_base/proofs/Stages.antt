@@ -14,7 +14,7 @@ use Rattle.cell_base.specs.Outcomes.{arrival}
 use Rattle.cell_base.specs.Fits.{CellFits, TypeFits, ResourceFits}
 use Rattle.cell_base.proofs.Admission.{all_numbers}
 use Rattle.cell_base.proofs.Successors.{successor_later}
-use Rattle.cell_base.proofs.Elements.{All-slice_get, All-flat_map, none_past}
+use Rattle.lists.proofs.Elements.{All-slice_get, All-flat_map, none_past}
 
 -- the stages of a cell are stages
 pub stages_standing : (cell : Cell) → All (IsStage cell) (stages cell)

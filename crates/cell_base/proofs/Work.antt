@@ -14,7 +14,7 @@ use Rattle.cell_base.specs.Stages.{successors, successor, path_within, first_bra
 use Rattle.cell_base.specs.Outcomes.{arrival}
 use Rattle.cell_base.specs.Fits.{CellFits}
 use Rattle.cell_base.specs.Plans.{work_at, work_of}
-use Rattle.cell_base.proofs.Elements.{Contains-slice_get}
+use Rattle.lists.proofs.Elements.{Contains-slice_get}
 use Rattle.cell_base.proofs.Stages.{arrival_stage, successor_stage, places_left_fall}
 
 -- the same part, done

@@ -2,7 +2,7 @@
 use crate::call_end::CallEnd;
 use crate::same::assert_same;
 use carry_commands::{Begin, Carry};
-use cell_base::{List, NoMemory};
+use lists::{List, NoMemory};
 use cell_driver::drive;
 use outside_io::{MemDisk, MemFiles, MemSink};
 use std::alloc::Global;

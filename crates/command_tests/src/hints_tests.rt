@@ -1,6 +1,6 @@
 //! The lines as a person reads them, over files in memory. `checks/hints` compares those of the program over real files.
 use crate::same::assert_same;
-use cell_base::List;
+use lists::List;
 use hints::{Ended, hint};
 use outside_io::MemFiles;
 use real_outside::Failure;

@@ -1,6 +1,6 @@
 //! That memory is had, and the lines of a number.
 use crate::same::assert_same;
-use cell_base::List;
+use lists::List;
 use cell_walks::Status;
 use make_command::run_make;
 use outside_io::{MemFiles, MemSink, NullDisk};

@@ -1,6 +1,6 @@
 //! A conversation over objects in memory: in pieces of each size, and with each call of the outside failing in its turn.
 use crate::same::assert_same;
-use cell_base::List;
+use lists::List;
 use cell_texts::CommandEnd;
 use cell_walks::Status;
 use outside_io::{CallKind, DiskCall, MemDisk, MemFiles};

@@ -1,7 +1,7 @@
 //! Whole calls over objects in memory: the texts of both commands.
 use crate::call_end::CallEnd;
 use crate::same::assert_same;
-use cell_base::{List, NoMemory};
+use lists::{List, NoMemory};
 use cell_driver::drive;
 use outside_io::{MemDisk, MemFiles, MemSink};
 use standby_commands::{Follow, run_feed};

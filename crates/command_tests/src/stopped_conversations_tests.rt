@@ -2,7 +2,7 @@
 //! is asked how many grants each session has. No session asks for two steps in one group, so it is told the number that it was told of,
 //! or one more; and of each group all grants are there, or none.
 use crate::same::assert_same;
-use cell_base::List;
+use lists::List;
 use cell_texts::CommandEnd;
 use cell_walks::Status;
 use outside_io::{MemDisk, MemFiles};

@@ -5,7 +5,7 @@ use crate::command::disk_name;
 use crate::folder::Folder;
 use crate::late_pace::LatePace;
 use anyhow::{Result, bail};
-use cell_base::List;
+use lists::List;
 use cell_program::{Ended, cell_main};
 use outside_io::{DiskCall, MemDisk, MemFiles, MemSink, Sink};
 use std::alloc::Global;

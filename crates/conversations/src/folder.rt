@@ -1,7 +1,7 @@
 //! The files of a conversation, which stay from one to the next.
 
 use anyhow::{Context, Result};
-use cell_base::List;
+use lists::List;
 use outside_io::MemFiles;
 use std::alloc::Global;
 

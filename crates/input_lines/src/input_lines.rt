@@ -9,7 +9,7 @@ ghost use Rattle.input_lines.specs.Lines.{is_newline};
 ghost use Rattle.input_lines.specs.Reading.{GivesPiece, AreLinesSoFar, IsLineTaken, StandsIn, line_at_hand};
 
 use arrayvec::ArrayVec;
-use cell_base::NoMemory;
+use lists::NoMemory;
 use memchr::memchr;
 use outside_io::{Disk, Failed};
 use peers::Peer;

@@ -8,7 +8,7 @@ ghost use Rattle.outside_io.specs.Replayed.{state_of};
 
 use crate::generator::draw;
 use crate::replayed::{Replayed, any_has};
-use cell_base::NoMemory;
+use lists::NoMemory;
 use std::alloc::Global;
 
 /// An image that a crash may leave: 0 the bytes at the last sync, 1 what a read finds, any other number one drawn from it.

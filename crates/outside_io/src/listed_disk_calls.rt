@@ -4,7 +4,7 @@ ghost use Rattle.outside_io.specs.ListedDiskCalls.{numbers_of, listed_of, is_sto
 
 use crate::listed::ListedCalls;
 use crate::{CallKind, DiskCall};
-use cell_base::{List, NoMemory};
+use lists::{List, NoMemory};
 use std::alloc::Global;
 
 /// The calls of each kind that are to fail, and after how many more calls of any kind all do.

@@ -3,7 +3,7 @@ ghost use Rattle.std.specs.Prelude.{◌≡◌, ◌<◌, ◌≤◌, length, IfOk}
 
 use crate::listed::ListedCalls;
 use crate::{Failed, Source};
-use cell_base::{List, NoMemory};
+use lists::{List, NoMemory};
 use std::alloc::Global;
 use std::marker::Model;
 

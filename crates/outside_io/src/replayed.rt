@@ -5,7 +5,7 @@ ghost use Rattle.outside_io.specs.DiskSteps.{after_step, after_steps};
 ghost use Rattle.outside_io.specs.Replayed.{span_of, spans_of, state_of};
 
 use crate::disk_steps::{DiskStep, with_bytes};
-use cell_base::NoMemory;
+use lists::NoMemory;
 use std::alloc::Global;
 
 /// A range of offsets that was written, or may have been.

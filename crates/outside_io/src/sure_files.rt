@@ -5,7 +5,7 @@ ghost use Rattle.outside_io.specs.SureFiles.{sure_names};
 
 use crate::held::{NamedBytes, add_entry, copy_cut, find_entry};
 use crate::{FileFail, Files};
-use cell_base::NoMemory;
+use lists::NoMemory;
 use std::alloc::Global;
 use std::marker::Model;
 

@@ -14,7 +14,7 @@ use Rattle.cell_base.specs.declared.limits.TheConstants.{MAX_PLACES, MAX_RESOURC
 use Rattle.cell_base.specs.Fits.{CellFits}
 use Rattle.cell_base.specs.Stages.{Stage, IsStage, stage, route_of, resource_at}
 use Rattle.cell_base.proofs.Stages.{resource_within, kind_within, type_fits}
-use Rattle.cell_base.proofs.Elements.{none_past}
+use Rattle.lists.proofs.Elements.{none_past}
 use Rattle.part_table.specs.Lanes.{AreLanes, lane_at, lanes_of}
 
 -- the resource of a stage that there isn't

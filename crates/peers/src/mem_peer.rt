@@ -2,7 +2,7 @@
 //!
 //! At each put and read it marks the disk as it was at the one before and as it is, and what was given and put by then.
 use crate::peer::Peer;
-use cell_base::{List, NoMemory};
+use lists::{List, NoMemory};
 use outside_io::{Disk, Failed, MemSink, MemSource, Sink, Source};
 use std::alloc::Global;
 use std::snapshot::Snapshot;

@@ -9,7 +9,7 @@ use Rattle.std.proofs.lemmas.List.Sums.{sum_by_push}
 use Rattle.std.proofs.lemmas.Nat.Bits.{bit_at-lt}
 use Rattle.cell_base.specs.Masks.{has_bit, bits_only_of}
 use Rattle.cell_base.proofs.Bits.{IsWithoutLowest, bit_at-of_set, bit_at-only, has_bit-of_one, without_lowest}
-use Rattle.cell_base.proofs.Growing.{numbers_more}
+use Rattle.lists.proofs.Growing.{numbers_more}
 
 lone_bit : (x a b : ℕ) → x < 2 → a < 2 → b < 2 → x + b ≡ max a b → (x == 1) ≡ ((a == 1) && not (b == 1))
 lone_bit zero zero zero h k l e = refl

@@ -16,7 +16,7 @@ use std::alloc::Global;
 const PLACES: usize = MAX_PLACES as usize;
 
 /// By type and place the mask of a stage: a bit for each resource to which it leads.
-#[tactic(auto, using(cell_base::proofs::Growing::map_next))]
+#[tactic(auto, using(lists::proofs::Growing::map_next))]
 pub fn table(alloc: Global, cell: &Cell) -> Result<List<List<u64>>, NoMemory>
     requires { CellFits cell.now }
     ensures { IfOk result (λ table. table ≡ leading_table cell.now) }
@@ -28,7 +28,7 @@ pub fn table(alloc: Global, cell: &Cell) -> Result<List<List<u64>>, NoMemory>
     Ok(table)
 }
 
-#[tactic(auto, using(cell_base::proofs::Growing::map_next))]
+#[tactic(auto, using(lists::proofs::Growing::map_next))]
 fn row(alloc: Global, cell: &Cell, kind: TypeId) -> Result<List<u64>, NoMemory>
     requires fits { CellFits cell.now }
     requires kind { kind.0 < length cell.now.types }

@@ -17,7 +17,7 @@ use Rattle.cell_base.specs.declared.requests.Request.TheVariants.{Load, Move, Un
 use Rattle.cell_base.specs.Stages.{stage_of, is_last}
 use Rattle.cell_base.specs.Outcomes.{arrival, state_after}
 use Rattle.cell_base.specs.Plans.{plan_step, step_of, work}
-use Rattle.cell_base.proofs.Elements.{find_agree, All-find_none, All-from_Contains, find_passes}
+use Rattle.lists.proofs.Elements.{find_agree, All-find_none, All-from_Contains, find_passes}
 use Rattle.cell_base.proofs.Admission.{all_numbers}
 use Rattle.cell_base.specs.declared.requests.JobId.{JobId}
 use Rattle.cell_base.specs.Policy.{is_loaded}

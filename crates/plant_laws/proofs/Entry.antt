@@ -19,7 +19,7 @@ use Rattle.cell_base.specs.Policy.{is_of_job, is_loaded, IsAdmitted, HaveDistinc
 use Rattle.cell_base.specs.Outcomes.{without, arrival, reply_to, state_after, part_of}
 use Rattle.cell_base.specs.Fits.{CellFits, RequestFits}
 use Rattle.cell_base.proofs.Admission.{others_from_not_loaded}
-use Rattle.cell_base.proofs.Elements.{find-Contains, find_passes}
+use Rattle.lists.proofs.Elements.{find-Contains, find_passes}
 use Rattle.cell_base.proofs.Stages.{first_stage, capacity_positive}
 use Rattle.policy_laws.proofs.Parts.{same_job, distinct-without, part_of-job, part_of-found}
 use Rattle.policy_laws.proofs.States.{share-le, count_push, count_none, IsState-push}

@@ -16,7 +16,7 @@ use Rattle.cell_base.specs.Histories.{is_granted}
 use Rattle.cell_base.specs.Policy.{IsAdmitted}
 use Rattle.cell_base.specs.Outcomes.{part_of, without, arrival, reply_to, state_after}
 use Rattle.cell_base.specs.Fits.{RequestFits}
-use Rattle.cell_base.proofs.Elements.{Contains-slice_get, find_passes, find-Contains}
+use Rattle.lists.proofs.Elements.{Contains-slice_get, find_passes, find-Contains}
 use Rattle.cell_base.proofs.Stages.{first_stage, arrival_stage, successor_stage}
 use Rattle.policy_laws.specs.Decisions.{PassesTests, wanted}
 use Rattle.policy_laws.proofs.Granting.{granted_alone}

@@ -15,7 +15,7 @@ use Rattle.cell_base.specs.declared.cells.Step.{Step}
 use Rattle.cell_base.specs.Stages.{Stage, stage, IsStage, successors, resource_at, is_last, works_at, capacity_of}
 use Rattle.cell_base.specs.Names.{IsName, is_name_byte}
 use Rattle.cell_base.specs.Fits.{CellFits, TypeFits, NextFits, ResourceFits}
-use Rattle.cell_base.proofs.Elements.{Contains-none, Contains-cases}
+use Rattle.lists.proofs.Elements.{Contains-none, Contains-cases}
 use Rattle.cell_base.proofs.Stages.{resource_within}
 use Rattle.plant_laws.specs.declared.plants.Plant.{Plant}
 use Rattle.plant_laws.specs.declared.plants.PlantCell.{PlantCell}

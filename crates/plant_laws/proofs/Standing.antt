@@ -13,7 +13,7 @@ use Rattle.cell_base.specs.Stages.{IsStage, stage_of, capacity_of}
 use Rattle.cell_base.specs.Neighborhoods.{leads}
 use Rattle.cell_base.specs.Policy.{is_loaded, IsAdmitted}
 use Rattle.cell_base.specs.Outcomes.{part_of}
-use Rattle.cell_base.proofs.Elements.{Contains-head}
+use Rattle.lists.proofs.Elements.{Contains-head}
 use Rattle.cell_base.proofs.Stages.{resource_within}
 use Rattle.cell_base.proofs.Admission.{each_number}
 use Rattle.policy_laws.proofs.Leading.{leads_here}

@@ -22,7 +22,7 @@ use Rattle.cell_base.specs.Policy.{is_loaded}
 use Rattle.cell_base.specs.Outcomes.{part_of, arrival, refuse, admit, reply_to, state_after, outcome_of_move, outcome_of_unload}
 use Rattle.cell_base.specs.Histories.{is_granted}
 use Rattle.cell_base.proofs.Admission.{each_number}
-use Rattle.cell_base.proofs.Elements.{list_all-Contains}
+use Rattle.lists.proofs.Elements.{list_all-Contains}
 use Rattle.policy_laws.proofs.Parts.{part_of-found}
 use Rattle.plant_laws.specs.declared.plants.Plant.{Plant}
 use Rattle.plant_laws.specs.Plants.{IsCell, cell_at}

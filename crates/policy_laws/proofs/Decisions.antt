@@ -19,7 +19,7 @@ use Rattle.cell_base.specs.Fits.{CellFits}
 use Rattle.cell_base.proofs.Admission.{all_numbers}
 use Rattle.policy_laws.specs.Laws.{IsFull}
 use Rattle.policy_laws.specs.Decisions.{PassesTests, wanted, is_saturation, is_saturated, IsFirstOverfilled, DecisionLaw}
-use Rattle.cell_base.proofs.Elements.{find_passes, All-found}
+use Rattle.lists.proofs.Elements.{find_passes, All-found}
 use Rattle.policy_laws.proofs.States.{within-first_over}
 use Rattle.policy_laws.proofs.Endings.{Follows, Ending, refused, granted, admitted, ending}
 use Rattle.policy_laws.proofs.Admission.{admit_saturated}

@@ -23,7 +23,7 @@ use Rattle.cell_base.specs.Fits.{CellFits, RequestFits}
 use Rattle.cell_base.proofs.Admission.{others_from_not_loaded}
 use Rattle.policy_laws.specs.Laws.{MayMove}
 use Rattle.policy_laws.specs.Decisions.{onward, wanted, MayLeave, PassesTests, is_saturation}
-use Rattle.cell_base.proofs.Elements.{Contains-slice_get}
+use Rattle.lists.proofs.Elements.{Contains-slice_get}
 use Rattle.cell_base.proofs.Stages.{arrival_stage, successor_stage, first_stage}
 use Rattle.policy_laws.proofs.Parts.{part_of-found, without-others}
 use Rattle.policy_laws.proofs.States.{share-le, count_push, count-without, count-finish_first}

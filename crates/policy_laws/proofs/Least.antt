@@ -1,7 +1,7 @@
 -- An element that comes before all, in an order that is total and transitive.
 use Rattle.std.proofs.Common.{◌≡◌, Bool, true, false, List, [], ◌∷◌, Contains, subst, ⊎_elim}
 use Rattle.std.proofs.lemmas.Bool.{cases_Bool}
-use Rattle.cell_base.proofs.Elements.{Contains-head, Contains-tail, Contains-none, Contains-cases}
+use Rattle.lists.proofs.Elements.{Contains-head, Contains-tail, Contains-none, Contains-cases}
 
 -- the element stands in the list, and comes before each of its elements
 pub record IsLeast {X : Type 0} (before : X → X → Bool) (xs : List X) (m : X) : Type 0 where

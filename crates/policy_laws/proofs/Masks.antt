@@ -16,7 +16,7 @@ use Rattle.cell_base.specs.Neighborhoods.{leads, mask_of, masks_of}
 use Rattle.cell_base.specs.Fits.{CellFits}
 use Rattle.cell_base.proofs.Bits.{bit_at-number}
 use Rattle.policy_laws.specs.Laws.{MaskLaw}
-use Rattle.cell_base.proofs.Growing.{numbers_more}
+use Rattle.lists.proofs.Growing.{numbers_more}
 use Rattle.cell_base.proofs.Numbering.{numbering_law}
 use Rattle.policy_laws.proofs.Leading.{leads-resource}
 

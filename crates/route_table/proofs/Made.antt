@@ -7,7 +7,7 @@ use Rattle.cell_base.specs.Stages.{stage, stages_of}
 use Rattle.route_table.specs.declared.entries.Entry.{Entry}
 use Rattle.cell_base.specs.Numbers.{first_number}
 use Rattle.route_table.specs.Entries.{stage_entry, first_numbers}
-use Rattle.cell_base.proofs.Growing.{map_next, join_next}
+use Rattle.lists.proofs.Growing.{map_next, join_next}
 use Rattle.cell_base.proofs.Numbering.{length-stages_before}
 
 module _ (cell : Cell) where

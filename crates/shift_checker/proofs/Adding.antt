@@ -3,7 +3,7 @@ use Rattle.std.proofs.Common.{◌≡◌, ℕ, zero, suc, ◌+◌, ◌<◌, ◌==
 use Rattle.std.proofs.Common.{append_assoc, append-nil, length-append, zero-add, add-zero, Option, Some, None, refl, sym, ap, ◌∙◌, arith}
 use Rattle.std.specs.List.{range_with_len, slice_get}
 use Rattle.std.proofs.lemmas.List.{take_all, take-append-le}
-use Rattle.cell_base.proofs.Growing.{map_next}
+use Rattle.lists.proofs.Growing.{map_next}
 use Rattle.cell_base.specs.declared.cells.Cell.{Cell}
 use Rattle.cell_base.specs.declared.requests.Part.{Part}
 use Rattle.cell_base.specs.declared.requests.Request.{Request}

@@ -8,7 +8,7 @@ use Rattle.std.proofs.lemmas.List.Elements.{All-nil, All-cons, All-append, All-m
 use Rattle.cell_base.specs.declared.cells.Cell.{Cell}
 use Rattle.cell_base.specs.declared.requests.Request.{Request}
 use Rattle.cell_base.specs.declared.shifts.Entry.{Entry}
-use Rattle.cell_base.proofs.Elements.{All-slice_get}
+use Rattle.lists.proofs.Elements.{All-slice_get}
 use Rattle.cell_base.specs.Fits.{RequestFits}
 use Rattle.cell_base.specs.Histories.{was_halted}
 use Rattle.cell_base.specs.Scripts.{holds_halt}

@@ -9,7 +9,7 @@ use Rattle.cell_base.specs.declared.requests.Told.TheVariants as told
 use Rattle.cell_base.specs.declared.shifts.Grant.{Grant}
 use Rattle.cell_base.specs.Histories.{after, replay}
 use Rattle.cell_base.specs.Outcomes.{state_after}
-use Rattle.cell_base.specs.Shelves.{Shelved}
+use Rattle.lists.specs.Shelves.{Shelved}
 use Rattle.durable_cell.specs.Asked.{entry, halted_at, with_entry}
 use Rattle.durable_cell.specs.DurableState.{DurableState, first_parts}
 use Rattle.durable_cell.specs.Kept.{KeepsHistory}

@@ -9,7 +9,7 @@ use Rattle.cell_base.specs.declared.shifts.Grant.{Grant}
 use Rattle.cell_base.specs.Fits.{RequestFits}
 use Rattle.cell_base.specs.Histories.{replay}
 use Rattle.cell_base.specs.Outcomes.{reply_to}
-use Rattle.cell_base.specs.Shelves.{Shelved}
+use Rattle.lists.specs.Shelves.{Shelved}
 use Rattle.outside_io.specs.Causes.{Rose}
 use Rattle.durable_cell.specs.Asked.{entry, halted_at, with_entry}
 use Rattle.durable_cell.specs.DurableState.{DurableState, parts}

@@ -7,7 +7,7 @@
 #![tactic(auto)]
 
 use anyhow::{Context, Result, bail};
-use cell_base::List;
+use lists::List;
 use cell_program::{Ended, cell_main, served_in};
 use outside_io::{FreePace, MemDisk, MemFiles, MemSink, MemSource};
 use peers::Silent;

@@ -13,7 +13,7 @@ use Rattle.cell_base.specs.Fits.{IsWithin}
 use Rattle.wait_queue.specs.declared.waiter.Waiter.{Waiter}
 use Rattle.wait_queue.specs.Waiting.{waiter_of}
 use Rattle.wait_board.specs.BoardState.{IsOther, AreApart}
-use Rattle.cell_base.proofs.Elements.{All-find_none}
+use Rattle.lists.proofs.Elements.{All-find_none}
 use Rattle.wait_board.proofs.Pairs.{pairs-map}
 
 same : (a b : ℕ) → eqb a b ≡ true → a ≡ b

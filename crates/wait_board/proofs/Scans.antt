@@ -22,7 +22,7 @@ use Rattle.wait_queue.proofs.Looks.{without-all}
 use Rattle.wait_queue.proofs.Scanning.{length-without}
 use Rattle.wait_board.specs.Boards.{OnBoard, after_wait, all_renewed, scan_within, scan}
 use Rattle.wait_board.specs.BoardState.{IsFullFor, IsWaiting, IsOther, AreApart}
-use Rattle.cell_base.proofs.Elements.{All-find_none}
+use Rattle.lists.proofs.Elements.{All-find_none}
 use Rattle.wait_board.proofs.Pairs.{pairs-without, pairs-map}
 
 false-true : {A : Type 0} → false ≡ true → A

@@ -2,7 +2,7 @@
 use Rattle.std.proofs.Common.{◌≡◌, ℕ, zero, suc, ◌≤◌, false, Some, None, length, refl, arith, All, find}
 use Rattle.std.specs.Option.{option_map_or}
 use Rattle.std.proofs.lemmas.Bool.{not-false}
-use Rattle.cell_base.proofs.Elements.{All-find_none}
+use Rattle.lists.proofs.Elements.{All-find_none}
 use Rattle.cell_base.specs.declared.cells.Cell.{Cell}
 use Rattle.wait_queue.specs.declared.waiter.Waiter.{Waiter}
 use Rattle.wait_queue.specs.Laws.{ServedLaw}

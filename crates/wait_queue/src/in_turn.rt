@@ -21,7 +21,7 @@ pub struct InTurn<T> {
 
 impl<T> Model for InTurn<T> {
     ghost use Rattle.std.specs.Prelude.{◌-◌, drop, length, vec_capacity};
-    ghost use Rattle.cell_base.specs.Shelves.{Shelved, shelved_code};
+    ghost use Rattle.lists.specs.Shelves.{Shelved, shelved_code};
     ghost use Rattle.wait_queue.specs.Turns.{HasRoom};
 
     ghost Value = { Shelved T };

@@ -1,6 +1,6 @@
 -- One resource more.
 use Rattle.std.proofs.Common.{List, ℕ, [], ◌∷◌, ap, sym}
-use Rattle.cell_base.proofs.Growing.{map_next}
+use Rattle.lists.proofs.Growing.{map_next}
 use Rattle.order_commands.specs.Lines.{order_line}
 use Rattle.printer.proofs.Sequences.{prints_as, prints_more}
 use Rattle.order_commands.proofs.orders.print_orders.Goals as goal

@@ -3,7 +3,7 @@ use Rattle.std.proofs.Common.{ap, ◌∙◌, ℕ}
 use Rattle.cell_base.specs.Stages.{stage, stage_of}
 use Rattle.cell_base.specs.Neighborhoods.{mask_of}
 use Rattle.plain_recount.specs.Leading.{leading_row, leading_table}
-use Rattle.cell_base.proofs.Growing.{length-made, made_at}
+use Rattle.lists.proofs.Growing.{length-made, made_at}
 use Rattle.policy_laws.proofs.Stages.{kind_within}
 use Rattle.plain_recount.proofs.stage_masks.StageMasks.mask.Goals as goal
 

@@ -6,7 +6,7 @@ use Rattle.cell_base.specs.Fits.{CellFits}
 use Rattle.cell_base.proofs.Stages.{kind_within}
 use Rattle.cell_base.specs.Numbers.{first_number}
 use Rattle.route_table.specs.Entries.{first_numbers}
-use Rattle.cell_base.proofs.Growing.{length-made, made_at}
+use Rattle.lists.proofs.Growing.{length-made, made_at}
 use Rattle.cell_base.proofs.Numbering.{number_within}
 use Rattle.cell_base.proofs.StageCounts.{few_stages}
 use Rattle.route_table.proofs.stage_table.StageTable.number.Goals as goal

@@ -1,7 +1,7 @@
 -- The queue is without the waiter of the session, if it had one.
 use Rattle.std.specs.Prelude.{Option, None, Some}
 use Rattle.std.proofs.Common.{List, [], ap, refl, subst, sym, ◌∙◌}
-use Rattle.cell_base.proofs.Elements.{All-found, All-find_none}
+use Rattle.lists.proofs.Elements.{All-found, All-find_none}
 use Rattle.cell_base.specs.Fits.{RequestFits}
 use Rattle.wait_queue.specs.declared.waiter.Waiter.{Waiter}
 use Rattle.wait_queue.specs.Waiting.{is_of_session, waiter_of, without_first}

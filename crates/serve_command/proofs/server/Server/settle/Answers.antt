@@ -2,7 +2,7 @@
 use Rattle.std.specs.Prelude.{Option, None, Some}
 use Rattle.std.proofs.Common.{◌≡◌, ◌+◌, List, [], ◌∷◌, ◌++◌, ap, arith, find, length, length-append, refl, subst, sym, ◌∙◌}
 use Rattle.admission_core.specs.CoreState.{CoreState}
-use Rattle.cell_base.proofs.Elements.{All-found, All-find_none}
+use Rattle.lists.proofs.Elements.{All-found, All-find_none}
 use Rattle.cell_base.specs.Fits.{RequestFits}
 use Rattle.cell_base.specs.declared.shifts.Grant.{Grant}
 use Rattle.cell_base.specs.Histories.{grants}

@@ -1,7 +1,7 @@
 -- The place of a value is as far behind those that have left as the value is behind the first.
 use Rattle.std.proofs.Common.{◌≡◌, ◌+◌, drop, set, subst}
 use Rattle.std.proofs.lemmas.List.{drop-set-add}
-use Rattle.cell_base.specs.Shelves.{Shelved}
+use Rattle.lists.specs.Shelves.{Shelved}
 use Rattle.wait_queue.proofs.in_turn.InTurn.set.Goals as goal
 
 pub returns-clause-items : goal.returns-clause-items

@@ -1,7 +1,7 @@
 -- The places that have been left stay, and those behind the value close up.
 use Rattle.std.proofs.Common.{◌≡◌, ◌<◌, List, drop, length, ap, subst, sym, ◌∙◌}
 use Rattle.std.specs.List.{remove}
-use Rattle.cell_base.specs.Shelves.{Shelved}
+use Rattle.lists.specs.Shelves.{Shelved}
 use Rattle.wait_queue.proofs.Turns.{taken-behind}
 use Rattle.wait_queue.proofs.in_turn.InTurn.take.Goals as goal
 

@@ -1,7 +1,7 @@
 -- Those before the value are one place further on, and one place more has been left.
 use Rattle.std.proofs.Common.{◌≡◌, ◌+◌, ◌<◌, List, drop, length, ap, subst, sym, ◌∙◌}
 use Rattle.std.specs.List.{remove}
-use Rattle.cell_base.specs.Shelves.{Shelved}
+use Rattle.lists.specs.Shelves.{Shelved}
 use Rattle.wait_queue.proofs.Turns.{moved-up}
 use Rattle.wait_queue.proofs.in_turn.InTurn.take_early.Goals as goal
 

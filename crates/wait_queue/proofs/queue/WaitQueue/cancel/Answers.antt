@@ -2,7 +2,7 @@
 use Rattle.std.specs.Prelude.{position}
 use Rattle.std.proofs.Common.{◌≡◌, Some, None, Option, ◌%◌, length, ap, sym, subst, ◌∙◌, find}
 use Rattle.std.specs.List.{slice_index}
-use Rattle.cell_base.proofs.Elements.{find_none}
+use Rattle.lists.proofs.Elements.{find_none}
 use Rattle.std.proofs.lemmas.List.Quantifiers.{position-Some}
 use Rattle.wait_queue.specs.declared.waiter.Waiter.{Waiter}
 use Rattle.wait_queue.specs.Queues.{QueueState}

@@ -1,6 +1,6 @@
 -- While all that is watched is full nobody is ready; else the waiters are looked at, and the first that is ready leaves.
 use Rattle.std.proofs.Common.{◌≡◌, Some, None, Option, List, false, ap, sym, subst, ◌∙◌, All, find}
-use Rattle.cell_base.proofs.Elements.{find_none}
+use Rattle.lists.proofs.Elements.{find_none}
 use Rattle.wait_queue.specs.declared.looking.Found.TheVariants.{Ready}
 use Rattle.wait_queue.specs.declared.waiter.Waiter.{Waiter}
 use Rattle.wait_queue.specs.Queues.{QueueState}

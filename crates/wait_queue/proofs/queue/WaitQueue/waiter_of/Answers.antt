@@ -1,7 +1,7 @@
 -- Where the table counts none of the session, it doesn't wait.
 use Rattle.std.proofs.Common.{◌≡◌, None, Option, ◌%◌, length, sym, subst, ◌∙◌, find}
 use Rattle.std.specs.List.{slice_index}
-use Rattle.cell_base.proofs.Elements.{find_none}
+use Rattle.lists.proofs.Elements.{find_none}
 use Rattle.wait_queue.specs.declared.waiter.Waiter.{Waiter}
 use Rattle.wait_queue.specs.Queues.{QueueState}
 use Rattle.wait_queue.specs.Waiting.{is_of_session}

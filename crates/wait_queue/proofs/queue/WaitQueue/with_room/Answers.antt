@@ -1,6 +1,6 @@
 -- Nobody waits, so nobody is counted.
 use Rattle.std.proofs.Common.{List, ap, sym, subst, rules}
-use Rattle.cell_base.specs.Shelves.{Shelved}
+use Rattle.lists.specs.Shelves.{Shelved}
 use Rattle.wait_queue.specs.declared.waiter.Waiter.{Waiter}
 use Rattle.wait_queue.specs.Counting.{AreCounted, job_key, session_key}
 use Rattle.wait_queue.proofs.queue.WaitQueue.with_room.Goals as goal
