@@ -23,7 +23,7 @@ mod counts;
 mod deciding;
 mod first_grant;
 pub mod laws;
-mod lists;
+mod listings;
 mod questions;
 mod replies;
 mod rounds;
