@@ -1,9 +1,9 @@
 //! A run whose sessions ask at the same time, played with writes and syncs of its journal's device failing. It halts, what a crash then
 //! leaves of the journal stands for the grants that were answered or has one more, and the run goes on from it to the same end.
 
-use crate::call_end::CallEnd;
-use crate::caller::{Caller, Failing};
-use crate::device::{check_grants, plan_after_crash, plan_on};
+use crate::scripted::call_end::CallEnd;
+use crate::scripted::caller::{Caller, Failing};
+use crate::scripted::device::{check_grants, plan_after_crash, plan_on};
 use anyhow::{Context, Result};
 use outside_io::{CallKind, DiskCall};
 use std::rt::Clock;
@@ -43,12 +43,22 @@ fn fail_call<R: Print + Clock + Threads + Wait + Sync>(
     call: DiskCall,
 ) -> Result<()> {
     let told = caller.call(words, Failing::Device(call))?;
+    check_halted(caller, words, whole, &told)
+}
+
+// The run halted, and goes on from what a crash leaves.
+fn check_halted<R: Print + Clock + Threads + Wait + Sync>(
+    caller: &Caller<'_, R>,
+    words: &[String],
+    whole: &CallEnd,
+    told: &CallEnd,
+) -> Result<()> {
     if told.status != 7 || !told.text.ends_with(b" halted\n") {
-        return caller.end_otherwise("an entry that halted, and status 7\n", &told);
+        return caller.end_otherwise("an entry that halted, and status 7\n", told);
     }
     let before = plan_on(caller, words, caller.disk(caller.journal(words))?)?;
     for pick in [0u64, 1] {
-        go_on_after(caller, words, whole, &told, &before, pick)?;
+        go_on_after(caller, words, whole, told, &before, pick)?;
     }
     Ok(())
 }
@@ -76,7 +86,16 @@ fn go_on<R: Print + Clock + Threads + Wait + Sync>(
 ) -> Result<()> {
     let CallEnd { disk, .. } = plan;
     let CallEnd { disk, .. } = caller.call_on(words, disk, Failing::Nothing)?;
-    let ended = plan_on(caller, words, disk)?;
+    check_end(caller, words, whole, &plan_on(caller, words, disk)?)
+}
+
+// This plan is the one after the whole run.
+fn check_end<R: Print + Clock + Threads + Wait + Sync>(
+    caller: &Caller<'_, R>,
+    words: &[String],
+    whole: &CallEnd,
+    ended: &CallEnd,
+) -> Result<()> {
     let wanted = plan_on(caller, words, caller.disk(whole.left())?)?;
-    caller.check(&ended, wanted.status, wanted.text.as_slice(), ended.left())
+    caller.check(ended, wanted.status, wanted.text.as_slice(), ended.left())
 }

@@ -2,14 +2,14 @@
 //! which the sink takes nothing or a first part, each read, and each call of the journal's device. Of a run whose lines are left
 //! open some calls of the device fail.
 
-use crate::call_end::CallEnd;
-use crate::caller::{Caller, Failing};
-use crate::command::{has_journal, may_write, piece_bytes};
-use crate::conversation::Conversation;
-use crate::cut::Cut;
-use crate::device::play_device;
-use crate::folder::Folder;
-use crate::halts::play_halts;
+use crate::scripted::call_end::CallEnd;
+use crate::scripted::caller::{Caller, Failing};
+use crate::scripted::command::{has_journal, may_write, piece_bytes};
+use crate::scripted::conversation::Conversation;
+use crate::scripted::cut::Cut;
+use crate::scripted::device::play_device;
+use crate::scripted::folder::Folder;
+use crate::scripted::halts::play_halts;
 use anyhow::{Context, Result, bail};
 use std::alloc::Global;
 use std::rt::Clock;

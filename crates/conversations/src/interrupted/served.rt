@@ -1,11 +1,13 @@
 //! A conversation in which each call of the disk, each put, whole and torn, and each read of the input fails in its turn. What comes before
 //! the failure is put, and what a crash leaves has each grant that was told. A client that counts its grants goes on from there.
 
-use crate::call::{CallEnd, crash};
-use crate::conversing::{Asked, Failing, Outside};
-use crate::stored::grants_on;
+use crate::interrupted::call::{CallEnd, crash};
+use crate::interrupted::conversing::{Failing, Outside};
+use crate::interrupted::spoken::Spoken;
+use crate::interrupted::stored::grants_on;
 use anyhow::{Context, Result, bail};
-use cell_base::{Grant, List};
+use cell_base::Grant;
+use lists::List;
 use outside_io::CallKind;
 use std::alloc::Global;
 use std::sync::Wait;
@@ -70,15 +72,6 @@ const GRANTED: [&str; 6] = [
     "2 load 8 Z\n",
 ];
 
-/// A conversation after one in which these lines were granted, in pieces of so many bytes, with how many of its lines are granted after each
-/// group, from none on. The last one is served in the group of the line before it.
-#[derive(Clone, Copy)]
-pub struct Spoken {
-    pub before: &'static str,
-    pub piece: usize,
-    pub groups: &'static [u64],
-}
-
 /// A conversation as it goes where nothing fails: the journal before it and its number of grants, the answers, and the grants and the
 /// journal after it.
 #[derive(Drop)]
@@ -94,18 +87,16 @@ pub struct Served {
 impl Served {
     /// Holds it.
     pub fn new<R: Wait>(rt: &R, alloc: Global, spoken: Spoken) -> Result<Served> {
-        let opening = spoken.opening(rt, alloc)?;
-        let before = spoken.before.lines().count() as u64;
+        let before = spoken.granted_before();
         let answers = format!(in alloc; "shift 0 after {before}\n{ANSWERED}")?;
-        let told = spoken.asked(ASKED).ask(rt, alloc, &opening, None)?;
-        told.is_to_be(0, answers.as_str())?;
-        let journal = told.disk.bytes().to_vec(alloc)?;
+        let opening = spoken.opening(rt, alloc)?;
+        let (grants, journal) = serve_all(rt, alloc, spoken, &opening, answers.as_str())?;
         Ok(Served {
             spoken,
             opening,
             before,
             answers,
-            grants: grants_on(alloc, told.disk)?,
+            grants,
             journal,
         })
     }
@@ -141,18 +132,30 @@ impl Served {
             bail!("{text}= {status}");
         };
         for pick in 0..4u64 {
-            let disk = crash(alloc, &told.disk, pick)?;
-            let journal = disk.bytes().to_vec(alloc)?;
-            let left = grants_on(alloc, disk)?;
-            if !self.may_be_left(answered, left.as_slice()) {
-                bail!(
-                    "{left:?} in image {pick} after\n{text}",
-                    left = left.as_slice()
-                );
-            }
-            self.go_on(rt, alloc, &journal, left.len())?;
+            let left = self.check_left(alloc, answered, told, pick)?;
+            let journal = crash(alloc, &told.disk, pick)?;
+            self.go_on(rt, alloc, journal.bytes(), left)?;
         }
         Ok(())
+    }
+
+    // A crash leaves such grants as may be left where this was answered. Answers how many.
+    fn check_left(
+        &self,
+        alloc: Global,
+        answered: Answered<'_>,
+        told: &CallEnd,
+        pick: u64,
+    ) -> Result<u64> {
+        let left = grants_on(alloc, crash(alloc, &told.disk, pick)?)?;
+        if !self.may_be_left(answered, left.as_slice()) {
+            let text = told.text.as_str();
+            bail!(
+                "{left:?} in image {pick} after\n{text}",
+                left = left.as_slice()
+            );
+        }
+        Ok(left.len())
     }
 
     // What was answered before this call failed, where the status and the text may come then.
@@ -197,14 +200,14 @@ impl Served {
     // Asks how many grants each session has, and then the lines after these grants. The journal comes to the same bytes.
     fn go_on<R: Wait>(&self, rt: &R, alloc: Global, journal: &[u8], left: u64) -> Result<()> {
         let kept = left.saturating_sub(self.before) as usize;
-        let mut lines = String::from_str(alloc, "1 grants\n2 grants\n")?;
-        for line in GRANTED.get(kept..).unwrap_or(&[]) {
-            lines.push_str(line)?;
-        }
-        let told = self
-            .spoken
-            .asked(lines.as_str())
-            .ask(rt, alloc, journal, None)?;
+        let lines = lines_from(alloc, kept)?;
+        let asked = self.spoken.asked(lines.as_str());
+        let told = asked.ask(rt, alloc, journal, None)?;
+        self.check_end(alloc, &told, left, kept)
+    }
+
+    // The sessions have their shares of these grants, and the journal is what it is where nothing fails.
+    fn check_end(&self, alloc: Global, told: &CallEnd, left: u64, kept: usize) -> Result<()> {
         let (first, second) = (kept.min(5), kept.saturating_sub(5));
         let counts = format!(in alloc;
             "shift 0 after {left}\n1 grants {first}\n2 grants {second}\n"
@@ -218,33 +221,27 @@ impl Served {
     }
 }
 
-impl Spoken {
-    // The journal of the conversation before; no bytes where nothing was granted.
-    fn opening<R: Wait>(&self, rt: &R, alloc: Global) -> Result<Vec<u8>> {
-        if self.before.is_empty() {
-            return Ok(Vec::new(alloc));
-        }
-        let told = self.asked(self.before).ask(rt, alloc, b"", None)?;
-        Ok(told.disk.bytes().to_vec(alloc)?)
-    }
+// Serves the whole conversation where nothing fails, and answers the grants and the journal after it.
+fn serve_all<R: Wait>(
+    rt: &R,
+    alloc: Global,
+    spoken: Spoken,
+    opening: &[u8],
+    answers: &str,
+) -> Result<(List<Grant>, Vec<u8>)> {
+    let told = spoken.asked(ASKED).ask(rt, alloc, opening, None)?;
+    told.is_to_be(0, answers)?;
+    let journal = told.disk.bytes().to_vec(alloc)?;
+    Ok((grants_on(alloc, told.disk)?, journal))
+}
 
-    // How many lines are granted after the group in which more than so many are.
-    fn after(&self, told: u64) -> u64 {
-        for &count in self.groups {
-            if told < count {
-                return count;
-            }
-        }
-        told
+// The lines that ask how many grants each session has, and then for what is granted after so many.
+fn lines_from(alloc: Global, kept: usize) -> Result<String> {
+    let mut lines = String::from_str(alloc, "1 grants\n2 grants\n")?;
+    for line in GRANTED.get(kept..).unwrap_or(&[]) {
+        lines.push_str(line)?;
     }
-
-    // Asks these lines in such pieces.
-    fn asked<'a>(&self, lines: &'a str) -> Asked<'a> {
-        Asked {
-            lines,
-            piece: self.piece,
-        }
-    }
+    Ok(lines)
 }
 
 // The answers before a failure, of which the last may be torn, and whether the failure came within a group of lines.

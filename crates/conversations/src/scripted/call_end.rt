@@ -35,7 +35,7 @@ impl CallEnd {
     /// Whether the next read of a file fails: where one was listed that the call didn't come to.
     pub fn fails_next_read(&mut self, alloc: Global) -> Result<bool> {
         if self.files.add("", &[]).is_err() {
-            bail!("want of memory");
+            bail!("no memory");
         }
         let read = self.files.read_file(alloc, "", 0, &mut Vec::new(alloc));
         Ok(read.is_err())

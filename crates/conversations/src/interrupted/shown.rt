@@ -1,6 +1,6 @@
 //! What a printed record shows of its grants.
 
-use crate::sample::request_of;
+use crate::interrupted::sample::request_of;
 use anyhow::{Context, Result, bail};
 use cell_base::Grant;
 use std::alloc::Global;

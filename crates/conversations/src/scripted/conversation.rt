@@ -1,7 +1,7 @@
 //! A conversation: the words of a call, what it is to print with which status, and what it is to leave of its journal.
 
-use crate::command::runs_at_once;
-use crate::cut::Cut;
+use crate::scripted::command::runs_at_once;
+use crate::scripted::cut::Cut;
 use anyhow::{Result, bail};
 use cell_program::usage;
 use std::alloc::Global;
@@ -53,15 +53,10 @@ impl Conversation {
     /// for the line that lists the commands.
     pub fn add_printed(&mut self, line: &str) -> Result<()> {
         if let Some(digits) = line.strip_prefix("\\hex ") {
-            let Ok(bytes) = hex::decode(self.alloc, digits) else {
-                bail!("no hexadecimal bytes");
-            };
-            self.printed.push_str(str::from_utf8(bytes.as_slice())?)?;
-            return Ok(());
+            return self.add_hex(digits);
         }
         if line == "{usage}" {
-            self.printed.push_str(str::from_utf8(usage())?)?;
-            return Ok(());
+            return self.add_bytes(usage());
         }
         if line == "..." {
             self.later.push(String::new(self.alloc))?;
@@ -71,6 +66,18 @@ impl Conversation {
             Some(piece) => add_line(piece, line),
             None => add_line(&mut self.printed, line),
         }
+    }
+
+    fn add_hex(&mut self, digits: &str) -> Result<()> {
+        let Ok(bytes) = hex::decode(self.alloc, digits) else {
+            bail!("no hexadecimal bytes");
+        };
+        self.add_bytes(bytes.as_slice())
+    }
+
+    fn add_bytes(&mut self, bytes: &[u8]) -> Result<()> {
+        self.printed.push_str(str::from_utf8(bytes)?)?;
+        Ok(())
     }
 
     /// Ends with this exit status, after which the file may stand that the journal is left as.

@@ -2,9 +2,9 @@
 //! then leaves of the journal stands for the grants that were answered, or has the next one. The same call goes on from it
 //! to where it ends without a failure.
 
-use crate::call_end::CallEnd;
-use crate::caller::{Caller, Failing};
-use crate::command::{answers_frames, may_write};
+use crate::scripted::call_end::CallEnd;
+use crate::scripted::caller::{Caller, Failing};
+use crate::scripted::command::{answers_frames, may_write};
 use anyhow::{Context, Result, bail};
 use outside_io::{CallKind, Disk, DiskCall, MemDisk};
 use std::rt::Clock;
@@ -187,7 +187,7 @@ pub fn plan_after_crash<R: Print + Clock + Threads + Wait + Sync>(
     pick: u64,
 ) -> Result<CallEnd> {
     let Ok(disk) = told.disk.crash(caller.alloc(), pick) else {
-        bail!("want of memory");
+        bail!("no memory");
     };
     plan_on(caller, words, disk)
 }

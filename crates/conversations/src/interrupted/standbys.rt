@@ -1,12 +1,11 @@
 //! Standbys whose disks stop after so many calls, and standbys to which frames come as they are drawn. Each ends with the journal of the
 //! first controller once all frames have come.
 
-use crate::call::{blank_disk, crash, follow};
-use crate::draws::Draws;
-use crate::fed::Fed;
-use crate::stops::Stops;
+use crate::interrupted::call::{blank_disk, crash, follow};
+use crate::interrupted::draws::Draws;
+use crate::interrupted::fed::Fed;
+use crate::interrupted::stops::Stops;
 use anyhow::{Context, Result, bail};
-use cell_base::List;
 use std::alloc::Global;
 use std::sync::Wait;
 use std::thread::Threads;
@@ -49,7 +48,7 @@ fn stop<R: Threads + Wait + Sync>(
     calls: u64,
     stops: &mut Stops,
 ) -> Result<u8> {
-    let mut disk = blank_disk(alloc, List::new(alloc))?;
+    let mut disk = blank_disk(alloc)?;
     disk.stop_after(calls);
     let told = follow(rt, alloc, fed.frames(), disk)?;
     for pick in 0..4u64 {
@@ -85,7 +84,7 @@ fn check_standby<R: Threads + Wait + Sync>(
     draws: &mut Draws,
     drawn: &mut Drawn,
 ) -> Result<()> {
-    let mut disk = blank_disk(alloc, List::new(alloc))?;
+    let mut disk = blank_disk(alloc)?;
     let mut known = 0;
     for _ in 0..TIMES {
         let told = follow(rt, alloc, &fed.drawn(alloc, draws)?, disk)?;

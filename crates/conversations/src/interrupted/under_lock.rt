@@ -4,10 +4,11 @@ ghost use Rattle.cell_base.specs.Fits.{RequestFits};
 ghost use Rattle.cell_lock.specs.Passes.{KeepsName, new_passes};
 
 use anyhow::{Context, Result, bail};
-use cell_base::{Entry, List, Reply, Request, Told, request_fits};
+use cell_base::{Entry, Reply, Request, Told, request_fits};
 use cell_file::read_cell;
 use cell_lock::{Pass, SharedCell};
 use durable_cell::{AskFault, Durable, Opening};
+use lists::List;
 use outside_io::Disk;
 use std::alloc::Global;
 use std::sync::Wait;

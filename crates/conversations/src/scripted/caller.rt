@@ -1,12 +1,13 @@
 //! Calls of the whole controller in memory, in each of which one call of the outside may be made to fail.
 
-use crate::call_end::{CallEnd, written};
-use crate::command::disk_name;
-use crate::folder::Folder;
-use crate::late_pace::LatePace;
+use crate::in_memory::{disk_with, listed};
+use crate::scripted::call_end::{CallEnd, written};
+use crate::scripted::command::disk_name;
+use crate::scripted::folder::Folder;
+use crate::scripted::late_pace::LatePace;
 use anyhow::{Result, bail};
-use lists::List;
 use cell_program::{Ended, cell_main};
+use lists::List;
 use outside_io::{DiskCall, MemDisk, MemFiles, MemSink, Sink};
 use std::alloc::Global;
 use std::rt::Clock;
@@ -59,42 +60,47 @@ impl<'a, R: Print + Clock + Threads + Wait + Sync> Caller<'a, R> {
 
     /// A disk with these bytes, of which no call is to fail.
     pub fn disk(&self, bytes: &[u8]) -> Result<MemDisk> {
-        self.failing_disk(bytes, List::new(self.alloc))
-    }
-
-    fn failing_disk(&self, bytes: &[u8], calls: List<DiskCall>) -> Result<MemDisk> {
-        match MemDisk::new(self.alloc, bytes, calls) {
-            Ok(disk) => Ok(disk),
-            Err(_) => bail!("want of memory"),
-        }
+        disk_with(self.alloc, bytes, None)
     }
 
     /// Calls the controller with these words.
     pub fn call(&self, words: &[String], failing: Failing) -> Result<CallEnd> {
-        let mut calls = List::new(self.alloc);
-        if let Failing::Device(call) = failing {
-            push(&mut calls, call)?;
-        }
-        let disk = self.failing_disk(self.journal(words), calls)?;
+        let call = match failing {
+            Failing::Device(call) => Some(call),
+            _ => None,
+        };
+        let disk = disk_with(self.alloc, self.journal(words), call)?;
         self.call_on(words, disk, failing)
     }
 
     /// Calls it over this disk.
     pub fn call_on(&self, words: &[String], disk: MemDisk, failing: Failing) -> Result<CallEnd> {
-        let mut puts = List::new(self.alloc);
-        let mut reads = List::new(self.alloc);
         match failing {
-            Failing::Put(put) => push(&mut puts, put)?,
-            Failing::Read(read) => push(&mut reads, read)?,
-            Failing::Nothing | Failing::TornPut(_) | Failing::Device(_) => {}
+            Failing::TornPut(put) => self.call_torn(words, disk, put),
+            Failing::Put(put) => self.call_whole(words, disk, Some(put), None),
+            Failing::Read(read) => self.call_whole(words, disk, None, Some(read)),
+            Failing::Nothing | Failing::Device(_) => self.call_whole(words, disk, None, None),
         }
-        let mut files = self.folder.in_memory(reads)?;
-        if let Failing::TornPut(put) = failing {
-            let mut out = TornSink::new(self.alloc, put.saturating_sub(1));
-            let ended = self.end_over(words, disk, &mut files, &mut out);
-            return CallEnd::new(self.alloc, ended, out.bytes(), files);
-        }
-        let mut out = MemSink::new(self.alloc, puts);
+    }
+
+    // Calls it over a sink that takes each piece whole, and of which this put fails.
+    fn call_whole(
+        &self,
+        words: &[String],
+        disk: MemDisk,
+        put: Option<u64>,
+        read: Option<u64>,
+    ) -> Result<CallEnd> {
+        let mut out = MemSink::new(self.alloc, listed(self.alloc, put)?);
+        let mut files = self.folder.in_memory(listed(self.alloc, read)?)?;
+        let ended = self.end_over(words, disk, &mut files, &mut out);
+        CallEnd::new(self.alloc, ended, out.bytes(), files)
+    }
+
+    // Calls it over a sink that takes the first half of this put.
+    fn call_torn(&self, words: &[String], disk: MemDisk, put: u64) -> Result<CallEnd> {
+        let mut files = self.folder.in_memory(List::new(self.alloc))?;
+        let mut out = TornSink::new(self.alloc, put.saturating_sub(1));
         let ended = self.end_over(words, disk, &mut files, &mut out);
         CallEnd::new(self.alloc, ended, out.bytes(), files)
     }
@@ -126,11 +132,4 @@ impl<'a, R: Print + Clock + Threads + Wait + Sync> Caller<'a, R> {
         let pace = LatePace::new(self.rt);
         cell_main(self.rt, self.alloc, words, files, out, disk, &pace)
     }
-}
-
-fn push<T: Drop>(calls: &mut List<T>, call: T) -> Result<()> {
-    if calls.try_push(call).is_err() {
-        bail!("want of memory");
-    }
-    Ok(())
 }

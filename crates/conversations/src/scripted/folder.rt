@@ -73,7 +73,7 @@ impl Folder {
                 .add(file.name.as_str(), file.bytes.as_slice())
                 .is_err()
             {
-                anyhow::bail!("want of memory");
+                anyhow::bail!("no memory");
             }
         }
         Ok(files)

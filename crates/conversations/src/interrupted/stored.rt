@@ -1,7 +1,8 @@
 //! The grants that stand on a disk.
 
 use anyhow::{Result, bail};
-use cell_base::{Grant, List};
+use cell_base::Grant;
+use lists::List;
 use outside_io::Disk;
 use shift_recovery::{Opened, recover};
 use std::alloc::Global;

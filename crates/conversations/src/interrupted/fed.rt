@@ -1,11 +1,12 @@
 //! What a standby is fed, and what its journal is to be then.
 
-use crate::call::{CallEnd, blank_disk, crash, feed, follow, run};
-use crate::draws::Draws;
-use crate::sample::TWO_PARTS;
-use crate::stored::grants_on;
+use crate::interrupted::call::{CallEnd, blank_disk, crash, feed, follow, run};
+use crate::interrupted::draws::Draws;
+use crate::interrupted::sample::TWO_PARTS;
+use crate::interrupted::stored::grants_on;
 use anyhow::{Context, Result, bail};
-use cell_base::{Grant, List};
+use cell_base::Grant;
+use lists::List;
 use outside_io::{FreePace, MemDisk};
 use std::alloc::Global;
 use std::sync::Wait;
@@ -25,7 +26,7 @@ pub struct Fed {
 impl Fed {
     /// What a shift of ten grants feeds.
     pub fn new<R: Threads + Wait + Sync>(rt: &R, alloc: Global) -> Result<Fed> {
-        let blank = blank_disk(alloc, List::new(alloc))?;
+        let blank = blank_disk(alloc)?;
         let CallEnd { disk, .. } = run(rt, alloc, TWO_PARTS, blank, &FreePace)?;
         Ok(Fed {
             grants: grants_on(alloc, crash(alloc, &disk, 0)?)?,
@@ -56,6 +57,13 @@ impl Fed {
 
     /// Some frames as they come: each up to three times or not at all, and up to three places after its own.
     pub fn drawn(&self, alloc: Global, draws: &mut Draws) -> Result<Vec<u8>> {
+        let mut places = self.places(alloc, draws)?;
+        places.sort_by_key(|(place, _)| *place)?;
+        joined(alloc, places.as_slice())
+    }
+
+    // The frames that come, each with its place.
+    fn places(&self, alloc: Global, draws: &mut Draws) -> Result<Vec<(u64, &[u8])>> {
         let mut places = Vec::new(alloc);
         for (at, frame) in self.frames.chunks(FRAME).enumerate() {
             for _ in 0..draws.below(4) {
@@ -63,12 +71,7 @@ impl Fed {
                 places.push((place, frame))?;
             }
         }
-        places.sort_by_key(|(place, _)| *place)?;
-        let mut came = Vec::new(alloc);
-        for (_, frame) in &places {
-            came.extend_from_slice(frame)?;
-        }
-        Ok(came)
+        Ok(places)
     }
 
     /// The journal that a crash leaves of the disk after a call has a prefix of the grants: those that an answer told of, and before any
@@ -88,6 +91,15 @@ impl Fed {
         }
         Ok(left.len())
     }
+}
+
+// The bytes of these frames.
+fn joined(alloc: Global, places: &[(u64, &[u8])]) -> Result<Vec<u8>> {
+    let mut came = Vec::new(alloc);
+    for (_, frame) in places {
+        came.extend_from_slice(frame)?;
+    }
+    Ok(came)
 }
 
 // How many grants the last answer tells of.

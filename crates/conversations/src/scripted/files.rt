@@ -11,10 +11,10 @@
 //!
 //! `draft` has the lines within a file that have a meaning of their own.
 
-use crate::call_end::CallEnd;
-use crate::cut::Cut;
-use crate::draft::Draft;
-use crate::folder::Folder;
+use crate::scripted::call_end::CallEnd;
+use crate::scripted::cut::Cut;
+use crate::scripted::draft::Draft;
+use crate::scripted::folder::Folder;
 use anyhow::{Context, Result, bail};
 use std::alloc::Global;
 

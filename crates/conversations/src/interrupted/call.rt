@@ -1,9 +1,10 @@
 //! A command of the controller, over objects in memory.
 
+use crate::in_memory::disk_with;
 use anyhow::{Context, Result, bail};
-use cell_base::List;
 use cell_program::{Ended, cell_main};
-use outside_io::{DiskCall, FreePace, MemDisk, MemFiles, MemSink, Pace};
+use lists::List;
+use outside_io::{FreePace, MemDisk, MemFiles, MemSink, Pace};
 use std::alloc::Global;
 use std::sync::Wait;
 use std::thread::Threads;
@@ -96,7 +97,7 @@ pub fn feed<R: Threads + Wait + Sync>(rt: &R, alloc: Global, disk: MemDisk) -> R
 
 /// Judges a record.
 pub fn check<R: Threads + Wait + Sync>(rt: &R, alloc: Global, record: &str) -> Result<CallEnd> {
-    let disk = blank_disk(alloc, List::new(alloc))?;
+    let disk = blank_disk(alloc)?;
     call(
         rt,
         alloc,
@@ -107,9 +108,9 @@ pub fn check<R: Threads + Wait + Sync>(rt: &R, alloc: Global, record: &str) -> R
     )
 }
 
-/// A disk without bytes, of which these calls fail.
-pub fn blank_disk(alloc: Global, fails: List<DiskCall>) -> Result<MemDisk> {
-    MemDisk::new(alloc, b"", fails).ok().context("no memory")
+/// A disk without bytes.
+pub fn blank_disk(alloc: Global) -> Result<MemDisk> {
+    disk_with(alloc, b"", None)
 }
 
 /// A disk that a crash leaves of this one.

@@ -14,10 +14,10 @@
 //! Files stay from one conversation to the next. In what is printed a line `...` stands for any lines, and `{usage}` for the line that lists
 //! the commands.
 
-use crate::call_end::CallEnd;
-use crate::conversation::Conversation;
-use crate::files::ScriptFiles;
-use crate::folder::Folder;
+use crate::scripted::call_end::CallEnd;
+use crate::scripted::conversation::Conversation;
+use crate::scripted::files::ScriptFiles;
+use crate::scripted::folder::Folder;
 use anyhow::{Result, bail};
 use std::alloc::Global;
 use std::mem;

@@ -3,10 +3,10 @@
 //! The syncs of a run on a blank disk are the one of recovery, three that make the journal, and two a grant: the record
 //! after its closed gate is made stable by the first, and the opened gate by the second.
 
-use crate::call::{CallEnd, blank_disk, crash, plan, run};
-use crate::sample::TWO_STEPS;
+use crate::in_memory::disk_with;
+use crate::interrupted::call::{CallEnd, crash, plan, run};
+use crate::interrupted::sample::TWO_STEPS;
 use anyhow::{Context, Result, bail};
-use cell_base::List;
 use outside_io::{CallKind, DiskCall, FreePace, MemDisk};
 use std::alloc::Global;
 use std::sync::Wait;
@@ -28,18 +28,14 @@ pub fn check_failing_sync<R: Threads + Wait + Sync>(
     alloc: Global,
     nth: u64,
 ) -> Result<Left> {
-    let told = run(rt, alloc, TWO_STEPS, failing_disk(alloc, nth)?, &FreePace)?;
+    let failing = DiskCall {
+        kind: CallKind::Sync,
+        nth,
+    };
+    let disk = disk_with(alloc, b"", Some(failing))?;
+    let told = run(rt, alloc, TWO_STEPS, disk, &FreePace)?;
     told.is_to_be(7, HALTED)?;
     count_crashes(rt, alloc, &told)
-}
-
-fn failing_disk(alloc: Global, nth: u64) -> Result<MemDisk> {
-    let mut fails = List::new(alloc);
-    let kind = CallKind::Sync;
-    if fails.try_push(DiskCall { kind, nth }).is_err() {
-        bail!("no memory");
-    }
-    blank_disk(alloc, fails)
 }
 
 fn count_crashes<R: Threads + Wait + Sync>(rt: &R, alloc: Global, told: &CallEnd) -> Result<Left> {

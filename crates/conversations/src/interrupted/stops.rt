@@ -1,11 +1,10 @@
 //! Runs on disks that stop after so many calls, and the runs that go on with what a crash leaves of them.
 
-use crate::call::{CallEnd, blank_disk, check, crash, run};
-use crate::sample::are_first;
-use crate::shown::{Shown, shown_in};
-use crate::stored::grants_on;
+use crate::interrupted::call::{CallEnd, blank_disk, check, crash, run};
+use crate::interrupted::sample::are_first;
+use crate::interrupted::shown::{Shown, shown_in};
+use crate::interrupted::stored::grants_on;
 use anyhow::{Context, Result, bail};
-use cell_base::List;
 use outside_io::{FreePace, MemDisk};
 use std::alloc::Global;
 use std::sync::Wait;
@@ -62,7 +61,7 @@ fn stop_run<R: Threads + Wait + Sync>(
     calls: u64,
     stops: &mut Stops,
 ) -> Result<u8> {
-    let mut disk = blank_disk(alloc, List::new(alloc))?;
+    let mut disk = blank_disk(alloc)?;
     disk.stop_after(calls);
     let told = run(rt, alloc, stopped.shift, disk, &FreePace)?;
     let shown = shown_of(alloc, stopped, &told)?;
