@@ -2,8 +2,8 @@
 use crate::call_end::CallEnd;
 use crate::same::assert_same;
 use carry_commands::{Begin, Carry};
-use lists::{List, NoMemory};
 use cell_driver::drive;
+use lists::{List, NoMemory};
 use outside_io::{MemDisk, MemFiles, MemSink};
 use std::alloc::Global;
 use std::test::Fail;

@@ -1,7 +1,7 @@
 //! The lines as a person reads them, over files in memory. `checks/hints` compares those of the program over real files.
 use crate::same::assert_same;
-use lists::List;
 use hints::{Ended, hint};
+use lists::List;
 use outside_io::MemFiles;
 use real_outside::Failure;
 use std::alloc::Global;

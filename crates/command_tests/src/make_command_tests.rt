@@ -1,7 +1,7 @@
 //! That memory is had, and the lines of a number.
 use crate::same::assert_same;
-use lists::List;
 use cell_walks::Status;
+use lists::List;
 use make_command::run_make;
 use outside_io::{MemFiles, MemSink, NullDisk};
 use std::test::Fail;

@@ -1,8 +1,8 @@
 //! A conversation over objects in memory: in pieces of each size, and with each call of the outside failing in its turn.
 use crate::same::assert_same;
-use lists::List;
 use cell_texts::CommandEnd;
 use cell_walks::Status;
+use lists::List;
 use outside_io::{CallKind, DiskCall, MemDisk, MemFiles};
 use peers::MemPeer;
 use serve_command::run_serve;

@@ -1,8 +1,8 @@
 //! Whole calls over objects in memory: the texts of both commands.
 use crate::call_end::CallEnd;
 use crate::same::assert_same;
-use lists::{List, NoMemory};
 use cell_driver::drive;
+use lists::{List, NoMemory};
 use outside_io::{MemDisk, MemFiles, MemSink};
 use standby_commands::{Follow, run_feed};
 use std::alloc::Global;

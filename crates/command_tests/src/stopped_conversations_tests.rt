@@ -2,9 +2,9 @@
 //! is asked how many grants each session has. No session asks for two steps in one group, so it is told the number that it was told of,
 //! or one more; and of each group all grants are there, or none.
 use crate::same::assert_same;
-use lists::List;
 use cell_texts::CommandEnd;
 use cell_walks::Status;
+use lists::List;
 use outside_io::{MemDisk, MemFiles};
 use peers::MemPeer;
 use serve_command::run_serve;

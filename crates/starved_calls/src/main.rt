@@ -7,8 +7,8 @@
 #![tactic(auto)]
 
 use anyhow::{Context, Result, bail};
-use lists::List;
 use cell_program::{Ended, cell_main, served_in};
+use lists::List;
 use outside_io::{FreePace, MemDisk, MemFiles, MemSink, MemSource};
 use peers::Silent;
 use serve_program::serve_main;
